@@ -1,0 +1,4 @@
+pub mod Lowest
+pub mod Products
+pub mod Rows
+pub mod Sizes

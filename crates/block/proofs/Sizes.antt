@@ -1,0 +1,109 @@
+-- A size that `Size::new` answers is within its limits, and its promise fixes its answer.
+-- Assumes nothing.
+use mathlib.Core.Path.{_≡_, refl, ap, sym, _∙_}
+use mathlib.Core.Bool.{Bool, true, false, cond, _||_}
+use mathlib.Core.List.{List, [], _∷_}
+use Prim.Native.Nat.{ℕ, zero, suc, _+_, _*_, _≤_, _<_, min}
+use native.Mathlib.Omega.{arith}
+use lib.Dec.{ltb}
+use lib.ListN.{length, getD}
+use borrow.Author.Tests.{ltb-true, ltb-false, lt-ltb, le-ltb}
+use Rattle.laws.specs.Fixed.{Fixes, Injective}
+use Rattle.laws.proofs.Fixed.{said-fixes}
+use Rattle.block.specs.declared.Refusal.{Refusal}
+use Rattle.block.specs.declared.Checked.{Checked}
+use Rattle.block.specs.declared.Checked.the-variants.{Passes, Refuses}
+use Rattle.block.specs.declared.Size.{Size}
+use Rattle.block.specs.declared.Sized.{Sized}
+use Rattle.block.specs.declared.Sized.the-variants.{Made, BadAxis}
+use Rattle.block.specs.Answer.{Answer, accepted, refused, inOrder, judged}
+use Rattle.block.specs.Numbering.{Axis, X, Y, Z, sampleIndex, upperIndex}
+use Rattle.block.specs.Rows.{shortest, longest, outOfLimits, axisRow, lowestRow, lowest}
+use Rattle.block.specs.Size.{saidSize, sizeAnswer, SizeMade, Limits}
+use Rattle.block.proofs.Lowest.{row-clear}
+
+-- no two answers say the same
+pub said-size-injective : Injective saidSize
+said-size-injective (Made m) (Made n) e = cc
+said-size-injective (Made m) (BadAxis b) e = let z : _≡_ {A = ℕ} 0 1 = cc in absurd (omega arith)
+said-size-injective (BadAxis a) (Made n) e = let z : _≡_ {A = ℕ} 0 1 = cc in absurd (omega arith)
+said-size-injective (BadAxis a) (BadAxis b) e =
+    let same : _≡_ {A = Refusal} (record { number = 1; value = a }) (record { number = 1; value = b }) = cc in
+    ap (λ (r : Refusal). BadAxis (r .value)) same
+
+-- any two answers that the promise of `Size::new` allows are equal
+pub size-new-fixed : (nx ny nz : ℕ) → Fixes (SizeMade nx ny nz)
+size-new-fixed nx ny nz = said-fixes saidSize (sizeAnswer nx ny nz) said-size-injective
+
+within : (n : ℕ) → outOfLimits n ≡ false → (shortest ≤ n) × (n ≤ longest)
+within n h = go (ltb n shortest) (ltb longest n) refl refl h
+  where
+    go : (a b : Bool) → ltb n shortest ≡ a → ltb longest n ≡ b → (a || b) ≡ false → (shortest ≤ n) × (n ≤ longest)
+    go true b p q e = let z : _≡_ {A = ℕ} 0 1 = cc in absurd (omega arith)
+    go false true p q e = let z : _≡_ {A = ℕ} 0 1 = cc in absurd (omega arith)
+    go false false p q e = (ltb-false n shortest p, ltb-false longest n q)
+
+pub too-short : (n : ℕ) → n < shortest → outOfLimits n ≡ true
+too-short n h = rw (lt-ltb n shortest h)
+
+pub too-long : (n : ℕ) → shortest ≤ n → longest < n → outOfLimits n ≡ true
+too-long n l h = rw (le-ltb n shortest l) (lt-ltb longest n h)
+
+pub in-limits : (n : ℕ) → shortest ≤ n → n ≤ longest → outOfLimits n ≡ false
+in-limits n l h = rw (le-ltb n shortest l) (le-ltb longest n h)
+
+-- what `Size::new` says, by the first axis that is out of its limits
+module _ (nx ny nz : ℕ) where
+  pub first-bad : outOfLimits nx ≡ true → saidSize (BadAxis 0) ≡ sizeAnswer nx ny nz
+  unfolding lowestRow lowest inOrder judged
+  first-bad x = simp x
+
+  pub second-bad : outOfLimits nx ≡ false → outOfLimits ny ≡ true → saidSize (BadAxis 1) ≡ sizeAnswer nx ny nz
+  unfolding lowestRow lowest inOrder judged
+  second-bad x y = simp (x, y)
+
+  pub third-bad : outOfLimits nx ≡ false → outOfLimits ny ≡ false → outOfLimits nz ≡ true → saidSize (BadAxis 2) ≡ sizeAnswer nx ny nz
+  unfolding lowestRow lowest inOrder judged
+  third-bad x y z = simp (x, y, z)
+
+  pub none-bad : outOfLimits nx ≡ false → outOfLimits ny ≡ false → outOfLimits nz ≡ false
+      → saidSize (Made (record { nx = nx; ny = ny; nz = nz })) ≡ sizeAnswer nx ny nz
+  unfolding lowestRow lowest inOrder judged
+  none-bad x y z = simp (x, y, z)
+
+-- axis lengths that row 1 passes
+pub axes-within : (nx ny nz : ℕ) → axisRow nx ny nz ≡ Passes → Limits (record { nx = nx; ny = ny; nz = nz })
+axes-within nx ny nz e =
+    let clear = row-clear outOfLimits 1 (nx ∷ ny ∷ nz ∷ []) e in
+    let x = within nx (clear 0 (omega arith)) in
+    let y = within ny (clear 1 (omega arith)) in
+    let z = within nz (clear 2 (omega arith)) in
+    record { x-low = x .0; x-high = x .1; y-low = y .0; y-high = y .1; z-low = z .0; z-high = z .1 }
+
+-- every size that `Size::new` answers is that of the three axis lengths, and within its limits
+pub size-made : (nx ny nz : ℕ) (n : Size) → SizeMade nx ny nz (Made n) → (n ≡ record { nx = nx; ny = ny; nz = nz }) × Limits n
+unfolding inOrder judged
+size-made nx ny nz n e = go (axisRow nx ny nz) refl e
+  where
+    size : Size
+    size = record { nx = nx; ny = ny; nz = nz }
+
+    go : (k : Checked) → axisRow nx ny nz ≡ k → accepted n ≡ judged (inOrder (k ∷ [])) size → (n ≡ size) × Limits n
+    go Passes p q = let same : n ≡ size = cc in (same, rw same (axes-within nx ny nz p))
+    go (Refuses r) p q = let z : _≡_ {A = ℕ} 0 1 = cc in absurd (omega arith)
+
+-- the upper sample of an edge is the next one along its axis
+pub upper-x : (n : Size) (i j k : ℕ) → upperIndex n X (sampleIndex n i j k) ≡ sampleIndex n (i + 1) j k
+upper-x n i j k = omega arith
+
+pub upper-y : (n : Size) (i j k : ℕ) → upperIndex n Y (sampleIndex n i j k) ≡ sampleIndex n i (j + 1) k
+upper-y n i j k = step (n .nx) (n .ny) i j k
+  where
+    step : (w h i j k : ℕ) → i + w * (j + h * k) + w ≡ i + w * (j + 1 + h * k)
+    step w h i j k = omega arith
+
+pub upper-z : (n : Size) (i j k : ℕ) → upperIndex n Z (sampleIndex n i j k) ≡ sampleIndex n i j (k + 1)
+upper-z n i j k = step (n .nx) (n .ny) i j k
+  where
+    step : (w h i j k : ℕ) → i + w * (j + h * k) + w * h ≡ i + w * (j + h * (k + 1))
+    step w h i j k = omega arith

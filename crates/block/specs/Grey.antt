@@ -1,0 +1,21 @@
+-- Grey values and the threshold (document 01, "The block and its numbering").
+-- Assumes nothing.
+use Prim.Native.Nat.{ℕ}
+use mathlib.Core.Bool.{Bool, _||_}
+use lib.Dec.{leb, eqb}
+use Rattle.block.specs.declared.Cut.{Cut}
+
+-- the detector's ceiling: "no grey value"
+abbrev pub ceiling : ℕ
+ceiling = 65535
+
+abbrev pub isCeiling : ℕ → Bool
+isCeiling s = eqb s ceiling
+
+-- "Threshold t: 1 to 65,534"
+abbrev pub noThreshold : Cut → Bool
+noThreshold cut = eqb (cut .t) 0 || eqb (cut .t) ceiling
+
+-- "A sample is positive (metal) if it is at least t, else negative (hollow)"
+abbrev pub positive : Cut → ℕ → Bool
+positive cut s = leb (cut .t) s

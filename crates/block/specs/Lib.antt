@@ -1,0 +1,5 @@
+pub mod Answer
+pub mod Grey
+pub mod Numbering
+pub mod Rows
+pub mod Size

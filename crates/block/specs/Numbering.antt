@@ -1,0 +1,29 @@
+-- The numbering of a block's samples, cubes and edges, x fastest (document 01, "The block and its numbering").
+-- Assumes nothing.
+use Prim.Native.Nat.{ℕ, _+_, _-_, _*_}
+use Rattle.laws.specs.Index.{indexIn}
+use Rattle.block.specs.declared.Size.{Size}
+
+-- "sample (i,j,k) has index i + nx·(j + ny·k)"
+abbrev pub sampleIndex : Size → ℕ → ℕ → ℕ → ℕ
+sampleIndex n i j k = indexIn (n .nx) (n .ny) i j k
+
+abbrev pub sampleCount : Size → ℕ
+sampleCount n = n .nx * (n .ny * n .nz)
+
+-- "Cube (i,j,k) has number i + (nx−1)·(j + (ny−1)·k)"
+abbrev pub cubeNumber : Size → ℕ → ℕ → ℕ → ℕ
+cubeNumber n i j k = indexIn (n .nx - 1) (n .ny - 1) i j k
+
+abbrev pub cubeCount : Size → ℕ
+cubeCount n = (n .nx - 1) * ((n .ny - 1) * (n .nz - 1))
+
+-- an edge of the block is named by the axis along which it runs and by its lower sample
+pub data Axis : Type 0 where
+  X Y Z : Axis
+
+-- the index of the upper sample of the edge along the axis whose lower sample has the index p
+abbrev pub upperIndex : Size → Axis → ℕ → ℕ
+upperIndex n X p = p + 1
+upperIndex n Y p = p + n .nx
+upperIndex n Z p = p + n .nx * n .ny

@@ -1,0 +1,177 @@
+// The block: its size, the threshold, refusals by number, and the checks of rows 1 to 4 (document 01, "The block and its numbering" and
+// "Numbers of refusal").
+ghost use mathlib.Core.Path.{_≡_};
+ghost use Prim.Native.Nat.{_≤_};
+ghost use Rattle.block.specs.Grey.{isCeiling};
+ghost use Rattle.block.specs.Numbering.{sampleCount, cubeCount};
+ghost use Rattle.block.specs.Rows.{countRow, thresholdRow, ceilingRow, lowest};
+ghost use Rattle.block.specs.Size.{Limits, SizeMade};
+
+// A refusal: 01's number, and the value that goes with it.
+pub struct Refusal {
+    pub number: u32,
+    pub value: u32,
+}
+
+// What one row of 01's table says of an input: it does not hold, or it is the reason to refuse.
+pub enum Checked {
+    Passes,
+    Refuses(Refusal),
+}
+
+// The threshold, as a value that travels whole.
+pub struct Cut {
+    pub t: u16,
+}
+
+// A block's axis lengths, in samples. Only `Size::new` makes one.
+pub struct Size {
+    nx: usize,
+    ny: usize,
+    nz: usize,
+}
+
+// What `Size::new` answers: a size, or the lowest axis that is out of the limits.
+pub enum Sized {
+    Made(Size),
+    BadAxis(u32),
+}
+
+impl Size {
+    pub const SHORTEST: u32 = 2;
+    pub const LONGEST: u32 = 256;
+
+    // The one place where a size is made: any three axis lengths.
+    pub fn new(nx: u32, ny: u32, nz: u32) -> Sized
+        ensures { λ r. ⌜ SizeMade nx ny nz r ⌝ }
+    {
+        if nx < Self::SHORTEST {
+            return Sized::BadAxis(0);
+        }
+        if nx > Self::LONGEST {
+            return Sized::BadAxis(0);
+        }
+        if ny < Self::SHORTEST {
+            return Sized::BadAxis(1);
+        }
+        if ny > Self::LONGEST {
+            return Sized::BadAxis(1);
+        }
+        if nz < Self::SHORTEST {
+            return Sized::BadAxis(2);
+        }
+        if nz > Self::LONGEST {
+            return Sized::BadAxis(2);
+        }
+        Sized::Made(Size {
+            nx: nx as usize,
+            ny: ny as usize,
+            nz: nz as usize,
+        })
+    }
+
+    pub fn nx(self) -> usize
+        ensures { λ r. ⌜ r ≡ self .nx ⌝ }
+    {
+        self.nx
+    }
+
+    pub fn ny(self) -> usize
+        ensures { λ r. ⌜ r ≡ self .ny ⌝ }
+    {
+        self.ny
+    }
+
+    pub fn nz(self) -> usize
+        ensures { λ r. ⌜ r ≡ self .nz ⌝ }
+    {
+        self.nz
+    }
+
+    // How many samples a block of this size has.
+    pub fn samples(self) -> usize
+        requires { ⌜ Limits self ⌝ }
+        ensures { λ r. ⌜ r ≡ sampleCount self ⌝ }
+        ensures { λ r. ⌜ r ≤ 16777216 ⌝ }
+    {
+        self.nx * (self.ny * self.nz)
+    }
+
+    // How many cubes a block of this size has.
+    pub fn cubes(self) -> usize
+        requires { ⌜ Limits self ⌝ }
+        ensures { λ r. ⌜ r ≡ cubeCount self ⌝ }
+        ensures { λ r. ⌜ r ≤ 16581375 ⌝ }
+    {
+        (self.nx - 1) * ((self.ny - 1) * (self.nz - 1))
+    }
+}
+
+// Row 2: the sample count is not nx·ny·nz.
+pub fn check_count(size: Size, samples: &[u16]) -> Checked
+    requires { ⌜ Limits size ⌝ }
+    ensures { λ r. ⌜ r ≡ countRow size (now (samples .entry)) ⌝ }
+{
+    let wanted = size.samples();
+    if samples.len() == wanted {
+        return Checked::Passes;
+    }
+    Checked::Refuses(Refusal {
+        number: 2,
+        value: wanted as u32,
+    })
+}
+
+// Row 3: the threshold is 0 or 65,535.
+pub fn check_threshold(cut: Cut) -> Checked
+    ensures { λ r. ⌜ r ≡ thresholdRow cut ⌝ }
+{
+    let t = cut.t;
+    if t == 0 {
+        return Checked::Refuses(Refusal {
+            number: 3,
+            value: 0,
+        });
+    }
+    if t == 65535 {
+        return Checked::Refuses(Refusal {
+            number: 3,
+            value: 65535,
+        });
+    }
+    Checked::Passes
+}
+
+// The index of the first sample at the detector's ceiling, or how many samples there are.
+fn lowest_ceiling(samples: &[u16]) -> usize
+    ensures { λ r. ⌜ r ≡ lowest isCeiling (now (samples .entry)) ⌝ }
+{
+    let mut i = 0;
+    while i < samples.len() {
+        if samples[i] == 65535 {
+            return i;
+        }
+        i += 1;
+    }
+    i
+}
+
+// Row 4: some sample is 65,535, the detector's ceiling.
+pub fn check_ceiling(samples: &[u16]) -> Checked
+    ensures { λ r. ⌜ r ≡ ceilingRow (now (samples .entry)) ⌝ }
+{
+    let i = lowest_ceiling(samples);
+    if i == samples.len() {
+        return Checked::Passes;
+    }
+    if i < 4294967295 {
+        return Checked::Refuses(Refusal {
+            number: 4,
+            value: i as u32,
+        });
+    }
+    Checked::Refuses(Refusal {
+        number: 4,
+        value: 4294967295,
+    })
+}

@@ -1,0 +1,21 @@
+-- The asymptotic decider (document 01, "Faces, loops and places"): "The differences are signed and the comparison is exact."
+-- Assumes nothing.
+use Prim.Native.Nat.{ℕ}
+use mathlib.Core.Bool.{Bool, cond}
+use lib.IntN.{ℤ, pos, _-ℤ_, _*ℤ_}
+use lib.Signed.{leZ}
+use Rattle.block.specs.declared.Cut.{Cut}
+use Rattle.block.specs.Grey.{positive}
+use Rattle.cube_rule.specs.Links.{Decider}
+
+-- sample minus t
+abbrev pub over : Cut → ℕ → ℤ
+over cut s = pos s -ℤ pos (cut .t)
+
+-- p, q, r, s are the samples round a face with four crossed edges, so p and r have one sign, q and s the other.
+-- "The positive corners are joined if A·C is at least B·D", A and C at the positive corners, B and D at the negative ones.
+unfoldable pub joined : Decider
+joined cut p q r s =
+    cond (positive cut p)
+    (leZ (over cut q *ℤ over cut s) (over cut p *ℤ over cut r))
+    (leZ (over cut p *ℤ over cut r) (over cut q *ℤ over cut s))

@@ -1,0 +1,58 @@
+-- The face rule: which edges of a face are linked (document 01, "Faces, loops and places").
+-- A face is seen as a ring: corners 0 to 3 with the signs a, b, c, d, and edges 0 to 3, of which edge i joins corner i to the next.
+-- Assumes nothing.
+use Prim.Native.Nat.{ℕ, _+_, _%_}
+use mathlib.Core.Bool.{Bool, true, false, not, _&&_, _||_, Bool·beq}
+use mathlib.Core.List.{List, [], _∷_}
+use lib.Dec.{eqb}
+use lib.ListN.{getD}
+use Rattle.laws.specs.Bits.{bit, differ, holds}
+use Rattle.block.specs.declared.Cut.{Cut}
+use Rattle.block.specs.Grey.{positive}
+use Rattle.cube_rule.specs.Edges.{sampleAt}
+use Rattle.cube_rule.specs.Faces.{ringCorner}
+
+abbrev pub next : ℕ → ℕ
+next i = (i + 1) % 4
+
+module _ (a b c d : Bool) where
+  abbrev pub signOf : ℕ → Bool
+  signOf i = getD (a ∷ b ∷ c ∷ d ∷ []) i false
+
+  abbrev pub ringCrossed : ℕ → Bool
+  ringCrossed i = differ (signOf i) (signOf (next i))
+
+  -- how many of the four edges are crossed
+  abbrev pub ringCount : ℕ
+  ringCount = bit (ringCrossed 0) + bit (ringCrossed 1) + bit (ringCrossed 2) + bit (ringCrossed 3)
+
+  -- edges i and k meet at a corner of the sign s
+  abbrev pub meetAt : Bool → ℕ → ℕ → Bool
+  meetAt s i k = eqb k (next i) && Bool·beq (signOf k) s || eqb i (next k) && Bool·beq (signOf i) s
+
+  -- Edges i and k are linked, where `joined` says whether the positive corners of a face with four crossed edges are joined.
+  -- "On a face with two crossed edges these are linked. With four .. [joined] the two edges meeting at each negative corner are
+  -- linked. Otherwise the two edges meeting at each positive corner are linked."
+  unfoldable pub linkedIf : Bool → ℕ → ℕ → Bool
+  linkedIf joined i k =
+      ringCrossed i && ringCrossed k && not (eqb i k)
+      && (eqb ringCount 2 || eqb ringCount 4 && meetAt (not joined) i k)
+
+-- What decides a face with four crossed edges: from the threshold and the samples round the face, whether its positive corners are
+-- joined. Everything but the decider of 01 itself holds of any.
+abbrev pub Decider : Type 0
+Decider = Cut → ℕ → ℕ → ℕ → ℕ → Bool
+
+-- edges i and k of a face with the samples p, q, r, s round it
+abbrev pub linkedBy : Decider → Cut → ℕ → ℕ → ℕ → ℕ → ℕ → ℕ → Bool
+linkedBy D cut p q r s i k = linkedIf (positive cut p) (positive cut q) (positive cut r) (positive cut s) (D cut p q r s) i k
+
+-- edges i and k of the face f of a cube
+abbrev pub linkedAt : Decider → Cut → List ℕ → ℕ → ℕ → ℕ → Bool
+linkedAt D cut corners f i k =
+    linkedBy D cut (sampleAt corners (ringCorner f 0)) (sampleAt corners (ringCorner f 1)) (sampleAt corners (ringCorner f 2)) (sampleAt corners (ringCorner f 3)) i k
+
+-- how a cube's faces are decided
+abbrev pub decisions : Decider → Cut → List ℕ → ℕ → Bool
+decisions D cut corners f =
+    D cut (sampleAt corners (ringCorner f 0)) (sampleAt corners (ringCorner f 1)) (sampleAt corners (ringCorner f 2)) (sampleAt corners (ringCorner f 3))

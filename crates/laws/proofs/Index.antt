@@ -1,0 +1,37 @@
+-- The index of (i,j,k) in a box: it is below the box's size, and its coordinates are read back by / and %.
+-- Assumes nothing.
+use Prim.Native.Nat.{ℕ, zero, suc, _+_, _*_, _-_, _/_, _%_, _≤_, _<_}
+use mathlib.Core.Path.{_≡_, refl, ap, sym, _∙_}
+use native.Mathlib.Nat.{add-mul-mod-self-left, mod-eq-of-lt, add-mul-div-left, div-eq-of-lt, zero-add, mul-le-mul-left, mul-add, mul-one, mod-add-div}
+use native.Mathlib.Omega.{arith}
+use Rattle.laws.specs.Index.{indexIn}
+
+-- a pair: i + w * y is below w * m where i is below w and y below m
+pub pair-lt : (w m i y : ℕ) → i < w → y < m → i + w * y < w * m
+pair-lt w m i y hi hy = omega (arith, rw (mul-add, mul-one) at (mul-le-mul-left w (next hy)))
+  where
+    next : y < m → y + 1 ≤ m
+    next h = omega arith
+
+pub pair-mod : (w i y : ℕ) → i < w → (i + w * y) % w ≡ i
+pair-mod w i y h = add-mul-mod-self-left i w y ∙ mod-eq-of-lt h
+
+pub pair-div : (w i y : ℕ) → i < w → (i + w * y) / w ≡ y
+pair-div w i y h = add-mul-div-left i y (omega arith) ∙ rw (div-eq-of-lt h, zero-add)
+
+module _ (w h i j k : ℕ) (hi : i < w) (hj : j < h) where
+  pub index-lt : (d : ℕ) → k < d → indexIn w h i j k < w * (h * d)
+  index-lt d hk = pair-lt w (h * d) i (j + h * k) hi (pair-lt h d j k hj hk)
+
+  pub index-x : indexIn w h i j k % w ≡ i
+  index-x = pair-mod w i (j + h * k) hi
+
+  pub index-y : indexIn w h i j k / w % h ≡ j
+  index-y = rw (pair-div w i (j + h * k) hi) (pair-mod h j k hj)
+
+  pub index-z : indexIn w h i j k / w / h ≡ k
+  index-z = rw (pair-div w i (j + h * k) hi) (pair-div h j k hj)
+
+-- and back: a number is the index of what / and % read from it
+pub index-of : (w h p : ℕ) → indexIn w h (p % w) (p / w % h) (p / w / h) ≡ p
+index-of w h p = rw (mod-add-div (p / w) h) (mod-add-div p w)

@@ -1,0 +1,5 @@
+pub mod Tests
+pub mod Bits
+pub mod Trailing
+pub mod Index
+pub mod Fixed

@@ -1,0 +1,110 @@
+-- Tests that compute, and what follows where they pass.
+-- Assumes nothing.
+use mathlib.Core.Path.{_≡_, refl, sym, subst}
+use mathlib.Core.Bool.{Bool, true, false, not, Bool·beq}
+use mathlib.Core.Logic.{_⊎_, inl, inr, ⊎-elim}
+use mathlib.Core.List.{List, [], _∷_}
+use Prim.Native.Nat.{ℕ, zero, suc, _+_, _≤_, _<_}
+use native.Mathlib.Nat.{add-zero, zero-add, add-suc, suc-add, le-of-suc-le-suc, not-suc-le-zero, le-refl, le-trans, le-suc, eq-or-lt-of-le}
+use native.Mathlib.Decide.{decLt}
+use native.Mathlib.Omega.{arith}
+use lib.Dec.{T}
+use lib.ListN.{length, getD}
+
+abbrev pub both : Bool → Bool → Bool
+both true b = b
+both false b = false
+
+abbrev pub one-of : Bool → Bool → Bool
+one-of true b = true
+one-of false b = b
+
+pub left : (a b : Bool) → T (both a b) → T a
+left true b t = tt
+left false b t = t
+
+pub right : (a b : Bool) → T (both a b) → T b
+right true b t = t
+right false b t = absurd t
+
+pub cases : (a b : Bool) → T (one-of a b) → T a ⊎ T b
+cases true b t = inl tt
+cases false b t = inr t
+
+-- if a passes then b does
+pub imply : (a b : Bool) → T (one-of (not a) b) → a ≡ true → T b
+imply true b t e = t
+imply false b t e = absurd (subst T (sym e) tt)
+
+pub is-true : (b : Bool) → T b → b ≡ true
+is-true true t = refl
+is-true false t = absurd t
+
+pub was-true : (b : Bool) → b ≡ true → T b
+was-true true e = tt
+was-true false e = subst T (sym e) tt
+
+pub same-eq : (a b : Bool) → T (Bool·beq a b) → a ≡ b
+same-eq true true t = refl
+same-eq true false t = absurd t
+same-eq false true t = absurd t
+same-eq false false t = refl
+
+pub lt-or-ge : (a b : ℕ) → (a < b) ⊎ (b ≤ a)
+lt-or-ge a b = go (decLt a b)
+  where
+    go : Dec (a < b) → (a < b) ⊎ (b ≤ a)
+    go (yes l) = inl l
+    go (no g) = inr (omega arith)
+
+-- f passes at true and at false
+abbrev pub either-way : (Bool → Bool) → Bool
+either-way f = both (f true) (f false)
+
+pub either-way-at : (f : Bool → Bool) → T (either-way f) → (b : Bool) → T (f b)
+either-way-at f t true = left (f true) (f false) t
+either-way-at f t false = right (f true) (f false) t
+
+-- f passes at each number below n
+unfoldable pub below : ℕ → (ℕ → Bool) → Bool
+below zero f = true
+below (suc n) f = both (f n) (below n f)
+
+pub below-at : (n : ℕ) (f : ℕ → Bool) → T (below n f) → (k : ℕ) → k < n → T (f k)
+unfolding below
+below-at zero f t k h = absurd (not-suc-le-zero h)
+below-at (suc n) f t k h =
+    ⊎-elim (λ (e : k ≡ n). subst (λ (x : ℕ). T (f x)) (sym e) (left (f n) (below n f) t))
+    (λ (g : k < n). below-at n f (right (f n) (below n f) t) k g)
+    (eq-or-lt-of-le (le-of-suc-le-suc h))
+
+-- f passes at some number below n
+unfoldable pub some : ℕ → (ℕ → Bool) → Bool
+some zero f = false
+some (suc n) f = one-of (f n) (some n f)
+
+pub some-at : (n : ℕ) (f : ℕ → Bool) → T (some n f) → (k : ℕ) × (k < n) × T (f k)
+unfolding some
+some-at zero f t = absurd t
+some-at (suc n) f t =
+    ⊎-elim (λ (g : T (f n)). (n, le-refl (suc n), g))
+    (λ (g : T (some n f)). let r = some-at n f g in (r .0, le-trans (r .1) (le-suc n), r .2))
+    (cases (f n) (some n f) t)
+
+-- f passes at each entry of a table and its place, counted from i
+abbrev pub every : (ℕ → ℕ → Bool) → ℕ → List ℕ → Bool
+every f i [] = true
+every f i (x ∷ xs) = both (f i x) (every f (suc i) xs)
+
+every-from : (f : ℕ → ℕ → Bool) (xs : List ℕ) (i : ℕ) → T (every f i xs) → (k : ℕ) → k < length xs → T (f (i + k) (getD xs k 0))
+every-from f [] i t k h = absurd (not-suc-le-zero h)
+every-from f (x ∷ xs) i t zero h = subst (λ (m : ℕ). T (f m x)) (sym (add-zero i)) (left (f i x) (every f (suc i) xs) t)
+every-from f (x ∷ xs) i t (suc k) h =
+    subst (λ (m : ℕ). T (f m (getD xs k 0))) (step i k)
+    (every-from f xs (suc i) (right (f i x) (every f (suc i) xs) t) k (le-of-suc-le-suc h))
+  where
+    step : (i k : ℕ) → suc i + k ≡ i + suc k
+    step i k = omega arith
+
+pub every-at : (f : ℕ → ℕ → Bool) (xs : List ℕ) → T (every f 0 xs) → (k : ℕ) → k < length xs → T (f k (getD xs k 0))
+every-at f xs t k h = subst (λ (m : ℕ). T (f m (getD xs k 0))) (zero-add k) (every-from f xs 0 t k h)

@@ -1,0 +1,1 @@
+// The mathematics that the layers share, in specs/ and proofs/. There is no code here.
