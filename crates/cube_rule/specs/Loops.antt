@@ -1,10 +1,10 @@
 -- The loops of a cube, by an executable definition. What they are without it is `Rule`.
 -- Assumes nothing.
-use Prim.Native.Nat.{ℕ, zero, suc, _+_, _-_, _*_, _/_, _%_, _^_}
+use Prim.Native.Nat.{ℕ, zero, suc, _+_, _*_, _/_, _%_, _^_}
 use mathlib.Core.Bool.{Bool, true, false, not, cond, Bool·beq}
 use mathlib.Core.List.{List, [], _∷_}
 use lib.Dec.{eqb}
-use lib.Bits.{bitAnd, bitOr}
+use lib.Bits.{bitAnd, bitOr, bitXor}
 use lib.Count.{trailingZeros}
 use Rattle.laws.specs.Bits.{bit, holds}
 use Rattle.block.specs.declared.Cut.{Cut}
@@ -61,11 +61,12 @@ unfoldable pub loopFrom : List ℕ → ℕ → ℕ
 unfolding grow
 loopFrom ls e = grow (grow (grow (2 ^ e) ls) ls) ls
 
--- "the loops of a cube stand by their lowest edge": the loop of the lowest edge of m, then the loops of what is left, n at most
+-- "the loops of a cube stand by their lowest edge": the loop of the lowest edge of m, then the loops of the edges of m that are not in
+-- it, n loops at most
 unfoldable pub loopsFrom : ℕ → List ℕ → ℕ → List ℕ
 unfolding loopFrom
 loopsFrom zero ls m = []
-loopsFrom (suc n) ls m = cond (eqb m 0) [] (let l = loopFrom ls (trailingZeros 32 m) in l ∷ loopsFrom n ls (m - l))
+loopsFrom (suc n) ls m = cond (eqb m 0) [] (let l = loopFrom ls (trailingZeros 32 m) in l ∷ loopsFrom n ls (bitXor m l))
 
 -- "at most four in a cube"
 abbrev pub loopsIn : ℕ → (ℕ → Bool) → List ℕ
