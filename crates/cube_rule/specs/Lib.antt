@@ -5,3 +5,4 @@ pub mod Loops
 pub mod Rule
 pub mod Laws
 pub mod Decider
+pub mod Saddle

@@ -165,3 +165,14 @@ ones-pos (suc k) m h p = go (eq-zero-or-pos (m % 2)) (ones-pos k (m / 2) (half-l
     go : (m % 2 ≡ 0) ⊎ (0 < m % 2) → (0 < m / 2 → 0 < ones (m / 2)) → 0 < ones m
     go (inl e) ih = let r = ih (omega arith) in omega (arith, ones-step m)
     go (inr l) ih = omega (arith, ones-step m)
+
+pub ones-none : ones 0 ≡ 0
+unfolding ones onesIn
+ones-none = refl
+
+-- and one that has a bit is not empty
+pub some-ones : (m : ℕ) → 0 < ones m → 0 < m
+some-ones m h = ⊎-elim (λ (z : m ≡ 0). absurd (none (ap ones z ∙ ones-none) h)) (λ (q : 0 < m). q) (eq-zero-or-pos m)
+  where
+    none : {n : ℕ} → n ≡ 0 → 0 < n → ⊥
+    none e q = omega arith

@@ -1,0 +1,106 @@
+-- The loops of a cube of samples keep THE RULE, and so the laws by which the layers above know them, for every decider.
+-- Assumes nothing.
+use mathlib.Core.Path.{_≡_, refl, sym, ap, ap₂, _∙_, subst}
+use mathlib.Core.Bool.{Bool, true, false, cond}
+use mathlib.Core.Logic.{_⊎_, inl, inr, ⊎-elim}
+use mathlib.Core.List.{List, [], _∷_, List·Memᴰ, List·Memᴰ·head, List·Memᴰ·tail}
+use Prim.Native.Nat.{ℕ, zero, suc, _+_, _^_, _≤_, _<_}
+use native.Mathlib.Omega.{arith}
+use lib.ListN.{length}
+use lib.Count.{ones}
+use Rattle.laws.specs.Bits.{bit, differ, holds, maskOf}
+use Rattle.laws.proofs.Bits.{mask-lt, mask-none, holds-mask, some-ones}
+use Rattle.block.specs.declared.Cut.{Cut}
+use Rattle.block.specs.Grey.{positive}
+use Rattle.cube_rule.specs.Edges.{sampleAt, lower, upper, patternOf, crossed, crossedMask, crossedAt}
+use Rattle.cube_rule.specs.Faces.{ringEdge, ringCorner}
+use Rattle.cube_rule.specs.Links.{linkedIf, linkedAt, Decider, decisions}
+use Rattle.cube_rule.specs.Loops.{linksOf, loopsFrom, loopsIn, loopsBy}
+use Rattle.cube_rule.specs.Rule.{linkedOn, Linked, holders, firstHolder, Loop, Rule}
+use Rattle.cube_rule.specs.Laws.{CubeLaws}
+use Rattle.cube_rule.proofs.Tables.{lower-lt, upper-lt, ring-corner-lt}
+use Rattle.cube_rule.proofs.Tested.{good-single}
+use Rattle.cube_rule.proofs.Ways.{good-always}
+use Rattle.cube_rule.proofs.Ruled.{ruled, loops-four}
+use Rattle.cube_rule.proofs.Unique.{rule-unique}
+
+module _ (cut : Cut) (cs : List ℕ) where
+  pub pattern-lt : patternOf cut cs < 256
+  unfolding patternOf
+  pattern-lt = mask-lt (λ (c : ℕ). positive cut (sampleAt cs c)) 8
+
+  -- the pattern has the samples' signs
+  pub pattern-sign : (c : ℕ) → c < 8 → holds (patternOf cut cs) c ≡ positive cut (sampleAt cs c)
+  unfolding patternOf
+  pattern-sign c h = holds-mask (λ (c : ℕ). positive cut (sampleAt cs c)) 8 c h
+
+  pub pattern-crossed : (e : ℕ) → e < 12 → crossed (patternOf cut cs) e ≡ crossedAt cut cs e
+  pattern-crossed e h = ap₂ differ (pattern-sign (lower e) (lower-lt e h)) (pattern-sign (upper e) (upper-lt e h))
+
+  pub mask-crossed : (e : ℕ) → e < 12 → holds (crossedMask (patternOf cut cs)) e ≡ crossedAt cut cs e
+  unfolding crossedMask
+  mask-crossed e h = holds-mask (crossed (patternOf cut cs)) 12 e h ∙ pattern-crossed e h
+
+  pub crossed-mask-lt : crossedMask (patternOf cut cs) < 4096
+  unfolding crossedMask
+  crossed-mask-lt = mask-lt (crossed (patternOf cut cs)) 12
+
+module _ (D : Decider) (cut : Cut) (cs : List ℕ) where
+  -- the loops of a cube keep the rule
+  pub cube-ruled : Rule (patternOf cut cs) (decisions D cut cs) (loopsBy D cut cs)
+  unfolding loopsBy
+  cube-ruled = ruled (patternOf cut cs) (pattern-lt cut cs) (decisions D cut cs)
+
+  -- and any masks that keep it are these
+  pub cube-unique : (ms : List ℕ) → Rule (patternOf cut cs) (decisions D cut cs) ms → ms ≡ loopsBy D cut cs
+  unfolding loopsBy
+  cube-unique ms r = rule-unique (patternOf cut cs) (pattern-lt cut cs) (decisions D cut cs) ms r
+
+  -- its links are those of its faces' samples
+  pub linked-is : (f i k : ℕ) → f < 6 → linkedOn (patternOf cut cs) (decisions D cut cs) f i k ≡ linkedAt D cut cs f i k
+  linked-is f i k hf =
+      let s : (c : ℕ) → c < 4 → holds (patternOf cut cs) (ringCorner f c) ≡ positive cut (sampleAt cs (ringCorner f c)) = λ c h. pattern-sign cut cs (ringCorner f c) (ring-corner-lt f c hf h) in
+      rw (s 0 (omega arith), s 1 (omega arith), s 2 (omega arith), s 3 (omega arith))
+
+-- two edges that each mask holds alike have the same first holder
+holder-same : (a b : ℕ) (ms : List ℕ) → ((m : ℕ) → List·Memᴰ m ms → holds m a ≡ holds m b) → firstHolder a ms ≡ firstHolder b ms
+holder-same a b [] h = refl
+holder-same a b (m ∷ ms) h =
+    ap₂ (λ (x : Bool) (n : ℕ). cond x 0 (suc n)) (h m (List·Memᴰ·head refl)) (holder-same a b ms (λ n d. h n (List·Memᴰ·tail d)))
+
+differ-self : (a b s : Bool) → a ≡ s → b ≡ s → differ a b ≡ false
+differ-self a b true p q = rw (p, q)
+differ-self a b false p q = rw (p, q)
+
+no-loops : (ls : List ℕ) (m : ℕ) → m ≡ 0 → loopsFrom 4 ls m ≡ []
+unfolding loopsFrom
+no-loops ls m e = rw e
+
+module _ (D : Decider) where
+  quiet : (cut : Cut) (cs : List ℕ) (s : Bool) → ((c : ℕ) → c < 8 → positive cut (sampleAt cs c) ≡ s) → loopsBy D cut cs ≡ []
+  unfolding loopsBy crossedMask
+  quiet cut cs s h =
+      no-loops (linksOf (patternOf cut cs) (decisions D cut cs)) (crossedMask (patternOf cut cs))
+      (mask-none (crossed (patternOf cut cs)) 12
+      (λ e he. pattern-crossed cut cs e he ∙ differ-self _ _ s (h (lower e) (lower-lt e he)) (h (upper e) (upper-lt e he))))
+
+  single : (cut : Cut) (cs : List ℕ) → 1 ≤ ones (crossedMask (patternOf cut cs)) → ones (crossedMask (patternOf cut cs)) ≤ 5
+      → loopsBy D cut cs ≡ crossedMask (patternOf cut cs) ∷ []
+  unfolding loopsBy
+  single cut cs low high =
+      let p = patternOf cut cs in
+      let j = decisions D cut cs in
+      good-single (crossedMask p) (linksOf p j) (loopsIn p j) (good-always p (pattern-lt cut cs) j) (crossed-mask-lt cut cs) (some-ones (crossedMask p) low) high
+
+  pub cube-laws : CubeLaws D (loopsBy D)
+  cube-laws = record {
+    each = λ cut cs e he. cube-ruled D cut cs .each e he ∙ ap bit (pattern-crossed cut cs e he);
+    linked = λ cut cs f i k hf hi hk e.
+        holder-same (ringEdge f i) (ringEdge f k) (loopsBy D cut cs) (λ m d. cube-ruled D cut cs .loop m d .closed (ringEdge f i) (ringEdge f k) (record {
+          face = f; i = i; k = k; face-lt = hf; i-lt = hi; k-lt = hk; from = refl; to = refl; link = linked-is D cut cs f i k hf ∙ e;
+        }));
+    sized = λ cut cs m d. let l = cube-ruled D cut cs .loop m d in (l .three, l .twelve, l .small);
+    four = λ cut cs. cube-ruled D cut cs .four;
+    quiet = quiet;
+    single = single;
+  }

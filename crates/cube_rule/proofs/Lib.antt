@@ -1,0 +1,11 @@
+pub mod Tables
+pub mod Rings
+pub mod Trails
+pub mod Tested
+pub mod Ways
+pub mod Ruled
+pub mod Unique
+pub mod Laws
+pub mod Shared
+pub mod Decider
+pub mod Saddle

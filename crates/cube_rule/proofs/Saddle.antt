@@ -1,0 +1,189 @@
+-- The decider is the sign of the bilinear form at the saddle: a face with four crossed edges has a saddle, inside it, and its positive
+-- corners are joined exactly if the form there is at least t (`decider-is-saddle`, `saddle-exists`, at the end).
+-- With the samples t + A, t - B, t + C, t - D round the face, the first difference vanishes where (C + D) v = (A + B) x, and there the
+-- form is above t by x n (A C - B D) over C + D. Positive samples at q and s are the same face, turned.
+-- Assumes nothing.
+use mathlib.Core.Path.{_≡_, refl, sym, ap, ap₂, _∙_}
+use mathlib.Core.Bool.{Bool, true, false}
+use mathlib.Core.Logic.{_↔_, _⊎_, inl, inr, ⊎-elim}
+use Prim.Native.Nat.{ℕ, zero, suc, _+_, _-_, _*_, _≤_, _<_}
+use native.Mathlib.Nat.{mul-comm, mul-pos, mul-le-mul-left, le-of-mul-le-mul-left}
+use native.Mathlib.Omega.{arith}
+use lib.Dec.{leb}
+use borrow.Author.Tests.{leb-true, leb-false, le-leb}
+use Rattle.block.specs.declared.Cut.{Cut}
+use Rattle.block.specs.Grey.{positive}
+use Rattle.cube_rule.specs.Decider.{joined}
+use Rattle.cube_rule.specs.Saddle.{Point, Inside, form, Saddle}
+use Rattle.cube_rule.proofs.Decider.{joined-pos, joined-neg}
+
+-- b - a and d - c have one sign where a positive multiple of the one is a positive multiple of the other
+same-order : (k m a b c d : ℕ) → 0 < k → 0 < m → k * b + m * c ≡ k * a + m * d → (c ≤ d) ↔ (a ≤ b)
+same-order k m a b c d k-some m-some e = (to, from)
+  where
+    to : c ≤ d → a ≤ b
+    to h = let g : m * c ≤ m * d = mul-le-mul-left m h in le-of-mul-le-mul-left {k = k} (omega arith) k-some
+    from : a ≤ b → c ≤ d
+    from h = let g : k * a ≤ k * b = mul-le-mul-left k h in le-of-mul-le-mul-left {k = m} (omega arith) m-some
+
+-- of two weights that k and l balance, the second is not 0: else both were
+weight-some : (k l v x : ℕ) → 0 < k → 0 < v + x → k * v ≡ l * x → 0 < x
+weight-some k l v (suc x) k-some n-some e = omega arith
+weight-some k l zero zero k-some n-some e = omega arith
+weight-some k l (suc v) zero k-some n-some e = let g : 0 < k * suc v = mul-pos k-some (omega arith) in omega arith
+
+-- C + D times what the form has above t, at p and r, less what it has below t, at q and s, is x n (A C - B D)
+balance : (A B C D u w v x : ℕ) → (C + D) * v ≡ (A + B) * x →
+    (C + D) * (A * (w * x) + C * (u * v)) + x * (u + w) * (B * D) ≡ (C + D) * (B * (u * x) + D * (w * v)) + x * (u + w) * (A * C)
+balance A B C D u w v x e =
+    let f : C * u * ((C + D) * v) ≡ C * u * ((A + B) * x) = ap (λ (m : ℕ). C * u * m) e in
+    let g : D * w * ((C + D) * v) ≡ D * w * ((A + B) * x) = ap (λ (m : ℕ). D * w * m) e in
+    omega arith
+
+-- A, B, C and D are the sizes of the samples' differences to t, of which p and r are above and q and s below
+record Sizes (t p q r s A B C D : ℕ) : Type 0 where
+  at-p : p ≡ t + A
+  at-q : q + B ≡ t
+  at-r : r ≡ t + C
+  at-s : s + D ≡ t
+
+module _ (t p q r s A B C D : ℕ) (sizes : Sizes t p q r s A B C D) where
+  -- the form is t and what it has above t, less what it has below
+  level : (u w v x : ℕ) →
+      p * (w * x) + q * (u * x) + r * (u * v) + s * (w * v) + (B * (u * x) + D * (w * v))
+      ≡ t * ((u + w) * (v + x)) + (A * (w * x) + C * (u * v))
+  level u w v x =
+      let f : p * (w * x) ≡ (t + A) * (w * x) = ap (λ (m : ℕ). m * (w * x)) (sizes .at-p) in
+      let g : (q + B) * (u * x) ≡ t * (u * x) = ap (λ (m : ℕ). m * (u * x)) (sizes .at-q) in
+      let h : r * (u * v) ≡ (t + C) * (u * v) = ap (λ (m : ℕ). m * (u * v)) (sizes .at-r) in
+      let k : (s + D) * (w * v) ≡ t * (w * v) = ap (λ (m : ℕ). m * (w * v)) (sizes .at-s) in
+      omega arith
+
+  -- the first difference vanishes exactly where v is to x as A + B to C + D
+  ratio : (v x : ℕ) → (q * x + r * v ≡ p * x + s * v) ↔ ((C + D) * v ≡ (A + B) * x)
+  ratio v x =
+      let f : p * x ≡ (t + A) * x = ap (λ (m : ℕ). m * x) (sizes .at-p) in
+      let g : (q + B) * x ≡ t * x = ap (λ (m : ℕ). m * x) (sizes .at-q) in
+      let h : r * v ≡ (t + C) * v = ap (λ (m : ℕ). m * v) (sizes .at-r) in
+      let k : (s + D) * v ≡ t * v = ap (λ (m : ℕ). m * v) (sizes .at-s) in
+      ((λ d. omega arith), (λ d. omega arith))
+
+  -- the second difference need not vanish for this: where the first does, the form is the same all along the line
+  decides : 0 < D → (point : Point) → Saddle p q r s point → (B * D ≤ A * C) ↔ (t * (point .n * point .n) ≤ form p q r s point)
+  unfolding form
+  decides D-some point saddle =
+      let u : ℕ = point .u in
+      let w : ℕ = point .w in
+      let v : ℕ = point .v in
+      let x : ℕ = point .x in
+      let e : (C + D) * v ≡ (A + B) * x = ratio v x .0 (saddle .first) in
+      let x-some : 0 < x = weight-some (C + D) (A + B) v x (omega arith) (omega arith) e in
+      let n-some : 0 < x * (u + w) = mul-pos x-some (omega arith) in
+      let o : (B * D ≤ A * C) ↔ (B * (u * x) + D * (w * v) ≤ A * (w * x) + C * (u * v)) =
+        same-order (C + D) (x * (u + w)) _ _ _ _ (omega arith) n-some (balance A B C D u w v x e) in
+      let l = level u w v x in
+      let m : t * ((u + w) * (v + x)) ≡ t * (point .n * point .n) = ap₂ (λ (a b : ℕ). t * (a * b)) (point .first) (point .second) in
+      ((λ h. let g = o .0 h in omega arith), (λ h. o .1 (omega arith)))
+
+-- the second difference is the first one of the face seen from behind
+behind : {t p q r s A B C D : ℕ} → Sizes t p q r s A B C D → Sizes t p s r q A D C B
+behind sizes = record { at-p = sizes .at-p; at-q = sizes .at-s; at-r = sizes .at-r; at-s = sizes .at-q }
+
+found : (t p q r s A B C D : ℕ) → Sizes t p q r s A B C D → 0 < B → 0 < D → (point : Point) × Saddle p q r s point × Inside point
+found t p q r s A B C D sizes B-some D-some = (point, saddle, inside)
+  where
+    point : Point
+    point = record {
+      n = A + B + C + D; u = A + D; w = C + B; v = A + B; x = C + D;
+      some = omega arith; first = omega arith; second = omega arith }
+    saddle : Saddle p q r s point
+    saddle = record {
+      first = ratio t p q r s A B C D sizes (A + B) (C + D) .1 (mul-comm (C + D) (A + B));
+      second = ratio t p s r q A D C B (behind sizes) (A + D) (C + B) .1 (mul-comm (C + B) (A + D)) }
+    inside : Inside point
+    inside = record { u-some = omega arith; w-some = omega arith; v-some = omega arith; x-some = omega arith }
+
+-- p and r are positive, q and s negative
+module _ (t p q r s : ℕ) (p-pos : t ≤ p) (q-neg : q < t) (r-pos : t ≤ r) (s-neg : s < t) where
+  sized : Sizes t p q r s (p - t) (t - q) (r - t) (t - s)
+  sized = record { at-p = omega arith; at-q = omega arith; at-r = omega arith; at-s = omega arith }
+
+  pub decider-pos : (point : Point) → Saddle p q r s point →
+      ((t - q) * (t - s) ≤ (p - t) * (r - t)) ↔ (t * (point .n * point .n) ≤ form p q r s point)
+  decider-pos = decides t p q r s (p - t) (t - q) (r - t) (t - s) sized (omega arith)
+
+  pub saddle-exists-pos : (point : Point) × Saddle p q r s point × Inside point
+  saddle-exists-pos = found t p q r s (p - t) (t - q) (r - t) (t - s) sized (omega arith) (omega arith)
+
+-- the same point where the ring begins one corner later
+turn : Point → Point
+turn point = record {
+  n = point .n; u = point .v; w = point .x; v = point .w; x = point .u;
+  some = point .some; first = point .second; second = omega arith }
+
+turn-form : (p q r s : ℕ) (point : Point) → form q r s p (turn point) ≡ form p q r s point
+unfolding form turn
+turn-form p q r s point = omega arith
+
+turn-saddle : (p q r s : ℕ) (point : Point) → Saddle p q r s point → Saddle q r s p (turn point)
+unfolding turn
+turn-saddle p q r s point saddle = record { first = omega arith; second = omega arith }
+
+turn-inside : (point : Point) → Inside point → Inside (turn point)
+unfolding turn
+turn-inside point inside =
+    record { u-some = inside .v-some; w-some = inside .x-some; v-some = inside .w-some; x-some = inside .u-some }
+
+-- p and r are negative, q and s positive
+module _ (t p q r s : ℕ) (p-neg : p < t) (q-pos : t ≤ q) (r-neg : r < t) (s-pos : t ≤ s) where
+  pub decider-neg : (point : Point) → Saddle p q r s point →
+      ((t - p) * (t - r) ≤ (q - t) * (s - t)) ↔ (t * (point .n * point .n) ≤ form p q r s point)
+  unfolding turn
+  decider-neg point saddle =
+      let d = decider-pos t q r s p q-pos r-neg s-pos p-neg (turn point) (turn-saddle p q r s point saddle) in
+      rw (mul-comm (t - p) (t - r), ← turn-form p q r s point) d
+
+  pub saddle-exists-neg : (point : Point) × Saddle p q r s point × Inside point
+  saddle-exists-neg =
+      let f = saddle-exists-pos t s p q r s-pos p-neg q-pos r-neg in
+      (turn (f .0), turn-saddle s p q r (f .0) (f .1), turn-inside (f .0) (f .2))
+
+-- the samples at the first and third corner are positive, the others negative
+abbrev Alternate : (t p q r s : ℕ) → Type 0
+Alternate t p q r s = (t ≤ p) × (q < t) × (t ≤ r) × (s < t)
+
+-- a test that a comparison decides says what the comparison does
+decided : (b : Bool) (m k : ℕ) {P : Type 0} → b ≡ leb m k → (m ≤ k) ↔ P → (b ≡ true) ↔ P
+decided b m k e d = ((λ h. d .0 (leb-true m k (sym e ∙ h))), (λ h. e ∙ le-leb m k (d .1 h)))
+
+-- a face with four crossed edges: p and r have one sign, q and s the other
+module _ (cut : Cut) (p q r s : ℕ)
+    (p-as-r : positive cut p ≡ positive cut r) (q-as-s : positive cut q ≡ positive cut s) (p-not-q : ¬ (positive cut p ≡ positive cut q)) where
+  alternate : Alternate (cut .t) p q r s ⊎ Alternate (cut .t) q r s p
+  alternate = go (positive cut p) (positive cut q) refl refl
+    where
+      go : (a b : Bool) → positive cut p ≡ a → positive cut q ≡ b → Alternate (cut .t) p q r s ⊎ Alternate (cut .t) q r s p
+      go true true e f = absurd (p-not-q (e ∙ sym f))
+      go true false e f =
+          inl (leb-true (cut .t) p e, leb-false (cut .t) q f, leb-true (cut .t) r (sym p-as-r ∙ e), leb-false (cut .t) s (sym q-as-s ∙ f))
+      go false true e f =
+          inr (leb-true (cut .t) q f, leb-false (cut .t) r (sym p-as-r ∙ e), leb-true (cut .t) s (sym q-as-s ∙ f), leb-false (cut .t) p e)
+      go false false e f = absurd (p-not-q (e ∙ sym f))
+
+  -- the positive corners are joined exactly if the form at the saddle is at least t
+  pub decider-is-saddle : (point : Point) → Saddle p q r s point →
+      (joined cut p q r s ≡ true) ↔ (cut .t * (point .n * point .n) ≤ form p q r s point)
+  decider-is-saddle point saddle =
+      ⊎-elim
+      (λ (h : Alternate (cut .t) p q r s).
+        decided _ _ _ (joined-pos cut p q r s (h .0) (h .1) (h .2) (h .3)) (decider-pos (cut .t) p q r s (h .0) (h .1) (h .2) (h .3) point saddle))
+      (λ (h : Alternate (cut .t) q r s p).
+        decided _ _ _ (joined-neg cut p q r s (h .3) (h .0) (h .1) (h .2)) (decider-neg (cut .t) p q r s (h .3) (h .0) (h .1) (h .2) point saddle))
+      alternate
+
+  pub saddle-exists : (point : Point) × Saddle p q r s point × Inside point
+  saddle-exists =
+      ⊎-elim
+      (λ (h : Alternate (cut .t) p q r s). saddle-exists-pos (cut .t) p q r s (h .0) (h .1) (h .2) (h .3))
+      (λ (h : Alternate (cut .t) q r s p). saddle-exists-neg (cut .t) p q r s (h .3) (h .0) (h .1) (h .2))
+      alternate
