@@ -39,6 +39,7 @@ pub enum Sized {
 
 impl Size {
     pub const SHORTEST: u32 = 2;
+
     pub const LONGEST: u32 = 256;
 
     // The one place where a size is made: any three axis lengths.

@@ -97,7 +97,15 @@ module _ (D : Decider) where
     each = λ cut cs e he. cube-ruled D cut cs .each e he ∙ ap bit (pattern-crossed cut cs e he);
     linked = λ cut cs f i k hf hi hk e.
         holder-same (ringEdge f i) (ringEdge f k) (loopsBy D cut cs) (λ m d. cube-ruled D cut cs .loop m d .closed (ringEdge f i) (ringEdge f k) (record {
-          face = f; i = i; k = k; face-lt = hf; i-lt = hi; k-lt = hk; from = refl; to = refl; link = linked-is D cut cs f i k hf ∙ e;
+          face = f;
+          i = i;
+          k = k;
+          face-lt = hf;
+          i-lt = hi;
+          k-lt = hk;
+          from = refl;
+          to = refl;
+          link = linked-is D cut cs f i k hf ∙ e;
         }));
     sized = λ cut cs m d. let l = cube-ruled D cut cs .loop m d in (l .three, l .twelve, l .small);
     four = λ cut cs. cube-ruled D cut cs .four;

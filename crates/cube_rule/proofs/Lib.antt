@@ -9,3 +9,4 @@ pub mod Laws
 pub mod Shared
 pub mod Decider
 pub mod Saddle
+pub mod Doubtful

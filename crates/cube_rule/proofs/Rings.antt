@@ -101,5 +101,5 @@ pub placed-from : (f m e : ℕ) → f < 6 → m < 16 → e < 12 → holds (place
 unfolding from-test
 placed-from f m e hf hm he x =
     let r = some-at 4 (λ i. both (eqb e (ringEdge f i)) (holds m i)) (imply (holds (placed f m) e) _
-        (below-at 12 (from-test f m) (below-at 16 (λ m. below 12 (from-test f m)) (below-at 6 (λ f. below 16 (λ m. below 12 (from-test f m))) from-computed f hf) m hm) e he) x) in
+    (below-at 12 (from-test f m) (below-at 16 (λ m. below 12 (from-test f m)) (below-at 6 (λ f. below 16 (λ m. below 12 (from-test f m))) from-computed f hf) m hm) e he) x) in
     (r .0, r .1, eqb→eq e (ringEdge f (r .0)) (left (eqb e (ringEdge f (r .0))) (holds m (r .0)) (r .2)), is-true (holds m (r .0)) (right (eqb e (ringEdge f (r .0))) (holds m (r .0)) (r .2)))

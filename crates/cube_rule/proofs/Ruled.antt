@@ -102,7 +102,14 @@ module _ (p : ℕ) (j : ℕ → Bool) where
       go : (x : Bool) → eqb i k ≡ x → (ringEdge f i ≡ ringEdge f k) ⊎ Linked p j (ringEdge f i) (ringEdge f k)
       go true e = inl (ap (ringEdge f) (eqb-true i k e))
       go false e = inr (record {
-        face = f; i = i; k = k; face-lt = hf; i-lt = hi; k-lt = hk; from = refl; to = refl;
+        face = f;
+        i = i;
+        k = k;
+        face-lt = hf;
+        i-lt = hi;
+        k-lt = hk;
+        from = refl;
+        to = refl;
         link = linked-sets (holds p (ringCorner f 0)) (holds p (ringCorner f 1)) (holds p (ringCorner f 2)) (holds p (ringCorner f 3)) (j f) i k hi hk
             ∙ joined (eqb i k) (holds (first f) i) (holds (first f) k) (holds (second f) i) (holds (second f) k) e w;
       })

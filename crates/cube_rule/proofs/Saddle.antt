@@ -23,6 +23,7 @@ same-order k m a b c d k-some m-some e = (to, from)
   where
     to : c ≤ d → a ≤ b
     to h = let g : m * c ≤ m * d = mul-le-mul-left m h in le-of-mul-le-mul-left {k = k} (omega arith) k-some
+
     from : a ≤ b → c ≤ d
     from h = let g : k * a ≤ k * b = mul-le-mul-left k h in le-of-mul-le-mul-left {k = m} (omega arith) m-some
 
@@ -80,7 +81,7 @@ module _ (t p q r s A B C D : ℕ) (sizes : Sizes t p q r s A B C D) where
       let x-some : 0 < x = weight-some (C + D) (A + B) v x (omega arith) (omega arith) e in
       let n-some : 0 < x * (u + w) = mul-pos x-some (omega arith) in
       let o : (B * D ≤ A * C) ↔ (B * (u * x) + D * (w * v) ≤ A * (w * x) + C * (u * v)) =
-        same-order (C + D) (x * (u + w)) _ _ _ _ (omega arith) n-some (balance A B C D u w v x e) in
+      same-order (C + D) (x * (u + w)) _ _ _ _ (omega arith) n-some (balance A B C D u w v x e) in
       let l = level u w v x in
       let m : t * ((u + w) * (v + x)) ≡ t * (point .n * point .n) = ap₂ (λ (a b : ℕ). t * (a * b)) (point .first) (point .second) in
       ((λ h. let g = o .0 h in omega arith), (λ h. o .1 (omega arith)))
@@ -94,12 +95,22 @@ found t p q r s A B C D sizes B-some D-some = (point, saddle, inside)
   where
     point : Point
     point = record {
-      n = A + B + C + D; u = A + D; w = C + B; v = A + B; x = C + D;
-      some = omega arith; first = omega arith; second = omega arith }
+      n = A + B + C + D;
+      u = A + D;
+      w = C + B;
+      v = A + B;
+      x = C + D;
+      some = omega arith;
+      first = omega arith;
+      second = omega arith;
+    }
+
     saddle : Saddle p q r s point
     saddle = record {
       first = ratio t p q r s A B C D sizes (A + B) (C + D) .1 (mul-comm (C + D) (A + B));
-      second = ratio t p s r q A D C B (behind sizes) (A + D) (C + B) .1 (mul-comm (C + B) (A + D)) }
+      second = ratio t p s r q A D C B (behind sizes) (A + D) (C + B) .1 (mul-comm (C + B) (A + D));
+    }
+
     inside : Inside point
     inside = record { u-some = omega arith; w-some = omega arith; v-some = omega arith; x-some = omega arith }
 
@@ -118,8 +129,15 @@ module _ (t p q r s : ℕ) (p-pos : t ≤ p) (q-neg : q < t) (r-pos : t ≤ r) (
 -- the same point where the ring begins one corner later
 turn : Point → Point
 turn point = record {
-  n = point .n; u = point .v; w = point .x; v = point .w; x = point .u;
-  some = point .some; first = point .second; second = omega arith }
+  n = point .n;
+  u = point .v;
+  w = point .x;
+  v = point .w;
+  x = point .u;
+  some = point .some;
+  first = point .second;
+  second = omega arith;
+}
 
 turn-form : (p q r s : ℕ) (point : Point) → form q r s p (turn point) ≡ form p q r s point
 unfolding form turn
@@ -176,9 +194,9 @@ module _ (cut : Cut) (p q r s : ℕ)
   decider-is-saddle point saddle =
       ⊎-elim
       (λ (h : Alternate (cut .t) p q r s).
-        decided _ _ _ (joined-pos cut p q r s (h .0) (h .1) (h .2) (h .3)) (decider-pos (cut .t) p q r s (h .0) (h .1) (h .2) (h .3) point saddle))
+      decided _ _ _ (joined-pos cut p q r s (h .0) (h .1) (h .2) (h .3)) (decider-pos (cut .t) p q r s (h .0) (h .1) (h .2) (h .3) point saddle))
       (λ (h : Alternate (cut .t) q r s p).
-        decided _ _ _ (joined-neg cut p q r s (h .3) (h .0) (h .1) (h .2)) (decider-neg (cut .t) p q r s (h .3) (h .0) (h .1) (h .2) point saddle))
+      decided _ _ _ (joined-neg cut p q r s (h .3) (h .0) (h .1) (h .2)) (decider-neg (cut .t) p q r s (h .3) (h .0) (h .1) (h .2) point saddle))
       alternate
 
   pub saddle-exists : (point : Point) × Saddle p q r s point × Inside point

@@ -66,7 +66,7 @@ rising-same (m ∷ ms) (n ∷ ns) r s f g =
 
 -- ---- who holds an edge
 
-held : (e : ℕ) (ms : List ℕ) → 0 < holders e ms → (m : ℕ) × List·Memᴰ m ms × (holds m e ≡ true)
+pub held : (e : ℕ) (ms : List ℕ) → 0 < holders e ms → (m : ℕ) × List·Memᴰ m ms × (holds m e ≡ true)
 held e [] h = absurd (omega arith)
 held e (m ∷ ms) h = go (holds m e) refl h (held e ms)
   where
@@ -75,7 +75,7 @@ held e (m ∷ ms) h = go (holds m e) refl h (held e ms)
     go true q h ih = (m, List·Memᴰ·head refl, q)
     go false q h ih = let r = ih (omega arith) in (r .0, List·Memᴰ·tail (r .1), r .2)
 
-holding : (e : ℕ) (ms : List ℕ) (m : ℕ) → List·Memᴰ m ms → holds m e ≡ true → 0 < holders e ms
+pub holding : (e : ℕ) (ms : List ℕ) (m : ℕ) → List·Memᴰ m ms → holds m e ≡ true → 0 < holders e ms
 holding e [] m d h = absurd (List·Memᴰ·not-nil d)
 holding e (n ∷ ms) m d h = go (List·Memᴰ·cases-cons d) (holding e ms m)
   where

@@ -2,11 +2,13 @@
 -- Assumes nothing.
 use Prim.Native.Nat.{ℕ}
 use mathlib.Core.Bool.{Bool, cond}
+use mathlib.Core.List.{List}
 use lib.IntN.{ℤ, pos, _-ℤ_, _*ℤ_}
 use lib.Signed.{leZ}
 use Rattle.block.specs.declared.Cut.{Cut}
 use Rattle.block.specs.Grey.{positive}
 use Rattle.cube_rule.specs.Links.{Decider}
+use Rattle.cube_rule.specs.Loops.{loopsBy}
 
 -- sample minus t
 abbrev pub over : Cut → ℕ → ℤ
@@ -19,3 +21,7 @@ joined cut p q r s =
     cond (positive cut p)
     (leZ (over cut q *ℤ over cut s) (over cut p *ℤ over cut r))
     (leZ (over cut p *ℤ over cut r) (over cut q *ℤ over cut s))
+
+-- the loops of a cube, as 01 has them: by this decider
+abbrev pub loopsOf : Cut → List ℕ → List ℕ
+loopsOf cut corners = loopsBy joined cut corners

@@ -1,0 +1,209 @@
+// Runs the samples of document 01, "Samples on the bench", and the cases around them, and writes what it got: a line for each question,
+// in hexadecimal. What it must write stands in the file stdout.
+ghost use Prim.Native.Nat.{_≤_, _<_};
+use block::{Refusal, Size, Sized};
+use cell::{CubeAnswer, Found};
+use place::{Crossing, Offset};
+
+fn glyph(digit: u64) -> u8
+    requires { ⌜ digit < 16 ⌝ }
+{
+    if digit < 10 {
+        return 48 + (digit % 16) as u8;
+    }
+    55 + (digit % 16) as u8
+}
+
+// A number in hexadecimal, with a space after it.
+fn number(value: u64, digits: u32)
+    requires { ⌜ digits ≤ 16 ⌝ }
+{
+    let mut left = digits;
+    while left != 0 {
+        left -= 1;
+        let digit = (value >> (4 * left)) % 16;
+        let byte = [glyph(digit)];
+        io::write_all(1, &byte);
+    }
+    io::write_all(1, b" ");
+}
+
+// The bits of a float that is a number; all ones for one that is not.
+fn float(x: f64) {
+    if x == x {
+        number(f64::to_bits(x), 16);
+    } else {
+        number(18446744073709551615, 16);
+    }
+}
+
+fn end_line() {
+    io::write_all(1, b"\n");
+}
+
+fn refusal(r: Refusal) {
+    io::write_all(1, b"refused ");
+    number(r.number as u64, 2);
+    number(r.value as u64, 8);
+}
+
+fn offset(o: Offset) {
+    float(o.x);
+    float(o.y);
+    float(o.z);
+}
+
+fn ask_size(nx: u32, ny: u32, nz: u32) {
+    io::write_all(1, b"size ");
+    number(nx as u64, 8);
+    number(ny as u64, 8);
+    number(nz as u64, 8);
+    io::write_all(1, b"- ");
+    match Size::new(nx, ny, nz) {
+        Sized::Made(size) => {
+            number(size.nx() as u64, 4);
+            number(size.ny() as u64, 4);
+            number(size.nz() as u64, 4);
+        }
+        Sized::BadAxis(axis) => {
+            refusal(Refusal {
+                number: 1,
+                value: axis,
+            });
+        }
+    }
+    end_line();
+}
+
+fn ask_edge(p: u16, q: u16, t: u16) {
+    io::write_all(1, b"edge ");
+    number(p as u64, 4);
+    number(q as u64, 4);
+    number(t as u64, 4);
+    io::write_all(1, b"- ");
+    match place::edge(p, q, t) {
+        Crossing::Nothing => {
+            io::write_all(1, b"none ");
+        }
+        Crossing::At(f) => {
+            float(f);
+        }
+        Crossing::Refused(r) => {
+            refusal(r);
+        }
+    }
+    end_line();
+}
+
+fn corners_of(corners: [u16; 8]) {
+    for c in 0..8usize {
+        number(corners[c] as u64, 4);
+    }
+}
+
+fn ask_cube(corners: [u16; 8], t: u16) {
+    io::write_all(1, b"cube ");
+    corners_of(corners);
+    number(t as u64, 4);
+    io::write_all(1, b"- ");
+    let answer = cell::cube(corners, t);
+    let found = answer.found;
+    match found {
+        Found::Loops(n) => {
+            number(n as u64, 1);
+        }
+        Found::Refused(r) => {
+            refusal(r);
+        }
+    }
+    end_line();
+    for i in 0..4usize {
+        loop_at(answer, i);
+    }
+}
+
+fn loop_at(answer: CubeAnswer, i: usize)
+    requires { ⌜ i < 4 ⌝ }
+{
+    let words = answer.words;
+    let offsets = answer.offsets;
+    io::write_all(1, b"  ");
+    number(words[i] as u64, 4);
+    offset(offsets[i]);
+    end_line();
+}
+
+// "Run: edges (p,q)", at t = 100, then each refusal and each order of two.
+fn edges() {
+    ask_edge(0, 400, 100);
+    ask_edge(400, 0, 100);
+    ask_edge(100, 0, 100);
+    ask_edge(0, 100, 100);
+    ask_edge(100, 400, 100);
+    ask_edge(99, 0, 100);
+    ask_edge(0, 400, 0);
+    ask_edge(0, 400, 65535);
+    ask_edge(0, 65535, 100);
+    ask_edge(65535, 0, 100);
+    ask_edge(65535, 65535, 100);
+    ask_edge(65535, 0, 0);
+    ask_edge(0, 65535, 65535);
+    ask_edge(0, 65534, 1);
+    ask_edge(0, 65534, 65534);
+}
+
+// Axes at and past the limits: the lowest bad axis is named.
+fn sizes() {
+    ask_size(2, 2, 2);
+    ask_size(256, 256, 256);
+    ask_size(1, 2, 2);
+    ask_size(2, 2, 257);
+    ask_size(0, 257, 2);
+    ask_size(2, 257, 0);
+    ask_size(2, 4294967295, 2);
+    ask_size(4294967295, 1, 0);
+}
+
+// The nine cubes of the table, at t = 100.
+fn table() {
+    ask_cube([99, 99, 99, 99, 99, 99, 99, 99], 100);
+    ask_cube([100, 100, 100, 100, 100, 100, 100, 100], 100);
+    ask_cube([200, 0, 0, 0, 0, 0, 0, 0], 100);
+    ask_cube([110, 0, 0, 110, 0, 0, 0, 0], 100);
+    ask_cube([300, 50, 50, 300, 0, 0, 0, 0], 100);
+    ask_cube([200, 0, 0, 200, 0, 0, 0, 0], 100);
+    ask_cube([100, 99, 99, 65534, 0, 0, 0, 0], 100);
+    ask_cube([110, 0, 0, 110, 0, 110, 110, 0], 100);
+    ask_cube([300, 50, 50, 300, 50, 300, 300, 50], 100);
+}
+
+// The decider at A·C = B·D − 1, B·D and B·D + 1, with the positive pair on either diagonal, and at the extremes.
+fn ties() {
+    ask_cube([109, 90, 90, 111, 0, 0, 0, 0], 100);
+    ask_cube([110, 90, 90, 110, 0, 0, 0, 0], 100);
+    ask_cube([101, 90, 90, 201, 0, 0, 0, 0], 100);
+    ask_cube([90, 109, 111, 90, 0, 0, 0, 0], 100);
+    ask_cube([90, 110, 110, 90, 0, 0, 0, 0], 100);
+    ask_cube([90, 101, 201, 90, 0, 0, 0, 0], 100);
+    ask_cube([65534, 0, 0, 65534, 0, 0, 0, 0], 1);
+    ask_cube([65534, 0, 0, 65534, 0, 0, 0, 0], 65534);
+    ask_cube([0, 65534, 65534, 0, 0, 0, 0, 0], 1);
+    ask_cube([0, 65534, 65534, 0, 0, 0, 0, 0], 65534);
+}
+
+// Refusals 3 and 4 of a cube, and 3 before 4: every place holds zero.
+fn refusals() {
+    ask_cube([200, 0, 0, 0, 0, 0, 0, 0], 0);
+    ask_cube([200, 0, 0, 0, 0, 0, 0, 0], 65535);
+    ask_cube([200, 0, 0, 65535, 0, 65535, 0, 0], 100);
+    ask_cube([200, 0, 0, 0, 0, 0, 0, 65535], 100);
+    ask_cube([65535, 0, 0, 0, 0, 0, 0, 0], 0);
+}
+
+fn main() {
+    sizes();
+    edges();
+    table();
+    ties();
+    refusals();
+}

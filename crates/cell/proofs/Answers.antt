@@ -1,0 +1,129 @@
+-- What the cube question's answer is made of: the verdict of rows 3 and 4, places for every loop of an accepted cube, and that its
+-- promise fixes it.
+-- Assumes nothing.
+use mathlib.Core.Path.{_≡_, refl, ap, ap₂, sym, _∙_, subst}
+use mathlib.Core.Bool.{Bool, true, false, cond}
+use mathlib.Core.Logic.{_⊎_, inl, inr, ⊎-elim}
+use mathlib.Core.List.{List, [], _∷_, map, List·Memᴰ, List·Memᴰ·not-nil, List·Memᴰ·cases-cons}
+use Prim.Native.Nat.{ℕ, zero, suc, _+_, _≤_, _<_}
+use native.Mathlib.Omega.{arith}
+use lib.Count.{ones}
+use lib.ListN.{length, getD}
+use Rattle.laws.specs.Bits.{bit, holds}
+use Rattle.laws.specs.Filled.{filled}
+use Rattle.laws.specs.Fixed.{Fixes, Injective}
+use Rattle.laws.proofs.Bits.{some-ones}
+use Rattle.laws.proofs.Fixed.{said-fixes}
+use Rattle.block.specs.declared.Cut.{Cut}
+use Rattle.block.specs.declared.Refusal.{Refusal}
+use Rattle.block.specs.declared.Checked.{Checked}
+use Rattle.block.specs.declared.Checked.the-variants.{Passes, Refuses}
+use Rattle.block.specs.Answer.{Answer, accepted, refused, inOrder, judged}
+use Rattle.block.specs.Rows.{thresholdRow, ceilingRow}
+use Rattle.cube_rule.specs.Decider.{joined, loopsOf}
+use Rattle.cube_rule.specs.Edges.{crossedAt}
+use Rattle.cube_rule.specs.Rule.{holders}
+use Rattle.cube_rule.proofs.Laws.{cube-laws}
+use Rattle.cube_rule.proofs.Unique.{holding}
+use Rattle.place.specs.declared.Offset.{Offset}
+use Rattle.place.specs.Place.{Placeable, placeOf}
+use Rattle.cell.specs.declared.Found.{Found}
+use Rattle.cell.specs.declared.Found.the-variants.{Loops, Refused}
+use Rattle.cell.specs.declared.CubeAnswer.{CubeAnswer}
+use Rattle.cell.specs.Answer.{wordOf, origin, cubeVerdict, saidCube, loopsIf, loopsAnswered, CubeAnswered}
+use Rattle.cell.specs.Steps.{emptyAnswer}
+use Rattle.cell.proofs.Filled.{place-mask, with-mask, places-by-mask}
+
+-- ---- the loops of a cube have places
+
+module _ (cut : Cut) (corners : List ℕ) where
+  loop-some : (m : ℕ) → List·Memᴰ m (loopsOf cut corners) → 0 < m
+  loop-some m d = some-ones m (omega (arith, cube-laws joined .sized cut corners m d .0))
+
+  crossed-of : (b : Bool) {n : ℕ} → 0 < n → n ≡ bit b → b ≡ true
+  crossed-of true h e = refl
+  crossed-of false h e = absurd (omega arith)
+
+  pub loop-placeable : cubeVerdict cut corners ≡ Passes → (m : ℕ) → List·Memᴰ m (loopsOf cut corners) → Placeable cut corners m
+  loop-placeable v m d = record {
+    small = cube-laws joined .sized cut corners m d .2;
+    crossed = λ e he h. crossed-of (crossedAt cut corners e) (holding e (loopsOf cut corners) m d h) (cube-laws joined .each cut corners e he);
+    passes = v;
+  }
+
+-- ---- the answer of an accepted cube, and of a refused one
+
+  pub accepted-found : cubeVerdict cut corners ≡ Passes → (n : ℕ) → n ≡ length (loopsOf cut corners)
+      → saidCube (Loops n) ≡ judged (cubeVerdict cut corners) (length (loopsOf cut corners))
+  unfolding judged
+  accepted-found v n e = rw (v, e)
+
+  pub accepted-loops : cubeVerdict cut corners ≡ Passes → loopsAnswered cut corners ≡ loopsOf cut corners
+  unfolding loopsIf
+  accepted-loops v = rw v
+
+  pub refused-loops : (r : Refusal) → cubeVerdict cut corners ≡ Refuses r → loopsAnswered cut corners ≡ []
+  unfolding loopsIf
+  refused-loops r v = rw v
+
+  pub refused-found : (r : Refusal) → cubeVerdict cut corners ≡ Refuses r → saidCube (Refused r) ≡ judged (cubeVerdict cut corners) (length (loopsOf cut corners))
+  unfolding judged
+  refused-found r v = rw v
+
+-- an accepted cube's verdict: neither row refuses
+pub verdict-first : (cut : Cut) (corners : List ℕ) (r : Refusal) → thresholdRow cut ≡ Refuses r → cubeVerdict cut corners ≡ Refuses r
+unfolding inOrder
+verdict-first cut corners r e = rw e
+
+pub verdict-second : (cut : Cut) (corners : List ℕ) (k : Checked) → thresholdRow cut ≡ Passes → ceilingRow corners ≡ k → cubeVerdict cut corners ≡ k
+unfolding inOrder
+verdict-second cut corners Passes e f = rw (e, f)
+verdict-second cut corners (Refuses r) e f = rw (e, f)
+
+-- ---- unique
+
+pub said-cube-injective : Injective saidCube
+said-cube-injective (Loops m) (Loops n) e = cc
+said-cube-injective (Loops m) (Refused r) e = let z : _≡_ {A = ℕ} 0 1 = cc in absurd (omega arith)
+said-cube-injective (Refused r) (Loops n) e = let z : _≡_ {A = ℕ} 0 1 = cc in absurd (omega arith)
+said-cube-injective (Refused r) (Refused q) e = cc
+
+abbrev pub made : Found → List ℕ → List Offset → CubeAnswer
+made f ws os = record { found = f; words = ws; offsets = os }
+
+-- any two answers that the promise of `cube` allows are equal
+pub cube-fixed : (corners : List ℕ) (t : ℕ) → Fixes (CubeAnswered corners t)
+cube-fixed corners t a b p q =
+    ap (λ (f : Found). made f (a .words) (a .offsets)) (said-cube-injective (a .found) (b .found) (p .found ∙ sym (q .found)))
+    ∙ ap₂ (made (b .found)) (p .words ∙ sym (q .words)) (p .offsets ∙ sym (q .offsets))
+
+-- ---- the whole answer
+
+module _ (cut : Cut) (corners : List ℕ) where
+  pub refused-answer : (r : Refusal) → cubeVerdict cut corners ≡ Refuses r → CubeAnswered corners (cut .t) (emptyAnswer r)
+  unfolding filled
+  refused-answer r v = record {
+    found = refused-found cut corners r v;
+    words = rw (refused-loops cut corners r v);
+    offsets = rw (refused-loops cut corners r v);
+  }
+
+  -- a mask in one of the four places
+  pub mask-placeable : cubeVerdict cut corners ≡ Passes → (masks : List ℕ) → masks ≡ filled 4 0 (loopsOf cut corners) → (i : ℕ)
+      → 0 < getD masks i 0 → Placeable cut corners (getD masks i 0)
+  mask-placeable v masks e i = rw e (λ h. loop-placeable cut corners v _ (place-mask (loopsOf cut corners) i h))
+
+  words-same : (ms : List ℕ) → map (wordOf corners) ms ≡ ms
+  words-same [] = refl
+  words-same (m ∷ ms) = ap (λ (l : List ℕ). m ∷ l) (words-same ms)
+
+  abbrev placed : ℕ → Offset
+  placed m = with-mask (placeOf cut corners) origin m
+
+  pub accepted-answer : cubeVerdict cut corners ≡ Passes → (n : ℕ) (masks : List ℕ) → n ≡ length (loopsOf cut corners) → masks ≡ filled 4 0 (loopsOf cut corners)
+      → CubeAnswered corners (cut .t) (made (Loops n) masks (placed (getD masks 0 0) ∷ placed (getD masks 1 0) ∷ placed (getD masks 2 0) ∷ placed (getD masks 3 0) ∷ []))
+  accepted-answer v n masks e f = record {
+    found = accepted-found cut corners v n e;
+    words = rw (accepted-loops cut corners v, words-same (loopsOf cut corners)) f;
+    offsets = rw (accepted-loops cut corners v, f) (sym (places-by-mask (placeOf cut corners) origin (loopsOf cut corners) (cube-laws joined .four cut corners) (loop-some cut corners)));
+  }

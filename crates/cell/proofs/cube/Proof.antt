@@ -1,0 +1,113 @@
+-- `cube` meets its promise: a refusal with zeros, or the loops and the place of each.
+-- Assumes nothing.
+use mathlib.Core.Path.{_≡_, refl, ap, ap₂, sym, _∙_, subst}
+use mathlib.Core.List.{List, [], _∷_, map}
+use Prim.Native.Nat.{ℕ, _<_}
+use lib.ListN.{length, getD}
+use borrow.Author.Needs.{needs}
+use Rattle.laws.specs.Filled.{filled}
+use Rattle.block.specs.declared.Cut.{Cut}
+use Rattle.block.specs.declared.Checked.the-variants.{Passes}
+use Rattle.cube.specs.declared.Loops.{Loops}
+use Rattle.cube_rule.specs.Decider.{loopsOf}
+use Rattle.place.specs.Place.{Placeable, placeOf}
+use Rattle.cell.specs.Answer.{origin, cubeVerdict}
+use Rattle.cell.proofs.Answers.{refused-answer, accepted-answer, mask-placeable}
+use Rattle.cell.proofs.cube.Statement.{statement}
+use Rattle.cell.proofs.cube.Tie as tie
+use Rattle.cell.proofs.cube.Reads as reads
+use Rattle.cell.proofs.cube.Lts as lts
+use Rattle.cell.proofs.check.Reads as check-reads
+use Rattle.cell.proofs.place_or_zero.Reads as place-or-zero-reads
+use Rattle.cell.proofs.refuse.Reads as refuse-reads
+use Rattle.cube.proofs.loops_of.Reads as loops-of-reads
+
+check-requires : tie.Need-check-requires
+check-requires c κs = search needs
+
+enum-known-checked : tie.Need-enum-known-checked
+enum-known-checked c = search needs
+
+refuse-requires : tie.Need-refuse-requires
+refuse-requires c κs = search needs
+
+returns : tie.Need-returns
+returns c =
+    let a = c .before .before .before .before .before .args in
+    rw (c .refuse .ensures)
+    (refused-answer (record { t = a .t }) (a .corners) _ (sym (c .before .before .before .before .check .ensures) ∙ c .before .before .checked .given .1))
+
+enum-told : tie.Need-enum-told
+enum-told c = search needs
+
+loops-of-requires : tie.Need-loops-of-requires
+loops-of-requires c κs = search needs
+
+array-read-place-or-zero : tie.Need-array-read-place-or-zero
+array-read-place-or-zero c = search needs
+
+abbrev start : tie.After-masks → tie.Start
+start m = m .before .before .before .before .before
+
+abbrev cutOf : tie.After-masks → Cut
+cutOf m = record { t = start m .args .t }
+
+-- rows 3 and 4 passed
+passed : (m : tie.After-masks) → cubeVerdict (cutOf m) (start m .args .corners) ≡ Passes
+passed m = sym (m .before .before .before .before .check .ensures) ∙ m .before .before .enum-told .given .1
+
+masks-are : (m : tie.After-masks) → m .before .loops-of .result .masks ≡ filled 4 0 (loopsOf (cutOf m) (start m .args .corners))
+masks-are m = ap (λ (l : Loops). l .masks) (m .before .loops-of .ensures .0)
+
+count-is : (m : tie.After-masks) → m .before .loops-of .result .count ≡ length (loopsOf (cutOf m) (start m .args .corners))
+count-is m = ap (λ (l : Loops). l .count) (m .before .loops-of .ensures .0)
+
+placeable : (m : tie.After-masks) (i : ℕ) → 0 < getD (m .before .loops-of .result .masks) i 0 → Placeable (cutOf m) (start m .args .corners) (getD (m .before .loops-of .result .masks) i 0)
+placeable m i = mask-placeable (cutOf m) (start m .args .corners) (passed m) (m .before .loops-of .result .masks) (masks-are m) i
+
+place-or-zero-requires : tie.Need-place-or-zero-requires
+place-or-zero-requires c κs = placeable c 0
+
+array-read-place-or-zero-2 : tie.Need-array-read-place-or-zero-2
+array-read-place-or-zero-2 c = search needs
+
+place-or-zero-requires-2 : tie.Need-place-or-zero-requires-2
+place-or-zero-requires-2 c κs = placeable (c .before) 1
+
+array-read-place-or-zero-3 : tie.Need-array-read-place-or-zero-3
+array-read-place-or-zero-3 c = search needs
+
+place-or-zero-requires-3 : tie.Need-place-or-zero-requires-3
+place-or-zero-requires-3 c κs = placeable (c .before .before) 2
+
+array-read-place-or-zero-4 : tie.Need-array-read-place-or-zero-4
+array-read-place-or-zero-4 c = search needs
+
+place-or-zero-requires-4 : tie.Need-place-or-zero-requires-4
+place-or-zero-requires-4 c κs = placeable (c .before .before .before) 3
+
+returns-2 : tie.Need-returns-2
+returns-2 c =
+    let m = c .before .before .before .before in
+    rw (c .before .before .before .place-or-zero .ensures, c .before .before .place-or-zero2 .ensures, c .before .place-or-zero3 .ensures, c .place-or-zero4 .ensures)
+    (accepted-answer (cutOf m) (start m .args .corners) (passed m) (m .before .loops-of .result .count) (m .before .loops-of .result .masks) (count-is m) (masks-are m))
+
+pub cube-spec : {M : Type 1} → statement M
+cube-spec =
+    tie.close
+    (tie.spec
+    check-requires
+    enum-known-checked
+    refuse-requires
+    returns
+    enum-told
+    loops-of-requires
+    array-read-place-or-zero
+    place-or-zero-requires
+    array-read-place-or-zero-2
+    place-or-zero-requires-2
+    array-read-place-or-zero-3
+    place-or-zero-requires-3
+    array-read-place-or-zero-4
+    place-or-zero-requires-4
+    returns-2)

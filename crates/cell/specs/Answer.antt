@@ -1,0 +1,50 @@
+-- What the cube question answers (document 01, "Faces, loops and places"): "how many loops there are and, in order, the mask and offset
+-- of each. Unused places of an answer hold zero, on refusal too."
+-- Assumes nothing.
+use Prim.Native.Nat.{ℕ}
+use mathlib.Core.Path.{_≡_}
+use mathlib.Core.List.{List, [], _∷_, map}
+use lib.ListN.{length}
+use Rattle.laws.specs.Filled.{filled}
+use Rattle.block.specs.declared.Cut.{Cut}
+use Rattle.block.specs.declared.Checked.{Checked}
+use Rattle.block.specs.declared.Checked.the-variants.{Passes, Refuses}
+use Rattle.block.specs.Answer.{Answer, accepted, refused, inOrder, judged}
+use Rattle.block.specs.Rows.{thresholdRow, ceilingRow}
+use Rattle.cube_rule.specs.Decider.{loopsOf}
+use Rattle.place.specs.declared.Offset.{Offset}
+use Rattle.place.specs.Place.{plusZero, placeOf}
+use Rattle.cell.specs.declared.Found.{Found}
+use Rattle.cell.specs.declared.Found.the-variants.{Loops, Refused}
+use Rattle.cell.specs.declared.CubeAnswer.{CubeAnswer}
+
+-- what a vertex's buffer holds beside the cube number: the mask of its loop
+abbrev pub wordOf : List ℕ → ℕ → ℕ
+wordOf corners mask = mask
+
+-- an offset of zeros, for a place that is not used
+abbrev pub origin : Offset
+origin = record { x = plusZero; y = plusZero; z = plusZero }
+
+-- "cube and edge questions give 3 and 4"
+abbrev pub cubeVerdict : Cut → List ℕ → Checked
+cubeVerdict cut corners = inOrder (thresholdRow cut ∷ ceilingRow corners ∷ [])
+
+-- 01's number and values of each case
+abbrev pub saidCube : Found → Answer ℕ
+saidCube (Loops n) = accepted n
+saidCube (Refused r) = refused r
+
+-- the loops that are answered: none on refusal
+unfoldable pub loopsIf : Checked → List ℕ → List ℕ
+loopsIf Passes masks = masks
+loopsIf (Refuses r) masks = []
+
+abbrev pub loopsAnswered : Cut → List ℕ → List ℕ
+loopsAnswered cut corners = loopsIf (cubeVerdict cut corners) (loopsOf cut corners)
+
+-- the promise of `cube`
+pub record CubeAnswered (corners : List ℕ) (t : ℕ) (r : CubeAnswer) : Type 0 where
+  pub found : saidCube (r .found) ≡ judged (cubeVerdict (record { t = t }) corners) (length (loopsOf (record { t = t }) corners))
+  pub words : r .words ≡ filled 4 0 (map (wordOf corners) (loopsAnswered (record { t = t }) corners))
+  pub offsets : r .offsets ≡ filled 4 origin (map (placeOf (record { t = t }) corners) (loopsAnswered (record { t = t }) corners))

@@ -1,0 +1,89 @@
+// The cube question: the loops of one cube, with the word and the place of each (document 01, "Faces, loops and places").
+use block::{Checked, Cut, Refusal};
+use place::Offset;
+ghost use mathlib.Core.Path.{_≡_};
+ghost use mathlib.Core.Bool.{cond};
+ghost use Prim.Native.Nat.{_<_};
+ghost use lib.Dec.{eqb};
+ghost use Rattle.place.specs.Place.{Placeable, placeOf};
+ghost use Rattle.cell.specs.Answer.{CubeAnswered, cubeVerdict, origin};
+ghost use Rattle.cell.specs.Steps.{emptyAnswer};
+
+// How many loops a cube has, or why it is refused.
+pub enum Found {
+    Loops(u32),
+    Refused(Refusal),
+}
+
+// What the cube question answers: how many loops, and in order the word and the offset of each; unused places hold zero.
+pub struct CubeAnswer {
+    pub found: Found,
+    pub words: [u32; 4],
+    pub offsets: [Offset; 4],
+}
+
+// The cube question. Any eight samples and any threshold may be asked.
+pub fn cube(corners: [u16; 8], t: u16) -> CubeAnswer
+    ensures { λ r. ⌜ CubeAnswered corners t r ⌝ }
+{
+    let cut = Cut { t: t };
+    let checked = check(corners, cut);
+    if let Checked::Refuses(r) = checked {
+        return refuse(r);
+    }
+    let loops = cube::loops_of(corners, cut);
+    let masks = loops.masks;
+    let a = place_or_zero(masks[0], corners, cut);
+    let b = place_or_zero(masks[1], corners, cut);
+    let c = place_or_zero(masks[2], corners, cut);
+    let d = place_or_zero(masks[3], corners, cut);
+    CubeAnswer {
+        found: Found::Loops(loops.count),
+        words: masks,
+        offsets: [a, b, c, d],
+    }
+}
+
+// Rows 3 and 4, in this order.
+fn check(corners: [u16; 8], cut: Cut) -> Checked
+    ensures { λ r. ⌜ r ≡ cubeVerdict cut corners ⌝ }
+{
+    let first = block::check_threshold(cut);
+    if let Checked::Refuses(r) = first {
+        return Checked::Refuses(r);
+    }
+    block::check_ceiling(&corners)
+}
+
+fn zero() -> Offset
+    ensures { λ r. ⌜ r ≡ origin ⌝ }
+{
+    Offset {
+        x: 0.0,
+        y: 0.0,
+        z: 0.0,
+    }
+}
+
+// A refusal: every place holds zero.
+fn refuse(r: Refusal) -> CubeAnswer
+    ensures { λ a. ⌜ a ≡ emptyAnswer r ⌝ }
+{
+    let o = zero();
+    CubeAnswer {
+        found: Found::Refused(r),
+        words: [0, 0, 0, 0],
+        offsets: [o, o, o, o],
+    }
+}
+
+// The place of a loop, or zeros where there is none.
+fn place_or_zero(mask: u32, corners: [u16; 8], cut: Cut) -> Offset
+    requires { ⌜ (0 < mask → Placeable cut corners mask) ⌝ }
+    ensures { λ r. ⌜ r ≡ cond (eqb mask 0) origin (placeOf cut corners mask) ⌝ }
+{
+    if mask == 0 {
+        return zero();
+    }
+    place::place(mask, corners, cut)
+}

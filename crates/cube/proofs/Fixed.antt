@@ -1,0 +1,23 @@
+-- Each promise of the crate fixes its answer: any two answers that it allows are equal.
+-- Assumes nothing.
+use mathlib.Core.Path.{_≡_}
+use mathlib.Core.List.{List}
+use Prim.Native.Nat.{ℕ, _≤_, _<_}
+use Rattle.laws.specs.Fixed.{Fixes}
+use Rattle.laws.proofs.Fixed.{equation-fixes}
+use Rattle.block.specs.declared.Cut.{Cut}
+use Rattle.cube_rule.specs.Edges.{patternOf, crossedMask}
+use Rattle.cube.specs.declared.Loops.{Loops}
+use Rattle.cube.specs.Answer.{cubeLoops}
+
+-- of `pattern`
+pub pattern-fixed : (corners : List ℕ) (cut : Cut) → Fixes (λ (r : ℕ). (r ≡ patternOf cut corners) × (r < 256))
+pattern-fixed corners cut a b p q = equation-fixes (patternOf cut corners) a b (p .0) (q .0)
+
+-- of `crossed_edges`
+pub crossed-edges-fixed : (p : ℕ) → p < 256 → Fixes (λ (r : ℕ). (r ≡ crossedMask p) × (r < 4096))
+crossed-edges-fixed p h a b x y = equation-fixes (crossedMask p) a b (x .0) (y .0)
+
+-- of `loops_of`
+pub loops-fixed : (corners : List ℕ) (cut : Cut) → Fixes (λ (r : Loops). (r ≡ cubeLoops cut corners) × (r .count ≤ 4))
+loops-fixed corners cut a b p q = equation-fixes (cubeLoops cut corners) a b (p .0) (q .0)

@@ -1,0 +1,5 @@
+pub mod Crossed
+pub mod Faces
+pub mod Filling
+pub mod Fixed
+pub mod Bench

@@ -1,0 +1,94 @@
+-- `cube::loops_of` meets its contract. The loop's invariant: the first `n` loops are found, and `m` has the edges of the others.
+-- The measure is what is left of the four places. Assumes nothing.
+use mathlib.Core.Path.{_≡_, refl, sym, ap, ap₂, _∙_}
+use mathlib.Core.Logic.{_⊎_, inl, inr, ⊎-elim}
+use mathlib.Core.List.{List}
+use Prim.Native.Nat.{ℕ, _-_, _≤_, _<_}
+use native.Mathlib.Omega.{arith}
+use lib.Dec.{eqb}
+use borrow.Author.Needs.{needs}
+use borrow.Author.Tests.{not-true, not-false, eqb-true, eqb-false}
+use Rattle.cube_rule.specs.Edges.{crossedMask}
+use Rattle.cube_rule.specs.Loops.{loopsFrom, loopsBy}
+use Rattle.cube.specs.declared.Loops.{Loops}
+use Rattle.cube.specs.Answer.{answered}
+use Rattle.cube.proofs.Filling.{Found, found-none, found-more, found-all}
+use Rattle.cube.proofs.loops_of.Statement.{statement}
+use Rattle.cube.proofs.loops_of.Tie as tie
+
+abbrev Inv-loop : tie.InvT-loop
+Inv-loop m₀ links masks₀ n₀ m masks n = Found links m₀ m masks n
+
+abbrev μ-loop : tie.MeasureT-loop
+μ-loop m₀ links masks₀ n₀ m masks n = 4 - n
+
+some-left : (c : tie.Then1 Inv-loop μ-loop) → 0 < c .before .before .loop .m
+some-left c =
+    let m = c .before .before .loop .m in
+    let e = eqb-false m 0 (not-true (eqb m 0) (c .if1 .taken)) in
+    omega arith
+
+pattern-requires : tie.Need-pattern-requires Inv-loop μ-loop
+pattern-requires c κs = search needs
+
+crossed-edges-requires : tie.Need-crossed-edges-requires Inv-loop μ-loop
+crossed-edges-requires c κs = search needs
+
+links-of-requires : tie.Need-links-of-requires Inv-loop μ-loop
+links-of-requires c κs = c .crossed-edges .ensures .0 ∙ ap crossedMask (c .before .pattern .ensures .0)
+
+loop-holds : tie.Need-loop-holds Inv-loop μ-loop
+loop-holds c = found-none _ _
+
+loop-from-requires : tie.Need-loop-from-requires Inv-loop μ-loop
+loop-from-requires c κs = some-left c
+
+mul-masks : tie.Need-mul-masks Inv-loop μ-loop
+mul-masks c = search needs
+
+array-write-masks : tie.Need-array-write-masks Inv-loop μ-loop
+array-write-masks c = search needs
+
+add-n : tie.Need-add-n Inv-loop μ-loop
+add-n c = search needs
+
+loop-less : tie.Need-loop-less Inv-loop μ-loop
+loop-less c = search needs
+
+loop-again : tie.Need-loop-again Inv-loop μ-loop
+loop-again c =
+    let s = c .before .before .before in
+    found-more _ _ (s .loop .m) (s .loop .n) (c .loop-from .result) (s .loop .masks) (s .loop .inv) (c .before .before .loop-test .taken) (some-left (c .before)) (c .loop-from .ensures)
+
+cast-t14 : tie.Need-cast-t14 Inv-loop μ-loop
+cast-t14 c = search needs
+
+returns : tie.Need-returns Inv-loop μ-loop
+unfolding loopsBy
+returns c =
+    let s = c .before in
+    let a = s .before in (
+      found-all _ _ (s .loop .m) (s .loop .n) (s .loop .masks) (s .loop .inv)
+          (⊎-elim (λ w. inr (eqb-true _ _ (not-false _ (w .1 .left)))) (λ w. inl (omega arith)) (c .loop-test .came))
+          ∙ ap₂ (λ (ls : List ℕ) (m : ℕ). answered (loopsFrom 4 ls m)) (a .links-of .ensures) (a .before .crossed-edges .ensures .0 ∙ ap crossedMask (a .before .before .pattern .ensures .0)),
+      search needs,
+    )
+
+pub loops-of-spec : {M : Type 1} → statement M
+loops-of-spec =
+    tie.close
+    (tie.spec
+    Inv-loop
+    μ-loop
+    pattern-requires
+    crossed-edges-requires
+    links-of-requires
+    loop-holds
+    loop-from-requires
+    mul-masks
+    array-write-masks
+    add-n
+    loop-less
+    loop-again
+    cast-t14
+    returns)

@@ -1,0 +1,80 @@
+-- The edge question answers its fraction at a crossed edge of a cube that neither row 3 nor row 4 refuses.
+-- Assumes nothing.
+use mathlib.Core.Path.{_≡_, refl, ap, _∙_}
+use mathlib.Core.Bool.{Bool, true, false, cond}
+use mathlib.Core.Logic.{_⊎_, inl, inr}
+use mathlib.Core.List.{List, [], _∷_}
+use Prim.Native.Nat.{ℕ, _≤_, _<_}
+use native.Mathlib.Omega.{arith}
+use types.Run.{OneOf}
+use denote.Enum.Declared.{tagOf}
+use lib.ListN.{length, List·getD-eq-default}
+use lib.Ieee.{Float}
+use Rattle.laws.proofs.Tests.{lt-or-ge}
+use Rattle.block.specs.declared.Checked.{Checked}
+use Rattle.block.specs.declared.Checked.the-variants.{Passes, Refuses}
+use Rattle.block.specs.declared.Cut.{Cut}
+use Rattle.block.specs.Answer.{refuses, inOrder}
+use Rattle.block.specs.Grey.{isCeiling, noThreshold}
+use Rattle.block.specs.Rows.{thresholdRow, ceilingRow}
+use Rattle.block.proofs.Lowest.{row-clear}
+use Rattle.cube_rule.specs.Edges.{lower, upper, sampleAt}
+use Rattle.place.specs.declared.Crossing.{Crossing}
+use Rattle.place.specs.declared.Crossing.the-variants.{Nothing, At, Refused}
+use Rattle.place.specs.Crossing.{edgeAnswer, EdgeAnswered}
+use Rattle.place.specs.Place.{fractionAt}
+use Rattle.place.specs.Steps.{Fractional}
+use Rattle.place.proofs.Crossing.{the-type}
+use Rattle.place.proofs.Answers.{edge-answers-fraction}
+use Rattle.place.proofs.Fixed.{said-edge-injective}
+
+module _ (cut : Cut) (corners : List ℕ) (passes : inOrder (thresholdRow cut ∷ ceilingRow corners ∷ []) ≡ Passes) where
+  -- row 3 passes the threshold
+  pub passed-threshold : noThreshold cut ≡ false
+  unfolding inOrder
+  passed-threshold = go (noThreshold cut) passes
+    where
+      go : (b : Bool) → inOrder (cond b (refuses 3 (cut .t)) Passes ∷ ceilingRow corners ∷ []) ≡ Passes → b ≡ false
+      go true h = let z : _≡_ {A = ℕ} 0 1 = cc in absurd (omega arith)
+      go false h = refl
+
+  -- row 4 passes the samples
+  passed-row : ceilingRow corners ≡ Passes
+  unfolding inOrder
+  passed-row = go (noThreshold cut) (ceilingRow corners) passes
+    where
+      go : (b : Bool) (row : Checked) → inOrder (cond b (refuses 3 (cut .t)) Passes ∷ row ∷ []) ≡ Passes → row ≡ Passes
+      go true row h = let z : _≡_ {A = ℕ} 0 1 = cc in absurd (omega arith)
+      go false Passes h = refl
+      go false (Refuses r) h = let z : _≡_ {A = ℕ} 0 1 = cc in absurd (omega arith)
+
+  -- row 4 passes the sample at each corner
+  pub passed-sample : (c : ℕ) → isCeiling (sampleAt corners c) ≡ false
+  passed-sample c = go (lt-or-ge c (length corners))
+    where
+      go : (c < length corners) ⊎ (length corners ≤ c) → isCeiling (sampleAt corners c) ≡ false
+      go (inl l) = row-clear isCeiling 4 corners passed-row c l
+      go (inr g) = ap isCeiling (List·getD-eq-default corners 0 g)
+
+module _ (cut : Cut) (corners : List ℕ) (e : ℕ) (asked : Fractional cut corners e) where
+  -- the promise of `edge`, asked at the edge's ends, leaves one answer
+  pub edge-at : (l u : ℕ) → l ≡ lower e → u ≡ upper e → (r : Crossing) → EdgeAnswered (sampleAt corners l) (sampleAt corners u) (cut .t) r
+      → r ≡ At (fractionAt cut corners e)
+  unfolding fractionAt
+  edge-at l u is-lower is-upper r said =
+      said-edge-injective r (At (fractionAt cut corners e))
+      (said
+      ∙ ap (λ (c : ℕ). edgeAnswer (sampleAt corners c) (sampleAt corners u) (cut .t)) is-lower
+      ∙ ap (λ (c : ℕ). edgeAnswer (sampleAt corners (lower e)) (sampleAt corners c) (cut .t)) is-upper
+      ∙ edge-answers-fraction (sampleAt corners (lower e)) (sampleAt corners (upper e)) (cut .t)
+      (passed-threshold cut corners (asked .passes))
+      (passed-sample cut corners (asked .passes) (lower e))
+      (passed-sample cut corners (asked .passes) (upper e))
+      (asked .crossed))
+
+-- an answer with a fraction is of no other case (0: Nothing, 2: Refused)
+pub no-other-case : (r : Crossing) (f : Float) → r ≡ At f → OneOf (0 ∷ 2 ∷ []) (tagOf the-type r) → ⊥
+no-other-case Nothing f h k = let z : _≡_ {A = ℕ} 0 1 = cc in absurd (omega arith)
+no-other-case (Refused s) f h k = let z : _≡_ {A = ℕ} 0 1 = cc in absurd (omega arith)
+no-other-case (At g) f h (inl k) = omega arith
+no-other-case (At g) f h (inr k) = omega arith

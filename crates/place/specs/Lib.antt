@@ -1,0 +1,4 @@
+pub mod Crossing
+pub mod Place
+pub mod Steps
+pub mod Unit
