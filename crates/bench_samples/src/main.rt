@@ -95,10 +95,19 @@ fn ask_edge(p: u16, q: u16, t: u16) {
     end_line();
 }
 
+fn grey(sample: u16) {
+    number(sample as u64, 4);
+}
+
 fn corners_of(corners: [u16; 8]) {
-    for c in 0..8usize {
-        number(corners[c] as u64, 4);
-    }
+    grey(corners[0]);
+    grey(corners[1]);
+    grey(corners[2]);
+    grey(corners[3]);
+    grey(corners[4]);
+    grey(corners[5]);
+    grey(corners[6]);
+    grey(corners[7]);
 }
 
 fn ask_cube(corners: [u16; 8], t: u16) {
@@ -117,9 +126,10 @@ fn ask_cube(corners: [u16; 8], t: u16) {
         }
     }
     end_line();
-    for i in 0..4usize {
-        loop_at(answer, i);
-    }
+    loop_at(answer, 0);
+    loop_at(answer, 1);
+    loop_at(answer, 2);
+    loop_at(answer, 3);
 }
 
 fn loop_at(answer: CubeAnswer, i: usize)
@@ -128,7 +138,8 @@ fn loop_at(answer: CubeAnswer, i: usize)
     let words = answer.words;
     let offsets = answer.offsets;
     io::write_all(1, b"  ");
-    number(words[i] as u64, 4);
+    let word = words[i];
+    number(word as u64, 4);
     offset(offsets[i]);
     end_line();
 }
