@@ -1,9 +1,13 @@
 // Runs the samples of document 01, "Samples on the bench", and the cases around them, and writes what it got: a line for each question,
 // in hexadecimal. What it must write stands in the file stdout.
 ghost use Prim.Native.Nat.{_≤_, _<_};
-use block::{Refusal, Size, Sized};
-use cell::{CubeAnswer, Found};
-use place::{Crossing, Offset};
+use block::Refusal;
+use block::Size;
+use block::Sized;
+use cell::CubeAnswer;
+use cell::Found;
+use place::Crossing;
+use place::Offset;
 
 fn glyph(digit: u64) -> u8
     requires { ⌜ digit < 16 ⌝ }

@@ -2,3 +2,4 @@ pub mod Lowest
 pub mod Products
 pub mod Rows
 pub mod Sizes
+pub mod Fixed

@@ -51,7 +51,7 @@ module _ (cut : Cut) (corners : List ℕ) where
     passes = v;
   }
 
--- ---- the answer of an accepted cube, and of a refused one
+  -- ---- the answer of an accepted cube, and of a refused one
 
   pub accepted-found : cubeVerdict cut corners ≡ Passes → (n : ℕ) → n ≡ length (loopsOf cut corners)
       → saidCube (Loops n) ≡ judged (cubeVerdict cut corners) (length (loopsOf cut corners))

@@ -1,5 +1,7 @@
 // The cube question: the loops of one cube, with the word and the place of each (document 01, "Faces, loops and places").
-use block::{Checked, Cut, Refusal};
+use block::Checked;
+use block::Cut;
+use block::Refusal;
 use place::Offset;
 ghost use mathlib.Core.Path.{_≡_};
 ghost use mathlib.Core.Bool.{cond};

@@ -5,12 +5,11 @@ use mathlib.Core.Path.{_≡_, refl, sym, ap, ap₂, _∙_}
 use mathlib.Core.Bool.{Bool, true, false, not, cond, Bool·beq}
 use mathlib.Core.List.{List, _∷_}
 use Prim.Native.Nat.{ℕ, _<_}
-use lib.Dec.{T, eqb, ltb, eqb→eq, leb→le}
-use lib.Bits.{bitAnd, bitXor}
 use native.Mathlib.Nat.{zero-mul}
+use lib.Dec.{T, eqb, eqb→eq, lit<}
+use lib.Bits.{bitAnd, bitXor}
 use borrow.Author.Tests.{eq-eqb, ne-eqb}
 use Rattle.laws.specs.Bits.{differ, holds}
-use Rattle.laws.proofs.Bits.{holds-mask, mask-lt}
 use Rattle.laws.proofs.Tests.{both, left, right, same-eq, below, below-at}
 use Rattle.block.specs.declared.Cut.{Cut}
 use Rattle.block.specs.Grey.{positive}
@@ -19,18 +18,11 @@ use Rattle.cube_rule.specs.Faces.{ringCorner}
 use Rattle.cube_rule.specs.Links.{decisions}
 use Rattle.cube_rule.specs.Decider.{joined}
 use Rattle.cube_rule.specs.Loops.{ringMask, firstLink, secondLink, placed, faceLink}
+use Rattle.cube_rule.proofs.Laws.{pattern-lt, pattern-sign}
+use Rattle.cube_rule.proofs.Tables.{ring-corner-lt}
 use Rattle.cube.specs.declared.Face.{Face}
 use Rattle.cube.specs.declared.Links.{Links}
 use Rattle.cube.specs.Faces.{cutFace}
-
--- the sign that the pattern has at a corner is that of the sample there
-pub corner-sign : (cut : Cut) (corners : List ℕ) (c : ℕ) → c < 8 → holds (patternOf cut corners) c ≡ positive cut (sampleAt corners c)
-unfolding patternOf
-corner-sign cut corners c h = holds-mask (λ (c : ℕ). positive cut (sampleAt corners c)) 8 c h
-
-pub pattern-lt : (cut : Cut) (corners : List ℕ) → patternOf cut corners < 256
-unfolding patternOf
-pattern-lt cut corners = mask-lt (λ (c : ℕ). positive cut (sampleAt corners c)) 8
 
 -- the masks of the face f
 abbrev pub faceOf : ℕ → Face
@@ -40,37 +32,33 @@ faceOf f = record { ring = placed f 15; corner = placed f 9; next = placed f 3 }
 abbrev crossedOn : ℕ → ℕ → ℕ
 crossedOn f p = ringMask (holds p (ringCorner f 0)) (holds p (ringCorner f 1)) (holds p (ringCorner f 2)) (holds p (ringCorner f 3))
 
--- ---- the crossed edges of a face are those of the cube that are on it, and all four are crossed if these are the whole ring
+-- ---- the crossed edges of a face are those of the cube that are on it, and it has four if these are its whole ring
 
 abbrev sameEdges : ℕ → ℕ → Bool
 sameEdges p f = eqb (placed f (crossedOn f p)) (bitAnd (crossedMask p) (placed f 15))
 
-abbrev allAlike : ℕ → ℕ → Bool
-allAlike p f = Bool·beq (eqb (crossedOn f p) 15) (eqb (bitAnd (crossedMask p) (placed f 15)) (placed f 15))
+abbrev sameFour : ℕ → ℕ → Bool
+sameFour p f = Bool·beq (eqb (crossedOn f p) 15) (eqb (bitAnd (crossedMask p) (placed f 15)) (placed f 15))
 
-onFace : ℕ → ℕ → Bool
-onFace p f = both (sameEdges p f) (allAlike p f)
+crossedAlike : ℕ → ℕ → Bool
+crossedAlike p f = both (sameEdges p f) (sameFour p f)
 
-on-faces : T (below 256 (λ (p : ℕ). below 6 (onFace p)))
-unfolding below onFace crossedMask
-on-faces = tt
+crossed-alike-computed : T (below 256 (λ (p : ℕ). below 6 (crossedAlike p)))
+unfolding below crossedAlike crossedMask
+crossed-alike-computed = tt
 
-on-face : (p f : ℕ) → p < 256 → f < 6 → T (onFace p f)
-on-face p f p-lt f-lt = below-at 6 (onFace p) (below-at 256 (λ (p : ℕ). below 6 (onFace p)) on-faces p p-lt) f f-lt
+crossed-alike : (p f : ℕ) → p < 256 → f < 6 → T (crossedAlike p f)
+crossed-alike p f p-lt f-lt = below-at 6 (crossedAlike p) (below-at 256 (λ (p : ℕ). below 6 (crossedAlike p)) crossed-alike-computed p p-lt) f f-lt
 
 same-edges : (p f : ℕ) → p < 256 → f < 6 → placed f (crossedOn f p) ≡ bitAnd (crossedMask p) (placed f 15)
-unfolding onFace
-same-edges p f p-lt f-lt = eqb→eq _ _ (left (sameEdges p f) (allAlike p f) (on-face p f p-lt f-lt))
+unfolding crossedAlike
+same-edges p f p-lt f-lt = eqb→eq _ _ (left (sameEdges p f) (sameFour p f) (crossed-alike p f p-lt f-lt))
 
-all-alike : (p f : ℕ) → p < 256 → f < 6 → eqb (crossedOn f p) 15 ≡ eqb (bitAnd (crossedMask p) (placed f 15)) (placed f 15)
-unfolding onFace
-all-alike p f p-lt f-lt = same-eq _ _ (right (sameEdges p f) (allAlike p f) (on-face p f p-lt f-lt))
+same-four : (p f : ℕ) → p < 256 → f < 6 → eqb (crossedOn f p) 15 ≡ eqb (bitAnd (crossedMask p) (placed f 15)) (placed f 15)
+unfolding crossedAlike
+same-four p f p-lt f-lt = same-eq _ _ (right (sameEdges p f) (sameFour p f) (crossed-alike p f p-lt f-lt))
 
--- ---- the first corner of a face is one of the eight, and its edges but two are the other two
-
-corner-lt : (f : ℕ) → f < 6 → ringCorner f 0 < 8
-unfolding below
-corner-lt f h = leb→le _ _ (below-at 6 (λ (f : ℕ). ltb (ringCorner f 0) 8) tt f h)
+-- ---- the edges of a face but two are the other two
 
 others : ℕ → ℕ → ℕ → Bool
 others m n f = eqb (bitXor (placed f 15) (placed f m)) (placed f n)
@@ -79,20 +67,21 @@ others-at : (m n : ℕ) → T (below 6 (others m n)) → (f : ℕ) → f < 6 →
 unfolding others
 others-at m n t f h = eqb→eq _ _ (below-at 6 (others m n) t f h)
 
--- ---- the links
+-- ---- the links, where x are the crossed edges of the face f and m the same as edges of the cube
 
 module _ (f : ℕ) (f-lt : f < 6) (m x : ℕ) (edges : placed f x ≡ m) where
-  first-cut : (all e : Bool) → _≡_ {A = ℕ} (cond all (cond e (placed f 9) (placed f 3)) m) (placed f (cond all (cond e 9 3) x))
+  first-cut : (four first : Bool) → _≡_ {A = ℕ} (cond four (cond first (placed f 9) (placed f 3)) m) (placed f (cond four (cond first 9 3) x))
   first-cut true true = refl
   first-cut true false = refl
-  first-cut false e = sym edges
+  first-cut false first = sym edges
 
-  second-cut : (all e : Bool) → _≡_ {A = ℕ} (cond all (cond e (bitXor (placed f 15) (placed f 9)) (bitXor (placed f 15) (placed f 3))) 0) (placed f (cond all (cond e 6 12) 0))
+  second-cut : (four first : Bool) → _≡_ {A = ℕ} (cond four (cond first (bitXor (placed f 15) (placed f 9)) (bitXor (placed f 15) (placed f 3))) 0) (placed f (cond four (cond first 6 12) 0))
   unfolding below others
   second-cut true true = others-at 9 6 tt f f-lt
   second-cut true false = others-at 3 12 tt f f-lt
-  second-cut false e = simp zero-mul
+  second-cut false first = simp zero-mul
 
+-- two signs differ if the one is the other's opposite
 differ-not : (a b : Bool) → differ a b ≡ Bool·beq a (not b)
 differ-not true true = refl
 differ-not true false = refl
@@ -105,7 +94,7 @@ foundOn cut corners m f =
     cutFace (faceOf f) (bitAnd m (placed f 15)) (differ (positive cut (sampleAt corners (ringCorner f 0))) (decisions joined cut corners f))
 
 module _ (cut : Cut) (corners : List ℕ) (m : ℕ) (m-is : m ≡ crossedMask (patternOf cut corners)) where
-  -- is what the rule says
+  -- is what the rule says of it
   links-on : (f : ℕ) → f < 6
       → (foundOn cut corners m f .first ≡ faceLink firstLink (patternOf cut corners) f (decisions joined cut corners f))
       × (foundOn cut corners m f .second ≡ faceLink secondLink (patternOf cut corners) f (decisions joined cut corners f))
@@ -115,11 +104,11 @@ module _ (cut : Cut) (corners : List ℕ) (m : ℕ) (m-is : m ≡ crossedMask (p
       let n = bitAnd m (placed f 15) in
       let first = Bool·beq (holds p (ringCorner f 0)) (not (decisions joined cut corners f)) in
       let edges : placed f x ≡ n = rw m-is (same-edges p f (pattern-lt cut corners) f-lt) in
-      let all : eqb n (placed f 15) ≡ eqb x 15 = rw m-is (sym (all-alike p f (pattern-lt cut corners) f-lt)) in
+      let four : eqb n (placed f 15) ≡ eqb x 15 = rw m-is (sym (same-four p f (pattern-lt cut corners) f-lt)) in
       let sign : differ (positive cut (sampleAt corners (ringCorner f 0))) (decisions joined cut corners f) ≡ first =
-      ap (λ (a : Bool). differ a (decisions joined cut corners f)) (sym (corner-sign cut corners (ringCorner f 0) (corner-lt f f-lt)))
+      ap (λ (a : Bool). differ a (decisions joined cut corners f)) (sym (pattern-sign cut corners (ringCorner f 0) (ring-corner-lt f 0 f-lt (lit< tt))))
       ∙ differ-not (holds p (ringCorner f 0)) (decisions joined cut corners f) in
-      let told : (u v w : ℕ) → _ = λ (u v w : ℕ). ap₂ (λ (b c : Bool). cond b (cond c u v) w) all sign in (
+      let told : (u v w : ℕ) → _ = λ (u v w : ℕ). ap₂ (λ (b c : Bool). cond b (cond c u v) w) four sign in (
         told (placed f 9) (placed f 3) n ∙ first-cut f f-lt n x edges (eqb x 15) first,
         told (bitXor (placed f 15) (placed f 9)) (bitXor (placed f 15) (placed f 3)) 0 ∙ second-cut f f-lt n x edges (eqb x 15) first,
       )

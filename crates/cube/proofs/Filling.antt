@@ -8,7 +8,7 @@ use native.Mathlib.Numerals.{add-one}
 use native.Mathlib.Omega.{arith}
 use borrow.Author.Tests.{ne-eqb}
 use lib.Bits.{bitXor}
-use lib.ListN.{length, getD, take, drop, set, length-drop, length-take}
+use lib.ListN.{length, getD, take, drop, set, length-drop}
 use lib.Seq.{take-suc, drop-cons, take-all, length-take-le}
 use Rattle.laws.specs.Filled.{filled}
 use Rattle.laws.proofs.Filled.{filled-more}
@@ -33,7 +33,7 @@ none-left zero ls m e = refl
 none-left (suc k) ls m (inl z) = absurd (omega arith)
 none-left (suc k) ls m (inr z) = rw z
 
--- some edges are left: the loop of its lowest edge, and those of the others
+-- some edges are left: the loop of the lowest, and those of the edges that are not in it
 some-left : (n : ℕ) (ls : List ℕ) (m : ℕ) → 0 < m → loopsFrom (suc n) ls m ≡ loopFrom ls (lowestEdge m) ∷ loopsFrom n ls (bitXor m (loopFrom ls (lowestEdge m)))
 unfolding loopsFrom
 some-left n ls m h = let e = ne-eqb m 0 (λ q. omega arith) in rw e
@@ -49,10 +49,12 @@ module _ (ls : List ℕ) (m₀ : ℕ) where
     pub rest : drop n all ≡ loopsFrom (4 - n) ls m
     pub front : places ≡ filled 4 0 (take n all)
 
+  -- at first
   pub found-none : Found m₀ (0 ∷ 0 ∷ 0 ∷ 0 ∷ []) 0
   unfolding filled
   found-none = record { room = omega arith; within = omega arith; rest = refl; front = refl }
 
+  -- after one loop more
   pub found-more : (m n l : ℕ) (places : List ℕ) → Found m places n → n < 4 → 0 < m → l ≡ loopFrom ls (lowestEdge m)
       → Found (bitXor m l) (set places n l) (n + 1)
   found-more m n l places s h p q = record {
@@ -78,6 +80,7 @@ module _ (ls : List ℕ) (m₀ : ℕ) where
           ∙ filled-more 4 0 (take n all) l (rw taken h)
           ∙ ap (λ (xs : List ℕ). filled 4 0 xs) (sym (next .1))
 
+  -- at last
   pub found-all : (m n : ℕ) (places : List ℕ) → Found m places n → (4 - n ≡ 0) ⊎ (m ≡ 0)
       → _≡_ {A = Loops} (record { count = n; masks = places }) (answered all)
   found-all m n places s e =

@@ -2,4 +2,3 @@ pub mod Crossed
 pub mod Faces
 pub mod Filling
 pub mod Fixed
-pub mod Bench

@@ -5,8 +5,7 @@ use mathlib.Core.List.{List}
 use lib.ListN.{length}
 use Rattle.laws.specs.Filled.{filled}
 use Rattle.block.specs.declared.Cut.{Cut}
-use Rattle.cube_rule.specs.Decider.{joined}
-use Rattle.cube_rule.specs.Loops.{loopsBy}
+use Rattle.cube_rule.specs.Decider.{loopsOf}
 use Rattle.cube.specs.declared.Loops.{Loops}
 
 -- how many there are, and their masks in order, with 0 in the places left over of four
@@ -14,4 +13,4 @@ abbrev pub answered : List ℕ → Loops
 answered masks = record { count = length masks; masks = filled 4 0 masks }
 
 abbrev pub cubeLoops : Cut → List ℕ → Loops
-cubeLoops cut corners = answered (loopsBy joined cut corners)
+cubeLoops cut corners = answered (loopsOf cut corners)

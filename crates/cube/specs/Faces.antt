@@ -8,7 +8,7 @@ use Rattle.cube.specs.declared.Face.{Face}
 use Rattle.cube.specs.declared.Links.{Links}
 
 -- The links of a face of whose edges those in m are crossed. With four crossed edges they are the two that meet at its first corner, if
--- `first` says so, else the two that meet at its next, and the other two. With two, these.
+-- `first` says so, else the two that meet at the next, and the other two. With two, these.
 abbrev pub cutFace : Face → ℕ → Bool → Links
 cutFace face m first = record {
   first = cond (eqb m (face .ring)) (cond first (face .corner) (face .next)) m;

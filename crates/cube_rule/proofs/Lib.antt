@@ -10,3 +10,4 @@ pub mod Shared
 pub mod Decider
 pub mod Saddle
 pub mod Doubtful
+pub mod Bench

@@ -6,3 +6,4 @@ pub mod Rule
 pub mod Laws
 pub mod Decider
 pub mod Saddle
+pub mod Bench

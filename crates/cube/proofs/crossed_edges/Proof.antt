@@ -1,7 +1,6 @@
 -- `cube::crossed_edges` meets its contract, by the rule of its table.
 -- Assumes nothing.
-use mathlib.Core.Path.{_≡_, subst}
-use Prim.Native.Nat.{ℕ, _<_}
+use Prim.Native.Nat.{_<_}
 use borrow.Author.Needs.{needs}
 use Rattle.cube_rule.specs.Edges.{crossedMask}
 use Rattle.cube.proofs.Crossed.{entry-at, crossed-lt}

@@ -14,24 +14,6 @@ use Rattle.cube_rule.specs.Decider.{over, joined}
 use Rattle.cube.proofs.decide.Statement.{statement}
 use Rattle.cube.proofs.decide.Tie as tie
 
-difference-requires : tie.Need-difference-requires
-difference-requires c κs = search needs
-
-difference-requires-2 : tie.Need-difference-requires-2
-difference-requires-2 c κs = search needs
-
-product-requires : tie.Need-product-requires
-product-requires c κs = search needs
-
-difference-requires-3 : tie.Need-difference-requires-3
-difference-requires-3 c κs = search needs
-
-difference-requires-4 : tie.Need-difference-requires-4
-difference-requires-4 c κs = search needs
-
-product-requires-2 : tie.Need-product-requires-2
-product-requires-2 c κs = search needs
-
 -- a product z of two differences x and y
 product-is : (x y z a b : ℤ) → toZ w64 (ofZ w64 z) ≡ z → z ≡ toZ w32 (ofZ w32 x) *ℤ toZ w32 (ofZ w32 y)
     → toZ w32 (ofZ w32 x) ≡ x → x ≡ a → toZ w32 (ofZ w32 y) ≡ y → y ≡ b → toZ w64 (ofZ w64 z) ≡ a *ℤ b
@@ -83,11 +65,11 @@ pub decide-spec : {M : Type 1} → statement M
 decide-spec =
     tie.close
     (tie.spec
-    difference-requires
-    difference-requires-2
-    product-requires
-    difference-requires-3
-    difference-requires-4
-    product-requires-2
+    (λ c κs. search needs)
+    (λ c κs. search needs)
+    (λ c κs. search needs)
+    (λ c κs. search needs)
+    (λ c κs. search needs)
+    (λ c κs. search needs)
     returns
     returns-2)

@@ -1,6 +1,5 @@
--- `cube::face_links` meets its contract.
+-- `cube::face_links` meets its contract: on a face with four crossed edges by what `decide` says, else by the crossed edges alone.
 -- Assumes nothing.
-use mathlib.Core.Path.{_≡_}
 use mathlib.Core.Logic.{⊎-elim}
 use mathlib.Core.Bool.{Bool}
 use borrow.Author.Needs.{needs}
@@ -11,14 +10,12 @@ use Rattle.cube.proofs.Faces.{cut-two, cut-four}
 use Rattle.cube.proofs.face_links.Statement.{statement}
 use Rattle.cube.proofs.face_links.Tie as tie
 
+-- the edges that meet at the first corner are linked
 abbrev at-first : tie.Start → Bool
 at-first c = differ (positive (c .args .cut) (c .args .p)) (joined (c .args .cut) (c .args .p) (c .args .q) (c .args .r) (c .args .s))
 
 returns : tie.Need-returns
 returns c = let s = c .before .before .before in cut-two (s .args .face) _ (at-first s) (c .if1 .taken)
-
-decide-requires : tie.Need-decide-requires
-decide-requires c κs = search needs
 
 returns-2 : tie.Need-returns-2
 returns-2 c =
@@ -30,4 +27,4 @@ returns-2 c =
     (c .before .before .if2 .came))
 
 pub face-links-spec : {M : Type 1} → statement M
-face-links-spec = tie.close (tie.spec returns decide-requires returns-2)
+face-links-spec = tie.close (tie.spec returns (λ c κs. search needs) returns-2)

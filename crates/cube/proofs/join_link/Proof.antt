@@ -1,6 +1,5 @@
 -- `cube::join_link` meets its contract.
 -- Assumes nothing.
-use mathlib.Core.Path.{_≡_}
 use borrow.Author.Tests.{eq-eqb, ne-eqb}
 use Rattle.cube.proofs.join_link.Statement.{statement}
 use Rattle.cube.proofs.join_link.Tie as tie

@@ -17,15 +17,6 @@ lowest-lt c = trailing-lt 32 (c .args .m) (c .pre) (c .fits .m .fits)
 shl-round : tie.Need-shl-round
 shl-round c = lowest-lt c
 
-round-requires : tie.Need-round-requires
-round-requires c κs = search needs
-
-round-requires-2 : tie.Need-round-requires-2
-round-requires-2 c κs = search needs
-
-round-requires-3 : tie.Need-round-requires-3
-round-requires-3 c κs = search needs
-
 -- three rounds: x, y and z after each
 three : (ls : List ℕ) (e x y z : ℕ) → x ≡ grow (2 ^ e) ls → y ≡ grow x ls → z ≡ grow y ls → z ≡ loopFrom ls e
 unfolding loopFrom
@@ -45,4 +36,4 @@ returns c =
     three ls e x y z first second third
 
 pub loop-from-spec : {M : Type 1} → statement M
-loop-from-spec = tie.close (tie.spec shl-round round-requires round-requires-2 round-requires-3 returns)
+loop-from-spec = tie.close (tie.spec shl-round (λ c κs. search needs) (λ c κs. search needs) (λ c κs. search needs) returns)

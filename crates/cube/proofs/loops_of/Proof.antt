@@ -1,16 +1,15 @@
 -- `cube::loops_of` meets its contract. The loop's invariant: the first `n` loops are found, and `m` has the edges of the others.
 -- The measure is what is left of the four places. Assumes nothing.
-use mathlib.Core.Path.{_≡_, refl, sym, ap, ap₂, _∙_}
+use mathlib.Core.Path.{ap, ap₂, _∙_}
 use mathlib.Core.Logic.{_⊎_, inl, inr, ⊎-elim}
 use mathlib.Core.List.{List}
-use Prim.Native.Nat.{ℕ, _-_, _≤_, _<_}
+use Prim.Native.Nat.{ℕ, _-_, _<_}
 use native.Mathlib.Omega.{arith}
 use lib.Dec.{eqb}
 use borrow.Author.Needs.{needs}
 use borrow.Author.Tests.{not-true, not-false, eqb-true, eqb-false}
 use Rattle.cube_rule.specs.Edges.{crossedMask}
 use Rattle.cube_rule.specs.Loops.{loopsFrom, loopsBy}
-use Rattle.cube.specs.declared.Loops.{Loops}
 use Rattle.cube.specs.Answer.{answered}
 use Rattle.cube.proofs.Filling.{Found, found-none, found-more, found-all}
 use Rattle.cube.proofs.loops_of.Statement.{statement}
@@ -28,12 +27,6 @@ some-left c =
     let e = eqb-false m 0 (not-true (eqb m 0) (c .if1 .taken)) in
     omega arith
 
-pattern-requires : tie.Need-pattern-requires Inv-loop μ-loop
-pattern-requires c κs = search needs
-
-crossed-edges-requires : tie.Need-crossed-edges-requires Inv-loop μ-loop
-crossed-edges-requires c κs = search needs
-
 links-of-requires : tie.Need-links-of-requires Inv-loop μ-loop
 links-of-requires c κs = c .crossed-edges .ensures .0 ∙ ap crossedMask (c .before .pattern .ensures .0)
 
@@ -43,25 +36,10 @@ loop-holds c = found-none _ _
 loop-from-requires : tie.Need-loop-from-requires Inv-loop μ-loop
 loop-from-requires c κs = some-left c
 
-mul-masks : tie.Need-mul-masks Inv-loop μ-loop
-mul-masks c = search needs
-
-array-write-masks : tie.Need-array-write-masks Inv-loop μ-loop
-array-write-masks c = search needs
-
-add-n : tie.Need-add-n Inv-loop μ-loop
-add-n c = search needs
-
-loop-less : tie.Need-loop-less Inv-loop μ-loop
-loop-less c = search needs
-
 loop-again : tie.Need-loop-again Inv-loop μ-loop
 loop-again c =
     let s = c .before .before .before in
     found-more _ _ (s .loop .m) (s .loop .n) (c .loop-from .result) (s .loop .masks) (s .loop .inv) (c .before .before .loop-test .taken) (some-left (c .before)) (c .loop-from .ensures)
-
-cast-t14 : tie.Need-cast-t14 Inv-loop μ-loop
-cast-t14 c = search needs
 
 returns : tie.Need-returns Inv-loop μ-loop
 unfolding loopsBy
@@ -80,15 +58,15 @@ loops-of-spec =
     (tie.spec
     Inv-loop
     μ-loop
-    pattern-requires
-    crossed-edges-requires
+    (λ c κs. search needs)
+    (λ c κs. search needs)
     links-of-requires
     loop-holds
     loop-from-requires
-    mul-masks
-    array-write-masks
-    add-n
-    loop-less
+    (λ c. search needs)
+    (λ c. search needs)
+    (λ c. search needs)
+    (λ c. search needs)
     loop-again
-    cast-t14
+    (λ c. search needs)
     returns)

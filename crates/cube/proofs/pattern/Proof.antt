@@ -1,14 +1,14 @@
 -- `cube::pattern` meets its contract. The loop's invariant: `p` is the mask of the positive corners below `c`.
 -- The measure is what is left of the eight. Assumes nothing.
-use mathlib.Core.Path.{_≡_, refl, sym, ap, ap₂, _∙_}
+use mathlib.Core.Path.{_≡_, refl, ap, _∙_}
 use mathlib.Core.Logic.{⊎-elim}
 use mathlib.Core.Bool.{Bool, true, false}
-use Prim.Native.Nat.{ℕ, suc, _+_, _-_, _*_, _^_, _%_, _≤_, _<_}
+use mathlib.Core.List.{List}
+use Prim.Native.Nat.{ℕ, _+_, _-_, _*_, _^_, _%_, _≤_, _<_}
 use native.Mathlib.Numerals.{add-one}
 use native.Mathlib.Nat.{one-mul, zero-mul, add-zero}
-use lib.Pow.{pow-lt}
-use mathlib.Core.List.{List}
 use native.Mathlib.Omega.{arith}
+use lib.Pow.{pow-lt}
 use borrow.Author.Needs.{needs}
 use borrow.Author.Tests.{le-leb, lt-leb}
 use Rattle.laws.specs.Bits.{maskOf}
@@ -22,6 +22,7 @@ use Rattle.cube.proofs.pattern.Tie as tie
 abbrev signs : Cut → List ℕ → ℕ → Bool
 signs cut corners c = positive cut (sampleAt corners c)
 
+-- the mask before the first corner, and after a corner that is positive or negative
 mask-start : (f : ℕ → Bool) → _≡_ {A = ℕ} 0 (maskOf f 0)
 unfolding maskOf
 mask-start f = refl
@@ -43,15 +44,6 @@ abbrev μ-loop : tie.MeasureT-loop
 loop-holds : tie.Need-loop-holds Inv-loop μ-loop
 loop-holds c = (search needs, mask-start _)
 
-mul-if1 : tie.Need-mul-if1 Inv-loop μ-loop
-mul-if1 c = search needs
-
-array-read-if1 : tie.Need-array-read-if1 Inv-loop μ-loop
-array-read-if1 c = search needs
-
-shl-p : tie.Need-shl-p Inv-loop μ-loop
-shl-p c = search needs
-
 add-p : tie.Need-add-p Inv-loop μ-loop
 add-p c =
     let i = c .before .before .before .loop .c in
@@ -60,12 +52,6 @@ add-p c =
     let e = shift-one i 64 (omega arith) in
     let m = mask-lt (signs (c .before .before .before .before .args .cut) (c .before .before .before .before .args .t1)) i in
     omega (arith, c .before .before .before .loop .inv .1)
-
-add-c : tie.Need-add-c Inv-loop μ-loop
-add-c c = search needs
-
-loop-less : tie.Need-loop-less Inv-loop μ-loop
-loop-less c = search needs
 
 loop-again : tie.Need-loop-again Inv-loop μ-loop
 loop-again c =
@@ -96,11 +82,11 @@ pattern-spec =
     Inv-loop
     μ-loop
     loop-holds
-    mul-if1
-    array-read-if1
-    shl-p
+    (λ c. search needs)
+    (λ c. search needs)
+    (λ c. search needs)
     add-p
-    add-c
-    loop-less
+    (λ c. search needs)
+    (λ c. search needs)
     loop-again
     returns)

@@ -1,7 +1,6 @@
 -- `cube::product` meets its contract: the product of two i32 fits an i64.
 -- Assumes nothing.
-use mathlib.Core.Path.{_≡_, ap₂, _∙_}
-use Prim.Native.Nat.{_^_, _<_}
+use mathlib.Core.Path.{ap₂, _∙_}
 use native.Mathlib.Omega.{arith}
 use lib.IntN.{ℤ, _*ℤ_}
 use mir.Facts.{toZ-ofZ}

@@ -1,19 +1,23 @@
-use mathlib.Core.List.{List, [], _∷_}
-use native.Mathlib.Numerals.{add-one}
-use lib.Seq.{drop-cons}
+-- `cube::round` meets its contract. The loop's invariant: from `x`, the links that are left lead where all of them lead from `m`.
+-- The measure is what is left of the twelve. Assumes nothing.
 use mathlib.Core.Path.{_≡_, refl, sym, ap, _∙_}
+use mathlib.Core.List.{List}
 use Prim.Native.Nat.{ℕ, _≤_, _<_, _-_, _+_}
+use native.Mathlib.Numerals.{add-one}
 use native.Mathlib.Omega.{arith}
 use lib.ListN.{drop, length, getD, drop-of-length-le}
+use lib.Seq.{drop-cons}
 use borrow.Author.Needs.{needs}
 use Rattle.cube_rule.specs.Loops.{grow, join}
 use Rattle.cube.proofs.round.Statement.{statement}
 use Rattle.cube.proofs.round.Tie as tie
 
+-- the next link
 grow-step : (x k : ℕ) (ls : List ℕ) → k < length ls → grow (join x (getD ls k 0)) (drop (k + 1) ls) ≡ grow x (drop k ls)
 unfolding grow
 grow-step x k ls h = ap (λ (n : ℕ). grow (join x (getD ls k 0)) (drop n ls)) (add-one k) ∙ sym (ap (λ (l : List ℕ). grow x l) (drop-cons ls k 0 h))
 
+-- no link is left
 grow-all : (x k : ℕ) (ls : List ℕ) → length ls ≤ k → grow x (drop k ls) ≡ x
 unfolding grow
 grow-all x k ls h = ap (λ (l : List ℕ). grow x l) (drop-of-length-le ls h)
@@ -27,28 +31,17 @@ abbrev μ-loop : tie.MeasureT-loop
 loop-holds : tie.Need-loop-holds Inv-loop μ-loop
 loop-holds c = (search needs, refl)
 
-mul-join-link : tie.Need-mul-join-link Inv-loop μ-loop
-mul-join-link c = omega arith
-
-array-read-join-link : tie.Need-array-read-join-link Inv-loop μ-loop
-array-read-join-link c = omega arith
-
-join-link-requires : tie.Need-join-link-requires Inv-loop μ-loop
-join-link-requires c κs = search needs
-
-add-k : tie.Need-add-k Inv-loop μ-loop
-add-k c = omega arith
-
-loop-less : tie.Need-loop-less Inv-loop μ-loop
-loop-less c = omega arith
-
 loop-again : tie.Need-loop-again Inv-loop μ-loop
 loop-again c =
     let k = c .before .before .loop .k in
     let ls = c .before .before .before .args .t1 in
     let n : length ls ≡ 12 = c .before .before .before .good .0 .1 .0 .1 in
-    let h : k < length ls = omega arith in
-    (omega arith, ap (λ (x : ℕ). grow x (drop (k + 1) ls)) (c .join-link .ensures) ∙ grow-step (c .before .before .loop .x) k ls h ∙ c .before .before .loop .inv .1)
+    let h : k < length ls = omega arith in (
+      omega arith,
+      ap (λ (x : ℕ). grow x (drop (k + 1) ls)) (c .join-link .ensures)
+          ∙ grow-step (c .before .before .loop .x) k ls h
+          ∙ c .before .before .loop .inv .1,
+    )
 
 returns : tie.Need-returns Inv-loop μ-loop
 returns c =
@@ -63,10 +56,10 @@ round-spec =
     Inv-loop
     μ-loop
     loop-holds
-    mul-join-link
-    array-read-join-link
-    join-link-requires
-    add-k
-    loop-less
+    (λ c. omega arith)
+    (λ c. omega arith)
+    (λ c κs. search needs)
+    (λ c. omega arith)
+    (λ c. omega arith)
     loop-again
     returns)

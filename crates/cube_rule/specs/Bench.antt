@@ -3,8 +3,7 @@
 use Prim.Native.Nat.{ℕ}
 use mathlib.Core.List.{List, [], _∷_, map}
 use Rattle.block.specs.declared.Cut.{Cut}
-use Rattle.cube_rule.specs.Decider.{joined}
-use Rattle.cube_rule.specs.Loops.{loopsBy}
+use Rattle.cube_rule.specs.Decider.{loopsOf}
 
 abbrev pub hundred : Cut
 hundred = record { t = 100 }
@@ -35,4 +34,4 @@ expected =
     ∷ (0x221 ∷ 0x412 ∷ 0x144 ∷ 0x888 ∷ []) ∷ []
 
 abbrev pub found : List (List ℕ)
-found = map (loopsBy joined hundred) cubes
+found = map (loopsOf hundred) cubes
