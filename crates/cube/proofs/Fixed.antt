@@ -9,10 +9,15 @@ use Rattle.block.specs.declared.Cut.{Cut}
 use Rattle.cube_rule.specs.Edges.{patternOf, crossedMask}
 use Rattle.cube.specs.declared.Loops.{Loops}
 use Rattle.cube.specs.Answer.{cubeLoops}
+use Rattle.cube.specs.Table.{maskTable}
 
 -- of `pattern`
 pub pattern-fixed : (corners : List ℕ) (cut : Cut) → Fixes (λ (r : ℕ). (r ≡ patternOf cut corners) × (r < 256))
 pattern-fixed corners cut a b p q = equation-fixes (patternOf cut corners) a b (p .0) (q .0)
+
+-- of `masks`
+pub masks-fixed : Fixes (λ (r : List ℕ). r ≡ maskTable)
+masks-fixed = equation-fixes maskTable
 
 -- of `crossed_edges`
 pub crossed-edges-fixed : (p : ℕ) → p < 256 → Fixes (λ (r : ℕ). (r ≡ crossedMask p) × (r < 4096))

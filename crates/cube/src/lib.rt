@@ -14,6 +14,7 @@ ghost use Rattle.cube_rule.specs.Loops.{linksOf, join, grow, loopFrom};
 ghost use Rattle.cube_rule.specs.Rule.{lowestEdge};
 ghost use Rattle.cube.specs.Faces.{cutFace};
 ghost use Rattle.cube.specs.Answer.{cubeLoops};
+ghost use Rattle.cube.specs.Table.{maskTable};
 
 // The loops of a cube: how many, and their masks by their lowest edge, 0 where there is none.
 pub struct Loops {
@@ -345,13 +346,20 @@ pub fn pattern(corners: [u16; 8], cut: Cut) -> usize
     p
 }
 
-// The crossed edges of a sign pattern, as a mask.
-pub fn crossed_edges(p: usize) -> u32
-    requires { ⌜ p < 256 ⌝ }
+// The table of 256 masks: the crossed edges of each sign pattern. A caller that reads it often makes it once and lends it.
+pub fn masks() -> [u32; 256]
+    ensures { λ r. ⌜ r ≡ maskTable ⌝ }
+{
+    CROSSED
+}
+
+// The crossed edges of a sign pattern, as a mask: the one place where the table is read.
+pub fn crossed_edges(table: &[u32; 256], p: usize) -> u32
+    requires { ⌜ (p < 256) × (now table ≡ maskTable) ⌝ }
     ensures { λ r. ⌜ r ≡ crossedMask p ⌝ }
     ensures { λ r. ⌜ r < 4096 ⌝ }
 {
-    CROSSED[p]
+    table[p]
 }
 
 // Sample minus t, signed.
@@ -512,7 +520,8 @@ pub fn loops_of(corners: [u16; 8], cut: Cut) -> Loops
     ensures { λ r. ⌜ r ≡ cubeLoops cut corners ⌝ }
     ensures { λ r. ⌜ r .count ≤ 4 ⌝ }
 {
-    let mut m = crossed_edges(pattern(corners, cut));
+    let table = masks();
+    let mut m = crossed_edges(&table, pattern(corners, cut));
     let links = links_of(corners, cut, m);
     let mut masks: [u32; 4] = [0; 4];
     let mut n: usize = 0;

@@ -6,3 +6,5 @@ pub mod Fixed
 pub mod Filled
 pub mod Signed
 pub mod Within
+pub mod Below
+pub mod Counting

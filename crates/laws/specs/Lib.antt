@@ -2,3 +2,4 @@ pub mod Bits
 pub mod Index
 pub mod Fixed
 pub mod Filled
+pub mod Below

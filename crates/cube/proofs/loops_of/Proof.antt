@@ -27,6 +27,9 @@ some-left c =
     let e = eqb-false m 0 (not-true (eqb m 0) (c .if1 .taken)) in
     omega arith
 
+crossed-edges-requires : tie.Need-crossed-edges-requires Inv-loop μ-loop
+crossed-edges-requires c κs = (c .pattern .ensures .1, c .before .before .masks .ensures)
+
 links-of-requires : tie.Need-links-of-requires Inv-loop μ-loop
 links-of-requires c κs = c .crossed-edges .ensures .0 ∙ ap crossedMask (c .before .pattern .ensures .0)
 
@@ -60,6 +63,7 @@ loops-of-spec =
     μ-loop
     (λ c κs. search needs)
     (λ c κs. search needs)
+    crossed-edges-requires
     links-of-requires
     loop-holds
     loop-from-requires

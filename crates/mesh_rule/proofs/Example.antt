@@ -1,0 +1,49 @@
+-- Blocks whose mesh is computed: that of document 01, "The program", one with a vertex that no quad uses, and one with its metal on a face.
+-- Assumes nothing.
+use Prim.Native.Nat.{ℕ}
+use mathlib.Core.Path.{_≡_, refl}
+use mathlib.Core.List.{List, [], _∷_, _++_}
+use lib.ListN.{replicate}
+use lib.Count.{trailingZeros}
+use Rattle.laws.specs.Below.{below}
+use Rattle.laws.specs.Bits.{maskOf}
+use Rattle.block.specs.declared.Cut.{Cut}
+use Rattle.block.specs.declared.Size.{Size}
+use Rattle.cube_rule.specs.Edges.{patternOf, crossedMask}
+use Rattle.cube_rule.specs.Loops.{grow, loopFrom, loopsFrom, loopsBy}
+use Rattle.cube_rule.specs.Decider.{joined, loopsOf}
+use Rattle.mesh_rule.specs.Grid.{cornersOf}
+use Rattle.mesh_rule.specs.Mesh.{Vertex, flat, verticesOf, verticesBefore, vertices, vertexNumber, quadAt, quadsBefore, quads}
+
+abbrev size : ℕ → Size
+size n = record { nx = n; ny = n; nz = n }
+
+abbrev cut : Cut
+cut = record { t = 100 }
+
+abbrev vertex : ℕ → ℕ → Vertex
+vertex c m = record { cube = c; mask = m }
+
+-- three samples along each axis, 400 in the middle and 0 elsewhere, t = 100
+abbrev samples : List ℕ
+samples = replicate 13 0 ++ 400 ∷ replicate 13 0
+
+pub the-vertices : vertices loopsOf (size 3) samples cut
+    ≡ vertex 0 0x888 ∷ vertex 1 0x448 ∷ vertex 2 0x284 ∷ vertex 3 0x144 ∷ vertex 4 0x822 ∷ vertex 5 0x412 ∷ vertex 6 0x221 ∷ vertex 7 0x111 ∷ []
+unfolding vertices verticesBefore verticesOf cornersOf below loopsBy joined patternOf crossedMask loopsFrom loopFrom grow maskOf trailingZeros
+the-vertices = refl
+
+pub the-quads : flat (quads loopsOf (size 3) samples cut)
+    ≡ 0 ∷ 4 ∷ 6 ∷ 2 ∷ 1 ∷ 3 ∷ 7 ∷ 5 ∷ 0 ∷ 1 ∷ 5 ∷ 4 ∷ 2 ∷ 6 ∷ 7 ∷ 3 ∷ 0 ∷ 2 ∷ 3 ∷ 1 ∷ 4 ∷ 5 ∷ 7 ∷ 6 ∷ []
+unfolding quads quadsBefore quadAt vertexNumber verticesBefore verticesOf cornersOf below loopsBy joined patternOf crossedMask loopsFrom loopFrom grow maskOf trailingZeros
+the-quads = refl
+
+-- one metal sample at the corner of the smallest block: its one vertex is on no inner edge
+pub unused-vertex : vertices loopsOf (size 2) (400 ∷ replicate 7 0) cut ≡ vertex 0 0x111 ∷ []
+unfolding vertices verticesBefore verticesOf cornersOf below loopsBy joined patternOf crossedMask loopsFrom loopFrom grow maskOf trailingZeros
+unused-vertex = refl
+
+-- one metal sample, (1,1,2), in the middle of the last face along z: of its five edges only the one along z, from (1,1,1), is inner
+pub on-a-face : flat (quads loopsOf (size 3) (replicate 22 0 ++ 400 ∷ replicate 4 0) cut) ≡ 0 ∷ 2 ∷ 3 ∷ 1 ∷ []
+unfolding quads quadsBefore quadAt vertexNumber verticesBefore verticesOf cornersOf below loopsBy joined patternOf crossedMask loopsFrom loopFrom grow maskOf trailingZeros
+on-a-face = refl

@@ -1,0 +1,141 @@
+-- "An inner edge lies in four cubes": the test `inner` holds exactly if the four cubes of 01's table are cubes of the block, and then the
+-- edge, if it is crossed, is crossed in each of them by the number that the table gives it there.
+-- Assumes nothing.
+use Prim.Native.Nat.{ℕ, _+_, _-_, _<_}
+use mathlib.Core.Path.{_≡_, refl}
+use mathlib.Core.Logic.{_↔_}
+use mathlib.Core.Bool.{Bool, true, false, _&&_, false≢true}
+use mathlib.Core.List.{List}
+use native.Mathlib.Omega.{arith}
+use lib.Dec.{ltb}
+use borrow.Author.Tests.{ltb-true, lt-ltb}
+use Rattle.block.specs.declared.Cut.{Cut}
+use Rattle.block.specs.declared.Size.{Size}
+use Rattle.block.specs.Numbering.{Axis, X, Y, Z}
+use Rattle.cube_rule.specs.Edges.{crossedAt}
+use Rattle.mesh_rule.specs.Grid.{cornersAt, between, inner, crossedFrom}
+
+pub both : (a b : Bool) → (a && b) ≡ true → (a ≡ true) × (b ≡ true)
+both true b h = (refl, h)
+both false b h = absurd (false≢true h)
+
+both-then : {A : Type 0} (a b : Bool) → (a && b) ≡ true → (a ≡ true → b ≡ true → A) → A
+both-then a b h f = f (both a b h .0) (both a b h .1)
+
+and : {a b : Bool} → a ≡ true → b ≡ true → (a && b) ≡ true
+and p q = rw (p, q)
+
+-- ---- the tests as facts
+
+-- c is neither the first nor the last of n
+abbrev pub Mid : ℕ → ℕ → Type 0
+Mid n c = (0 < c) × (c + 1 < n)
+
+between-mid : (n c : ℕ) → between n c ≡ true → Mid n c
+between-mid n c h = both-then (ltb 0 c) _ h (λ low high. omega (arith, ltb-true))
+
+pub mid-between : (n c : ℕ) → Mid n c → between n c ≡ true
+mid-between n c h = and (lt-ltb 0 c (h .0)) (lt-ltb (c + 1) n (h .1))
+
+abbrev pub Inner : Size → Axis → ℕ → ℕ → ℕ → Type 0
+Inner n X i j k = (i + 1 < n .nx) × Mid (n .ny) j × Mid (n .nz) k
+Inner n Y i j k = Mid (n .nx) i × (j + 1 < n .ny) × Mid (n .nz) k
+Inner n Z i j k = Mid (n .nx) i × Mid (n .ny) j × (k + 1 < n .nz)
+
+pub inner-facts : (n : Size) (a : Axis) (i j k : ℕ) → inner n a i j k ≡ true → Inner n a i j k
+inner-facts n X i j k h = let p = both _ _ h in let q = both _ _ (p .0) in (ltb-true _ _ (q .0), between-mid _ _ (q .1), between-mid _ _ (p .1))
+inner-facts n Y i j k h = let p = both _ _ h in let q = both _ _ (p .0) in (between-mid _ _ (q .0), ltb-true _ _ (q .1), between-mid _ _ (p .1))
+inner-facts n Z i j k h = let p = both _ _ h in let q = both _ _ (p .0) in (between-mid _ _ (q .0), between-mid _ _ (q .1), ltb-true _ _ (p .1))
+
+pub inner-test : (n : Size) (a : Axis) (i j k : ℕ) → Inner n a i j k → inner n a i j k ≡ true
+inner-test n X i j k h = and (and (lt-ltb _ _ (h .0)) (mid-between _ _ (h .1))) (mid-between _ _ (h .2))
+inner-test n Y i j k h = and (and (mid-between _ _ (h .0)) (lt-ltb _ _ (h .1))) (mid-between _ _ (h .2))
+inner-test n Z i j k h = and (and (mid-between _ _ (h .0)) (mid-between _ _ (h .1))) (lt-ltb _ _ (h .2))
+
+-- an inner edge starts at a sample of the block
+pub inner-sample : (n : Size) (a : Axis) (i j k : ℕ) → Inner n a i j k → (i < n .nx) × (j < n .ny) × (k < n .nz)
+inner-sample n X i j k h = omega arith
+inner-sample n Y i j k h = omega arith
+inner-sample n Z i j k h = omega arith
+
+-- ---- 01's table: what holds of each of the four cubes and of the edge's number there, in the order of the table
+abbrev pub Round : (ℕ → ℕ → ℕ → ℕ → Type 0) → Axis → ℕ → ℕ → ℕ → Type 0
+Round P X i j k = P i (j - 1) (k - 1) 3 × P i j (k - 1) 2 × P i j k 0 × P i (j - 1) k 1
+Round P Y i j k = P (i - 1) j (k - 1) 7 × P (i - 1) j k 5 × P i j k 4 × P i j (k - 1) 6
+Round P Z i j k = P (i - 1) (j - 1) k 11 × P i (j - 1) k 10 × P i j k 8 × P (i - 1) j k 9
+
+pub map-round : {P Q : ℕ → ℕ → ℕ → ℕ → Type 0} → ((x y z e : ℕ) → P x y z e → Q x y z e)
+    → (a : Axis) (i j k : ℕ) → Round P a i j k → Round Q a i j k
+map-round f X i j k r = (f _ _ _ _ (r .0), f _ _ _ _ (r .1), f _ _ _ _ (r .2), f _ _ _ _ (r .3))
+map-round f Y i j k r = (f _ _ _ _ (r .0), f _ _ _ _ (r .1), f _ _ _ _ (r .2), f _ _ _ _ (r .3))
+map-round f Z i j k r = (f _ _ _ _ (r .0), f _ _ _ _ (r .1), f _ _ _ _ (r .2), f _ _ _ _ (r .3))
+
+-- (x,y,z) is a cube of the block
+abbrev pub CubeIn : Size → ℕ → ℕ → ℕ → Type 0
+CubeIn n x y z = (x < n .nx - 1) × (y < n .ny - 1) × (z < n .nz - 1)
+
+-- the coordinates from which the table takes one are not 0
+abbrev pub OneLower : Axis → ℕ → ℕ → ℕ → Type 0
+OneLower X i j k = (0 < j) × (0 < k)
+OneLower Y i j k = (0 < i) × (0 < k)
+OneLower Z i j k = (0 < i) × (0 < j)
+
+-- the four cubes are there
+abbrev pub FourCubes : Size → Axis → ℕ → ℕ → ℕ → Type 0
+FourCubes n a i j k = OneLower a i j k × Round (λ x y z e. CubeIn n x y z) a i j k
+
+pub four-cubes : (n : Size) (a : Axis) (i j k : ℕ) → Inner n a i j k → FourCubes n a i j k
+four-cubes n X i j k h = omega arith
+four-cubes n Y i j k h = omega arith
+four-cubes n Z i j k h = omega arith
+
+four-inner : (n : Size) (a : Axis) (i j k : ℕ) → FourCubes n a i j k → Inner n a i j k
+four-inner n X i j k h = omega arith
+four-inner n Y i j k h = omega arith
+four-inner n Z i j k h = omega arith
+
+pub inner-is-in-four-cubes : (n : Size) (a : Axis) (i j k : ℕ) → (inner n a i j k ≡ true) ↔ FourCubes n a i j k
+inner-is-in-four-cubes n a i j k =
+    (λ h. four-cubes n a i j k (inner-facts n a i j k h), λ h. inner-test n a i j k (four-inner n a i j k h))
+
+-- ---- crossed in each of the four
+
+-- (x,y,z) is a cube of the block, and its edge e is crossed
+pub record CrossedIn (n : Size) (s : List ℕ) (cut : Cut) (x y z e : ℕ) : Type 0 where
+  pub cube-in : CubeIn n x y z
+  pub edge-lt : e < 12
+  pub is-crossed : crossedAt cut (cornersAt n s x y z) e ≡ true
+
+back : (a : ℕ) → 0 < a → a - 1 + 1 ≡ a
+back a h = omega arith
+
+-- the edge's two samples are the corners of the edge's number in each of the four cubes
+pub crossed-round : (n : Size) (s : List ℕ) (cut : Cut) (a : Axis) (i j k : ℕ) → Inner n a i j k → crossedFrom n s cut a i j k ≡ true
+    → Round (CrossedIn n s cut) a i j k
+crossed-round n s cut X i j k h x =
+    let f = four-cubes n X i j k h .1 in
+    let bj = back j (h .1 .0) in
+    let bk = back k (h .2 .0) in (
+      record { cube-in = f .0; edge-lt = omega arith; is-crossed = rw (bj, bk) x },
+      record { cube-in = f .1; edge-lt = omega arith; is-crossed = rw bk x },
+      record { cube-in = f .2; edge-lt = omega arith; is-crossed = x },
+      record { cube-in = f .3; edge-lt = omega arith; is-crossed = rw bj x },
+    )
+crossed-round n s cut Y i j k h x =
+    let f = four-cubes n Y i j k h .1 in
+    let bi = back i (h .0 .0) in
+    let bk = back k (h .2 .0) in (
+      record { cube-in = f .0; edge-lt = omega arith; is-crossed = rw (bi, bk) x },
+      record { cube-in = f .1; edge-lt = omega arith; is-crossed = rw bi x },
+      record { cube-in = f .2; edge-lt = omega arith; is-crossed = x },
+      record { cube-in = f .3; edge-lt = omega arith; is-crossed = rw bk x },
+    )
+crossed-round n s cut Z i j k h x =
+    let f = four-cubes n Z i j k h .1 in
+    let bi = back i (h .0 .0) in
+    let bj = back j (h .1 .0) in (
+      record { cube-in = f .0; edge-lt = omega arith; is-crossed = rw (bi, bj) x },
+      record { cube-in = f .1; edge-lt = omega arith; is-crossed = rw bj x },
+      record { cube-in = f .2; edge-lt = omega arith; is-crossed = x },
+      record { cube-in = f .3; edge-lt = omega arith; is-crossed = rw bi x },
+    )

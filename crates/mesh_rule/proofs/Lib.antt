@@ -1,0 +1,9 @@
+pub mod Inner
+pub mod Holders
+pub mod Numbers
+pub mod Quads
+pub mod Counts
+pub mod Reading
+pub mod Joined
+pub mod StandIn
+pub mod Example

@@ -1,0 +1,66 @@
+-- A block of samples: signs, the corners of its cubes, its edges and which of them are inner and crossed (document 01, "The block and
+-- its numbering" and "The mesh"). `n` is the size, `s` the samples. Assumes nothing.
+use Prim.Native.Nat.{ℕ, _+_, _*_, _-_, _/_, _%_, _≤_, _<_}
+use mathlib.Core.Path.{_≡_}
+use mathlib.Core.Bool.{Bool, false, _&&_, _||_}
+use mathlib.Core.List.{List, [], _∷_}
+use lib.Dec.{ltb, eqb}
+use lib.ListN.{getD}
+use Rattle.laws.specs.Bits.{differ}
+use Rattle.block.specs.declared.Cut.{Cut}
+use Rattle.block.specs.declared.Size.{Size}
+use Rattle.block.specs.Grey.{positive}
+use Rattle.block.specs.Numbering.{Axis, X, Y, Z, sampleIndex}
+
+-- the sample (i,j,k), and whether it is positive (metal)
+abbrev pub sampleAt : Size → List ℕ → ℕ → ℕ → ℕ → ℕ
+sampleAt n s i j k = getD s (sampleIndex n i j k) 0
+
+abbrev pub metal : Size → List ℕ → Cut → ℕ → ℕ → ℕ → Bool
+metal n s cut i j k = positive cut (sampleAt n s i j k)
+
+-- the corners 0 to 7 of the cube (i,j,k): corner x + 2y + 4z
+abbrev pub cornersAt : Size → List ℕ → ℕ → ℕ → ℕ → List ℕ
+cornersAt n s i j k =
+    sampleAt n s i j k ∷ sampleAt n s (i + 1) j k ∷ sampleAt n s i (j + 1) k ∷ sampleAt n s (i + 1) (j + 1) k
+    ∷ sampleAt n s i j (k + 1) ∷ sampleAt n s (i + 1) j (k + 1) ∷ sampleAt n s i (j + 1) (k + 1) ∷ sampleAt n s (i + 1) (j + 1) (k + 1) ∷ []
+
+-- the corners of the cube with number c
+unfoldable pub cornersOf : Size → List ℕ → ℕ → List ℕ
+cornersOf n s c = cornersAt n s (c % (n .nx - 1)) (c / (n .nx - 1) % (n .ny - 1)) (c / (n .nx - 1) / (n .ny - 1))
+
+-- c is neither the first nor the last of n
+abbrev pub between : ℕ → ℕ → Bool
+between n c = ltb 0 c && ltb (c + 1) n
+
+-- "An inner edge lies in four cubes": the edge from (i,j,k) along the axis lies in the box, and on no face of it
+abbrev pub inner : Size → Axis → ℕ → ℕ → ℕ → Bool
+inner n X i j k = ltb (i + 1) (n .nx) && between (n .ny) j && between (n .nz) k
+inner n Y i j k = between (n .nx) i && ltb (j + 1) (n .ny) && between (n .nz) k
+inner n Z i j k = between (n .nx) i && between (n .ny) j && ltb (k + 1) (n .nz)
+
+-- its ends differ in sign
+abbrev pub crossedFrom : Size → List ℕ → Cut → Axis → ℕ → ℕ → ℕ → Bool
+crossedFrom n s cut X i j k = differ (metal n s cut i j k) (metal n s cut (i + 1) j k)
+crossedFrom n s cut Y i j k = differ (metal n s cut i j k) (metal n s cut i (j + 1) k)
+crossedFrom n s cut Z i j k = differ (metal n s cut i j k) (metal n s cut i j (k + 1))
+
+-- (i,j,k) lies on one of the twelve edges of the box: two of its coordinates are at an end
+abbrev pub atEnd : ℕ → ℕ → Bool
+atEnd n c = eqb c 0 || eqb (c + 1) n
+
+abbrev pub onBoxEdge : Size → ℕ → ℕ → ℕ → Bool
+onBoxEdge n i j k =
+    atEnd (n .ny) j && atEnd (n .nz) k || atEnd (n .nx) i && atEnd (n .nz) k || atEnd (n .nx) i && atEnd (n .ny) j
+
+-- (i,j,k) is a sample of the box, off its twelve edges
+pub record OffEdges (n : Size) (i j k : ℕ) : Type 0 where
+  pub x-in : i < n .nx
+  pub y-in : j < n .ny
+  pub z-in : k < n .nz
+  pub off : onBoxEdge n i j k ≡ false
+
+pub record AtLeastThree (n : Size) : Type 0 where
+  pub x-three : 3 ≤ n .nx
+  pub y-three : 3 ≤ n .ny
+  pub z-three : 3 ≤ n .nz
