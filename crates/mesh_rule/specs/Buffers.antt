@@ -1,0 +1,87 @@
+-- What the lent buffers hold of a mesh, whole and layer by layer (document 01, "The mesh"): "A vertex takes two u32 (cube number, mask) in
+-- one buffer and three f64 in another", four u32 a quad. Layer k has the cubes (i,j,k), plane k the samples (i,j,k). Assumes nothing.
+use Prim.Native.Nat.{ℕ, _+_, _*_, _-_, _/_, _%_}
+use mathlib.Core.List.{List, [], _∷_, map}
+use lib.ListN.{length}
+use lib.Ieee.{Float}
+use Rattle.laws.specs.Below.{below}
+use Rattle.block.specs.declared.Cut.{Cut}
+use Rattle.block.specs.declared.Size.{Size}
+use Rattle.block.specs.Numbering.{Axis, cubeCount, sampleCount}
+use Rattle.cube_rule.specs.Decider.{loopsOf}
+use Rattle.place.specs.declared.Offset.{Offset}
+use Rattle.place.specs.Place.{placeOf}
+use Rattle.cell.specs.Answer.{wordOf}
+use Rattle.mesh_rule.specs.Grid.{cornersOf}
+use Rattle.mesh_rule.specs.Mesh.{verticesBefore, quadAt, quads, flat}
+
+-- a cube number before each word, and the three coordinates of each offset
+abbrev pub pairs : ℕ → List ℕ → List ℕ
+pairs c [] = []
+pairs c (w ∷ ws) = c ∷ w ∷ pairs c ws
+
+abbrev pub triples : List Offset → List Float
+triples [] = []
+triples (o ∷ os) = o .x ∷ o .y ∷ o .z ∷ triples os
+
+-- the cubes of a layer, and the number of its first
+abbrev pub layerSize : Size → ℕ
+layerSize n = (n .nx - 1) * (n .ny - 1)
+
+abbrev pub planeSize : Size → ℕ
+planeSize n = n .nx * n .ny
+
+module _ (n : Size) (s : List ℕ) (cut : Cut) where
+  -- the masks of the loops of the cube c
+  abbrev pub masksOf : ℕ → List ℕ
+  masksOf c = loopsOf cut (cornersOf n s c)
+
+  -- what the vertex buffers hold of the cube c
+  unfoldable pub cubeWords : ℕ → List ℕ
+  cubeWords c = pairs c (map (wordOf (cornersOf n s c)) (masksOf c))
+
+  unfoldable pub cubeOffsets : ℕ → List Float
+  cubeOffsets c = triples (map (placeOf cut (cornersOf n s c)) (masksOf c))
+
+  -- of the m cubes from c on
+  abbrev pub runMasks : ℕ → ℕ → List ℕ
+  runMasks c m = below (λ (x : ℕ). masksOf (c + x)) m
+
+  abbrev pub runWords : ℕ → ℕ → List ℕ
+  runWords c m = below (λ (x : ℕ). cubeWords (c + x)) m
+
+  abbrev pub runOffsets : ℕ → ℕ → List Float
+  runOffsets c m = below (λ (x : ℕ). cubeOffsets (c + x)) m
+
+  -- of the layer k: its words, its offsets, how many vertices it has, and the number of its first vertex
+  abbrev pub layerWords : ℕ → List ℕ
+  layerWords k = runWords (layerSize n * k) (layerSize n)
+
+  abbrev pub layerOffsets : ℕ → List Float
+  layerOffsets k = runOffsets (layerSize n * k) (layerSize n)
+
+  abbrev pub layerCount : ℕ → ℕ
+  layerCount k = length (runMasks (layerSize n * k) (layerSize n))
+
+  abbrev pub layerFirst : ℕ → ℕ
+  layerFirst k = length (verticesBefore loopsOf n s cut (layerSize n * k))
+
+  -- what the quad buffer holds of the edges along an axis whose lower samples are the m from index p on, and of those on the plane k
+  abbrev pub quadsFrom : Axis → ℕ → List ℕ
+  quadsFrom a p = flat (quadAt loopsOf n s cut a (p % n .nx) (p / n .nx % n .ny) (p / n .nx / n .ny))
+
+  abbrev pub runQuads : Axis → ℕ → ℕ → List ℕ
+  runQuads a p m = below (λ (x : ℕ). quadsFrom a (p + x)) m
+
+  abbrev pub planeQuads : Axis → ℕ → List ℕ
+  planeQuads a k = runQuads a (planeSize n * k) (planeSize n)
+
+  -- the whole buffers
+  unfoldable pub meshWords : List ℕ
+  meshWords = below cubeWords (cubeCount n)
+
+  unfoldable pub meshOffsets : List Float
+  meshOffsets = below cubeOffsets (cubeCount n)
+
+  unfoldable pub meshQuads : List ℕ
+  meshQuads = flat (quads loopsOf n s cut)
