@@ -3,3 +3,4 @@ pub mod Products
 pub mod Rows
 pub mod Sizes
 pub mod Fixed
+pub mod Order

@@ -8,3 +8,8 @@ pub mod Signed
 pub mod Within
 pub mod Below
 pub mod Counting
+pub mod Over
+pub mod Stores
+pub mod Pack
+pub mod Words
+pub mod Visit

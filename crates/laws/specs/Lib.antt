@@ -3,3 +3,4 @@ pub mod Index
 pub mod Fixed
 pub mod Filled
 pub mod Below
+pub mod Pack

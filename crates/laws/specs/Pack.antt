@@ -1,0 +1,13 @@
+-- A word of bits made of a function from places to bits, and the sum of such a function.
+-- Assumes nothing.
+use Prim.Native.Nat.{ℕ, zero, suc, _+_, _*_, _^_}
+
+-- bit i of the word is f i, for i below n; each f i is 0 or 1
+unfoldable pub pack : (ℕ → ℕ) → ℕ → ℕ
+pack f zero = 0
+pack f (suc n) = f n * 2 ^ n + pack f n
+
+-- f 0 + f 1 + .. + f (n − 1)
+unfoldable pub total : (ℕ → ℕ) → ℕ → ℕ
+total f zero = 0
+total f (suc n) = f n + total f n
