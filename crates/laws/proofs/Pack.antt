@@ -1,6 +1,6 @@
 -- The laws of words of bits: every operation on words is an operation on their bits.
 -- Assumes nothing.
-use mathlib.Core.Path.{_≡_, refl, sym, ap, ap₂, _∙_, subst}
+use mathlib.Core.Path.{_≡_, refl, ap, ap₂, _∙_, subst}
 use mathlib.Core.Bool.{Bool}
 use Prim.Native.Nat.{ℕ, zero, suc, _+_, _-_, _*_, _/_, _%_, _^_, _≤_, _<_}
 use native.Mathlib.Nat.{add-zero, add-suc, add-mul, mul-assoc, mul-comm, mul-one, one-mul, zero-mul, pow-suc, mul-le-mul-left, mul-le-mul-right}
@@ -125,13 +125,20 @@ xor-none a b e = omega (arith, xor-add-and a b, and-le-l a b, and-le-r a b)
 
 -- ---- shifts, masks and counts
 
--- the next bit is put in by a shift and an `or`
-pub pack-put : (f : ℕ → ℕ) → ((i : ℕ) → f i ≤ 1) → (n : ℕ) → n < 64 → bitOr (pack f n) (f n * 2 ^ n % 2 ^ 64) ≡ pack f (n + 1)
-pack-put f b n h =
-    rw (shl-exact 1 n 64 (bound (b n)) (omega arith), pack-one f n) (or-shifted-r (f n) n (pack f n) (pack-lt f b n))
+-- the next bit is put into a number of w bits by a shift and an `or`
+pub pack-put : (f : ℕ → ℕ) → ((i : ℕ) → f i ≤ 1) → (n w : ℕ) → n < w → bitOr (pack f n) (f n * 2 ^ n % 2 ^ w) ≡ pack f (n + 1)
+pack-put f b n w h =
+    rw (shl-exact 1 n w (bound (b n)) (omega arith), pack-one f n) (or-shifted-r (f n) n (pack f n) (pack-lt f b n))
   where
     bound : {a : ℕ} → a ≤ 1 → a < 2
     bound q = omega arith
+
+-- and m bits more in the same way
+pub pack-join : (f : ℕ → ℕ) → ((i : ℕ) → f i ≤ 1) → (n m w : ℕ) → n + m ≤ w
+    → bitOr (pack f n) (pack (λ j. f (n + j)) m * 2 ^ n % 2 ^ w) ≡ pack f (n + m)
+pack-join f b n m w h =
+    rw (shl-exact m n w (pack-lt (λ j. f (n + j)) (λ j. b (n + j)) m) (omega arith), pack-split f n m)
+    (or-shifted-r (pack (λ j. f (n + j)) m) n (pack f n) (pack-lt f b n))
 
 -- a word of 64 ones, shifted until n are left
 pub ones-shr : (n : ℕ) → n ≤ 64 → 18446744073709551615 / 2 ^ (64 - n) ≡ 2 ^ n - 1

@@ -1,7 +1,7 @@
 -- Visiting the set bits of a word by shifting it: `k = trailing zeros of w; ..; w = (w >> k) >> 1; i += k + 1`. The word that is left holds
 -- the bits from i on, and the lists of the places passed are all there, since those of the places skipped are empty. Assumes nothing.
 use mathlib.Core.Path.{_≡_, refl, sym, ap, _∙_, subst}
-use Prim.Native.Nat.{ℕ, zero, suc, _+_, _-_, _*_, _/_, _%_, _^_, _≤_, _<_}
+use Prim.Native.Nat.{ℕ, zero, suc, _+_, _-_, _/_, _%_, _^_, _≤_, _<_}
 use mathlib.Core.List.{List, [], _++_, append-nil}
 use native.Mathlib.Nat.{add-zero, add-suc, mod-one, mod-eq-of-lt, lt-of-lt-of-le}
 use native.Mathlib.Numerals.{add-one}
@@ -10,7 +10,6 @@ use native.Mathlib.Omega.{arith}
 use lib.Pow.{shr-shr, pow-mono, mod-pow-add}
 use lib.Count.{trailingZeros, under}
 use Rattle.laws.specs.Below.{below}
-use Rattle.laws.specs.Pack.{pack, total}
 use Rattle.laws.proofs.Pack.{pack-lt, pack-zero}
 use Rattle.laws.proofs.Trailing.{trailing-set}
 use Rattle.laws.proofs.Words.{Word, word-low, word-high, word-same, word-bit}

@@ -6,8 +6,7 @@ use mathlib.Core.List.{List}
 use Prim.Native.Nat.{ℕ, zero, suc, _+_, _*_, _/_, _%_, _^_, _<_}
 use native.Mathlib.Omega.{arith}
 use lib.ListN.{getD}
-use Rattle.laws.specs.Bits.{bit, maskOf}
-use Rattle.laws.specs.Pack.{pack}
+use Rattle.laws.specs.Bits.{bit}
 use Rattle.laws.proofs.Pack.{pack-cong, pack-mask}
 use Rattle.laws.proofs.Words.{or-quiet, xor-quiet, bit-same}
 use Rattle.block.specs.declared.Cut.{Cut}

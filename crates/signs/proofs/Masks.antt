@@ -32,6 +32,7 @@ limit-part n w m h ins out =
     all : m + (64 - m) ≡ 64
     all = omega arith
 
+-- the places before the last have a next one
 pub below-last : (x n : ℕ) → ltb x (n - 1) ≡ ltb (x + 1) n
 below-last x n = go (lt-or-ge (x + 1) n)
   where

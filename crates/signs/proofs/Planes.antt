@@ -1,12 +1,12 @@
 -- The words of a plane: the room that they take, the buffer that holds them, and single signs in it.
 -- Assumes nothing.
-use mathlib.Core.Path.{_≡_, refl, sym, ap, _∙_}
-use mathlib.Core.List.{List, [], _∷_}
+use mathlib.Core.Path.{_≡_, ap, _∙_}
+use mathlib.Core.List.{List}
 use Prim.Native.Nat.{ℕ, _+_, _*_, _/_, _%_, _^_, _≤_, _<_}
 use native.Mathlib.Nat.{mul-le-mul}
 use native.Mathlib.Omega.{arith}
 use lib.ListN.{length, getD}
-use Rattle.laws.specs.Below.{below, over}
+use Rattle.laws.specs.Below.{over}
 use Rattle.laws.specs.Bits.{bit}
 use Rattle.laws.proofs.Over.{each, each-length, over-length, over-at}
 use Rattle.laws.proofs.Words.{Word, word-further, word-bit}

@@ -3,17 +3,18 @@
 use mathlib.Core.Path.{_≡_, refl, sym, ap, _∙_}
 use mathlib.Core.Bool.{_&&_}
 use mathlib.Core.List.{List}
-use Prim.Native.Nat.{ℕ, _+_, _-_, _*_, _≤_, _<_}
-use native.Mathlib.Nat.{mul-add, mul-one, mul-le-mul-left}
+use Prim.Native.Nat.{ℕ, _+_, _-_, _*_, _%_, _^_, _≤_, _<_}
+use native.Mathlib.Nat.{add-assoc, mul-add, mul-one, mul-le-mul-left}
 use native.Mathlib.Omega.{arith}
 use borrow.Author.Tests.{lt-ltb, le-ltb}
+use lib.Bits.{bitOr}
 use lib.Dec.{leb, ltb}
-use lib.ListN.{length, getD}
+use lib.ListN.{getD}
 use Rattle.laws.specs.Bits.{bit}
 use Rattle.laws.specs.Pack.{pack}
 use Rattle.laws.proofs.Bits.{bit-le}
 use Rattle.laws.proofs.Index.{pair-lt}
-use Rattle.laws.proofs.Pack.{pack-more, pack-cong}
+use Rattle.laws.proofs.Pack.{pack-more, pack-cong, pack-join}
 use Rattle.block.specs.declared.Cut.{Cut}
 use Rattle.block.specs.declared.Size.{Size}
 use Rattle.mesh_rule.specs.Grid.{metal}
@@ -40,6 +41,14 @@ module _ (n : Size) (s : List ℕ) (cut : Cut) (j k : ℕ) where
 
 pub signs-bit : (s : List ℕ) (t from i : ℕ) → signsFrom s t from i ≤ 1
 signs-bit s t from i = bit-le (leb t (getD s (from + i) 0))
+
+-- the signs of 64 samples from those of 32 and of the next 32
+pub halves : (s : List ℕ) (t from : ℕ)
+    → bitOr (pack (signsFrom s t from) 32) (pack (signsFrom s t (from + 32)) 32 * 2 ^ 32 % 2 ^ 64) ≡ pack (signsFrom s t from) 64
+halves s t from =
+    ap (λ (x : ℕ). bitOr (pack (signsFrom s t from) 32) (x * 2 ^ 32 % 2 ^ 64))
+    (pack-cong (signsFrom s t (from + 32)) (λ j. signsFrom s t from (32 + j)) 32 (λ j h. ap (λ (x : ℕ). bit (leb t (getD s x 0))) (add-assoc from 32 j)))
+    ∙ pack-join (signsFrom s t from) (signs-bit s t from) 32 32 64 (omega arith)
 
 -- word w of a row, of which m samples are there
 pub row-part : (s : List ℕ) (t base nx w m : ℕ) → m ≤ 64 → ((i : ℕ) → i < m → 64 * w + i < nx)

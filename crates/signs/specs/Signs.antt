@@ -2,7 +2,7 @@
 -- five words, the fifth without a sign, so that every word of samples has a next one. `n` is the size, `s` the samples. Assumes nothing.
 use Prim.Native.Nat.{ℕ, _+_, _*_, _/_, _%_, _^_, _<_}
 use mathlib.Core.Path.{_≡_}
-use mathlib.Core.Bool.{Bool, _&&_}
+use mathlib.Core.Bool.{_&&_}
 use mathlib.Core.List.{List, [], _∷_}
 use lib.Bits.{bitOr, bitXor}
 use lib.Dec.{ltb}

@@ -113,7 +113,7 @@ pub fn along_z(a: &[u64], b: &[u64], q: usize) -> u64
 }
 
 // 1 for a positive sample, else 0.
-fn sign(p: u16, t: u16) -> u64
+fn sign(p: u16, t: u16) -> u32
     ensures { λ r. ⌜ r ≡ bit (leb t p) ⌝ }
     ensures { λ r. ⌜ r ≤ 1 ⌝ }
 {
@@ -128,24 +128,34 @@ fn word(samples: &[u16], from: usize, n: usize, t: u16) -> u64
     let mut v: u64 = 0;
     let mut i: usize = 0;
     while i < n {
+        v |= (sign(samples[from + i], t) as u64) << i;
+        i += 1;
+    }
+    v
+}
+
+// The signs of 32 samples: a loop of a fixed length in words of 32 bits, which is compiled to comparisons of four samples at once.
+fn half_word(samples: &[u16], from: usize, t: u16) -> u32
+    requires { ⌜ from + 32 ≤ length (now samples) ⌝ }
+    ensures { λ r. ⌜ r ≡ pack (signsFrom (now (samples .entry)) t from) 32 ⌝ }
+{
+    let mut v: u32 = 0;
+    let mut i: usize = 0;
+    while i < 32 {
         v |= sign(samples[from + i], t) << i;
         i += 1;
     }
     v
 }
 
-// The signs of 64 samples: a loop of a fixed length, which is compiled to comparisons of many samples at once.
+// The signs of 64 samples.
 fn full_word(samples: &[u16], from: usize, t: u16) -> u64
     requires { ⌜ from + 64 ≤ length (now samples) ⌝ }
     ensures { λ r. ⌜ r ≡ pack (signsFrom (now (samples .entry)) t from) 64 ⌝ }
 {
-    let mut v: u64 = 0;
-    let mut i: usize = 0;
-    while i < 64 {
-        v |= sign(samples[from + i], t) << i;
-        i += 1;
-    }
-    v
+    let low = half_word(samples, from, t);
+    let high = half_word(samples, from + 32, t);
+    (low as u64) | ((high as u64) << 32)
 }
 
 // Word w of a row of nx samples whose first has the index base: its bit i is the sign of sample 64 w + i.

@@ -1,6 +1,6 @@
 -- `inner` meets its contract: the places before the last, and in the first word not the first.
 -- Assumes nothing.
-use mathlib.Core.Path.{_≡_, refl, _∙_}
+use mathlib.Core.Path.{_∙_}
 use borrow.Author.Needs.{needs}
 use Rattle.signs.proofs.Masks.{inner-first, inner-other}
 use Rattle.signs.proofs.inner.Statement.{statement}

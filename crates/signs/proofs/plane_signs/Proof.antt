@@ -1,20 +1,18 @@
 -- `plane_signs` meets its contract. The loop's invariant: the first q words stand at the front of the buffer, and the rest is as it was.
 -- The measure is the number of words left. Assumes nothing.
-use mathlib.Core.Path.{_≡_, refl, sym, ap, _∙_}
+use mathlib.Core.Path.{_≡_, ap, _∙_}
 use mathlib.Core.List.{List}
-use Prim.Native.Nat.{ℕ, _+_, _-_, _*_, _/_, _≤_, _<_}
+use Prim.Native.Nat.{ℕ, _-_, _*_, _/_, _≤_}
 use native.Mathlib.Omega.{arith}
 use borrow.Author.Needs.{needs}
 use denote.Ref.{now}
-use lib.ListN.{length, set}
+use lib.ListN.{length}
 use Rattle.laws.specs.Below.{over}
 use Rattle.laws.proofs.Over.{each, over-none, over-put}
 use Rattle.signs.specs.Steps.{planeFrom}
 use Rattle.signs.proofs.Planes.{rows-small, rows-room, plane-made}
 use Rattle.signs.proofs.plane_signs.Statement.{statement}
 use Rattle.signs.proofs.plane_signs.Tie as tie
-use Rattle.signs.proofs.plane_signs.Reads as reads
-use Rattle.signs.proofs.plane_signs.Lts as lts
 
 abbrev Inv-loop : tie.InvT-loop
 Inv-loop samples k plane₀ nx ny t q₀ plane q = (q ≤ 5 * ny) × (length plane ≡ 1280) × (plane ≡ over (each (planeFrom samples t nx ny k) q) plane₀)

@@ -1,7 +1,7 @@
 -- `word` meets its contract. The loop's invariant: v holds the signs of the first i samples. The measure is what is left of the n.
 -- Assumes nothing.
 use mathlib.Core.Path.{_≡_, sym, ap, _∙_}
-use Prim.Native.Nat.{ℕ, _-_, _≤_}
+use Prim.Native.Nat.{_-_, _≤_}
 use native.Mathlib.Omega.{arith}
 use borrow.Author.Needs.{needs}
 use denote.Ref.{now}
@@ -26,7 +26,7 @@ loop-again c =
     let h = c .before .before .before .loop in
     let a = c .before .before .before .before .before .args in
     let ss = now (a .samples) in
-    (search needs, rw (h .inv .1, c .sign .ensures .0) (pack-put (signsFrom ss (a .t) (a .from)) (signs-bit ss (a .t) (a .from)) (h .i) (omega arith)))
+    (search needs, rw (h .inv .1, c .sign .ensures .0) (pack-put (signsFrom ss (a .t) (a .from)) (signs-bit ss (a .t) (a .from)) (h .i) 64 (omega arith)))
 
 returns : tie.Need-returns Inv-loop μ-loop
 returns c =
@@ -46,6 +46,7 @@ word-spec =
     (λ c. search needs)
     (λ c. search needs)
     (λ c κs. search needs)
+    (λ c. search needs)
     (λ c. search needs)
     (λ c. search needs)
     (λ c. search needs)

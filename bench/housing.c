@@ -1,0 +1,185 @@
+/* Writes a block of n x n x n grey values for the benchmark, as raw little-endian 16-bit numbers, x fastest: a cast
+   pump housing with pores, or noise. Usage: housing n housing|noise seed file.
+   Assumes doubles rounded to nearest; the same arguments give the same file on every machine. The surface of the
+   housing lies at the threshold 23000; no value is at the ceiling. */
+#include <math.h>
+#include <stdint.h>
+#include <stdio.h>
+#include <stdlib.h>
+#include <string.h>
+
+enum { HOLLOW = 6000, METAL = 40000, NOISE = 24, CEILING = 65535, LONGEST_AXIS = 256 };
+enum { PORES_AT_256 = 400, LEAST_RADIUS = 2, MOST_RADIUS = 6, BOLTS = 8, TRIES = 1000000 };
+
+/* ---- chance ---- */
+
+static uint64_t state;
+
+static uint64_t next(void)
+{
+    uint64_t z = state += UINT64_C(0x9E3779B97F4A7C15);
+    z = (z ^ z >> 30) * UINT64_C(0xBF58476D1CE4E5B9);
+    z = (z ^ z >> 27) * UINT64_C(0x94D049BB133111EB);
+    return z ^ z >> 31;
+}
+
+/* From 0 up to, not including, 1. */
+static double part(void)
+{
+    return (double)(next() >> 11) / 9007199254740992.0;
+}
+
+/* ---- shapes, as distances: below zero inside ---- */
+
+static double more(double a, double b)
+{
+    return a > b ? a : b;
+}
+
+static double less(double a, double b)
+{
+    return a < b ? a : b;
+}
+
+/* A cylinder along one axis: distance from that axis, and place along it. */
+static double cylinder(double u, double v, double along, double radius, double from, double to)
+{
+    return more(sqrt(u * u + v * v) - radius, more(from - along, along - to));
+}
+
+static double bolt_holes(double x, double y, double circle, double radius)
+{
+    static const double turn[BOLTS][2] = {{1, 0},  {0.70710678118654757, 0.70710678118654757},
+                                          {0, 1},  {-0.70710678118654757, 0.70710678118654757},
+                                          {-1, 0}, {-0.70710678118654757, -0.70710678118654757},
+                                          {0, -1}, {0.70710678118654757, -0.70710678118654757}};
+    double nearest = 1e9;
+    for (unsigned bolt = 0; bolt < BOLTS; bolt++) {
+        double u = x - circle * turn[bolt][0], v = y - circle * turn[bolt][1];
+        nearest = less(nearest, sqrt(u * u + v * v) - radius);
+    }
+    return nearest;
+}
+
+/* The housing without its pores. Lengths are parts of n, from the middle of the block. */
+static double housing(double x, double y, double z, double n)
+{
+    double body = cylinder(x, y, z, 0.32 * n, -0.40 * n, 0.40 * n);
+    double lower_flange = cylinder(x, y, z, 0.44 * n, -0.40 * n, -0.30 * n);
+    double upper_flange = cylinder(x, y, z, 0.44 * n, 0.30 * n, 0.40 * n);
+    double outlet = cylinder(y, z, x, 0.15 * n, 0.0, 0.46 * n);
+    double chamber = cylinder(x, y, z, 0.24 * n, -0.32 * n, 0.50 * n);
+    double shaft = cylinder(x, y, z, 0.07 * n, -0.50 * n, 0.0);
+    double outlet_bore = cylinder(y, z, x, 0.09 * n, 0.0, 0.50 * n);
+    double solid = less(less(body, outlet), less(lower_flange, upper_flange));
+    double bores = less(less(chamber, shaft), less(outlet_bore, bolt_holes(x, y, 0.38 * n, 0.025 * n)));
+    return more(solid, -bores);
+}
+
+/* ---- the block ---- */
+
+static float *distances(size_t n)
+{
+    float *distance = malloc(n * n * n * sizeof *distance);
+    double middle = 0.5 * (double)(n - 1);
+    size_t index = 0;
+    if (!distance)
+        return NULL;
+    for (size_t k = 0; k < n; k++)
+        for (size_t j = 0; j < n; j++)
+            for (size_t i = 0; i < n; i++)
+                distance[index++] =
+                    (float)housing((double)i - middle, (double)j - middle, (double)k - middle, (double)n);
+    return distance;
+}
+
+/* Takes a sphere out of the metal. */
+static void take_out(float *distance, size_t n, const double centre[3], double radius)
+{
+    size_t from[3], to[3];
+    for (unsigned axis = 0; axis < 3; axis++) {
+        from[axis] = (size_t)more(0.0, centre[axis] - radius - 2.0);
+        to[axis] = (size_t)less((double)n, centre[axis] + radius + 3.0);
+    }
+    for (size_t k = from[2]; k < to[2]; k++)
+        for (size_t j = from[1]; j < to[1]; j++)
+            for (size_t i = from[0]; i < to[0]; i++) {
+                double x = (double)i - centre[0], y = (double)j - centre[1], z = (double)k - centre[2];
+                float *at = distance + i + n * (j + n * k);
+                *at = (float)more(*at, radius - sqrt(x * x + y * y + z * z));
+            }
+}
+
+/* Pores lie in the metal, as many for each part of the block as at 256; those that find no room are left out. */
+static unsigned cast_pores(float *distance, size_t n)
+{
+    unsigned wanted = (unsigned)((uint64_t)PORES_AT_256 * n * n * n / ((uint64_t)256 * 256 * 256)), count = 0;
+    for (unsigned try = 0; try < TRIES && count < wanted; try++) {
+        double radius = LEAST_RADIUS + (MOST_RADIUS - LEAST_RADIUS) * part(), centre[3];
+        size_t index = 0;
+        for (unsigned axis = 3; axis-- > 0;) {
+            centre[axis] = part() * (double)(n - 1);
+            index = index * n + (size_t)centre[axis];
+        }
+        if (distance[index] > -(radius + 1.0))
+            continue;
+        take_out(distance, n, centre, radius);
+        count++;
+    }
+    return count;
+}
+
+/* A sample whose surroundings are half metal and half hollow is half way between the two. */
+static uint16_t grey(double distance)
+{
+    double metal = less(1.0, more(0.0, 0.5 - 0.5 * distance));
+    int noise = (int)(next() % (2 * NOISE + 1)) - NOISE;
+    return (uint16_t)(HOLLOW + (int)((METAL - HOLLOW) * metal) + noise);
+}
+
+static int put(FILE *file, uint16_t value)
+{
+    return putc(value & 255, file) != EOF && putc(value >> 8, file) != EOF;
+}
+
+static int write_housing(FILE *file, size_t n)
+{
+    float *distance = distances(n);
+    int good = distance != NULL;
+    if (good)
+        printf("housing: %u pores\n", cast_pores(distance, n));
+    for (size_t index = 0; good && index < n * n * n; index++)
+        good = put(file, grey(distance[index]));
+    free(distance);
+    return good;
+}
+
+static int write_noise(FILE *file, size_t n)
+{
+    int good = 1;
+    for (size_t index = 0; good && index < n * n * n; index++)
+        good = put(file, (uint16_t)(next() % CEILING));
+    return good;
+}
+
+int main(int argc, char **argv)
+{
+    size_t n = argc == 5 ? (size_t)strtoul(argv[1], NULL, 10) : 0;
+    int is_noise = argc == 5 && strcmp(argv[2], "noise") == 0, good;
+    FILE *file;
+    if (n < 2 || n > LONGEST_AXIS || (!is_noise && strcmp(argv[2], "housing") != 0)) {
+        fprintf(stderr, "usage: housing n housing|noise seed file, with n from 2 to %d\n", LONGEST_AXIS);
+        return 2;
+    }
+    state = strtoull(argv[3], NULL, 10);
+    file = fopen(argv[4], "wb");
+    if (!file) {
+        perror(argv[4]);
+        return 2;
+    }
+    good = is_noise ? write_noise(file, n) : write_housing(file, n);
+    good = fclose(file) == 0 && good;
+    if (!good)
+        fprintf(stderr, "housing: could not write %s\n", argv[4]);
+    return good ? 0 : 2;
+}

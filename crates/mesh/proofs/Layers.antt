@@ -1,0 +1,97 @@
+-- Layer by layer: the lists and counts up to a layer and of the layer are those up to the next, and those up to the last are all.
+-- Assumes nothing.
+use Prim.Native.Nat.{ℕ, zero, suc, _+_, _*_, _-_, _≤_, _<_}
+use mathlib.Core.Path.{_≡_, refl, ap, ap₂, sym, _∙_}
+use mathlib.Core.List.{List, [], _∷_, _++_, map}
+use native.Mathlib.Nat.{mul-add, mul-one, mul-assoc}
+use native.Mathlib.Omega.{arith}
+use lib.ListN.{length, length-append, length-map}
+use lib.Ieee.{Float}
+use Rattle.laws.specs.Below.{below}
+use Rattle.laws.proofs.Below.{below-add}
+use Rattle.block.specs.declared.Cut.{Cut}
+use Rattle.block.specs.declared.Size.{Size}
+use Rattle.block.specs.Numbering.{cubeCount}
+use Rattle.cube_rule.specs.Decider.{loopsOf}
+use Rattle.place.specs.declared.Offset.{Offset}
+use Rattle.place.specs.Place.{placeOf}
+use Rattle.cell.specs.Answer.{wordOf}
+use Rattle.mesh_rule.specs.Grid.{cornersOf}
+use Rattle.mesh_rule.specs.Mesh.{verticesOf, verticesBefore, vertices}
+use Rattle.mesh_rule.specs.Buffers.{pairs, triples, layerSize, masksOf, cubeWords, cubeOffsets, layerWords, layerOffsets, layerCount, layerFirst, meshWords, meshOffsets}
+use Rattle.mesh_rule.proofs.Numbers.{one-for-each-loop}
+
+-- one layer of l more
+pub layer-next : {A : Type 0} (f : ℕ → List A) (l k : ℕ) → below f (l * (k + 1)) ≡ below f (l * k) ++ below (λ (x : ℕ). f (l * k + x)) l
+layer-next f l k = ap (below f) (mul-add l k 1 ∙ ap (λ (x : ℕ). l * k + x) (mul-one l)) ∙ below-add f (l * k) l
+
+-- lists of proportional lengths have proportional lengths together
+pub length-scaled : {A B : Type 0} (f : ℕ → List A) (g : ℕ → List B) (m n : ℕ) → ((x : ℕ) → length (f x) ≡ m * length (g x)) → length (below f n) ≡ m * length (below g n)
+unfolding below
+length-scaled f g m zero h = omega arith
+length-scaled f g m (suc n) h =
+    length-append (below f n) (f n) ∙ ap₂ (λ (x y : ℕ). x + y) (length-scaled f g m n h) (h n)
+    ∙ sym (mul-add m (length (below g n)) (length (g n))) ∙ ap (λ (x : ℕ). m * x) (sym (length-append (below g n) (g n)))
+
+pairs-length : (c : ℕ) (ws : List ℕ) → length (pairs c ws) ≡ 2 * length ws
+pairs-length c [] = refl
+pairs-length c (w ∷ ws) = omega (arith, pairs-length c ws)
+
+triples-length : (os : List Offset) → length (triples os) ≡ 3 * length os
+triples-length [] = refl
+triples-length (o ∷ os) = omega (arith, triples-length os)
+
+-- all layers are all cubes
+pub layers-all : (n : Size) (k : ℕ) → k + 1 ≡ n .nz → layerSize n * k ≡ cubeCount n
+layers-all n k e = ap (λ (x : ℕ). layerSize n * x) (last (n .nz) k e) ∙ mul-assoc (n .nx - 1) (n .ny - 1) (n .nz - 1)
+  where
+    last : (z k : ℕ) → k + 1 ≡ z → k ≡ z - 1
+    last z k e = omega arith
+
+module _ (n : Size) (s : List ℕ) (cut : Cut) where
+  -- as many vertices as masks
+  abbrev masksBefore : ℕ → List ℕ
+  masksBefore c = below (masksOf n s cut) c
+
+  pub vertices-masks : (c : ℕ) → length (verticesBefore loopsOf n s cut c) ≡ length (masksBefore c)
+  unfolding verticesBefore
+  vertices-masks c = length-scaled (verticesOf loopsOf n s cut) (masksOf n s cut) 1 c (λ x. one-for-each-loop loopsOf n s cut x ∙ one (length (masksOf n s cut x))) ∙ sym (one (length (masksBefore c)))
+    where
+      one : (x : ℕ) → x ≡ 1 * x
+      one x = omega arith
+
+  pub layer-first-next : (k : ℕ) → layerFirst n s cut (k + 1) ≡ layerFirst n s cut k + layerCount n s cut k
+  layer-first-next k =
+      vertices-masks (layerSize n * (k + 1))
+      ∙ ap length (layer-next (masksOf n s cut) (layerSize n) k)
+      ∙ length-append (masksBefore (layerSize n * k)) (below (λ (x : ℕ). masksOf n s cut (layerSize n * k + x)) (layerSize n))
+      ∙ ap (λ (x : ℕ). x + layerCount n s cut k) (sym (vertices-masks (layerSize n * k)))
+
+  pub layer-first-none : layerFirst n s cut 0 ≡ 0
+  unfolding verticesBefore below
+  layer-first-none = ap (λ (x : ℕ). length (below (verticesOf loopsOf n s cut) x)) (zero-of (layerSize n))
+    where
+      zero-of : (x : ℕ) → x * 0 ≡ 0
+      zero-of x = omega arith
+
+  pub layer-first-last : (k : ℕ) → k + 1 ≡ n .nz → layerFirst n s cut k ≡ length (vertices loopsOf n s cut)
+  unfolding vertices
+  layer-first-last k e = ap (λ (x : ℕ). length (verticesBefore loopsOf n s cut x)) (layers-all n k e)
+
+  words-of-cube : (c : ℕ) → length (cubeWords n s cut c) ≡ 2 * length (masksOf n s cut c)
+  unfolding cubeWords
+  words-of-cube c = pairs-length c (map (wordOf (cornersOf n s c)) (masksOf n s cut c)) ∙ ap (λ (x : ℕ). 2 * x) (length-map (masksOf n s cut c) (wordOf (cornersOf n s c)))
+
+  offsets-of-cube : (c : ℕ) → length (cubeOffsets n s cut c) ≡ 3 * length (masksOf n s cut c)
+  unfolding cubeOffsets
+  offsets-of-cube c = triples-length (map (placeOf cut (cornersOf n s c)) (masksOf n s cut c)) ∙ ap (λ (x : ℕ). 3 * x) (length-map (masksOf n s cut c) (placeOf cut (cornersOf n s c)))
+
+  -- two words and three floats a vertex
+  pub words-length : (c : ℕ) → length (below (cubeWords n s cut) c) ≡ 2 * length (verticesBefore loopsOf n s cut c)
+  words-length c = length-scaled (cubeWords n s cut) (masksOf n s cut) 2 c words-of-cube ∙ ap (λ (x : ℕ). 2 * x) (sym (vertices-masks c))
+
+  pub offsets-length : (c : ℕ) → length (below (cubeOffsets n s cut) c) ≡ 3 * length (verticesBefore loopsOf n s cut c)
+  offsets-length c = length-scaled (cubeOffsets n s cut) (masksOf n s cut) 3 c offsets-of-cube ∙ ap (λ (x : ℕ). 3 * x) (sym (vertices-masks c))
+
+  pub layer-words-length : (k : ℕ) → length (layerWords n s cut k) ≡ 2 * layerCount n s cut k
+  layer-words-length k = length-scaled (λ (x : ℕ). cubeWords n s cut (layerSize n * k + x)) (λ (x : ℕ). masksOf n s cut (layerSize n * k + x)) 2 (layerSize n) (λ x. words-of-cube (layerSize n * k + x))

@@ -1,0 +1,12 @@
+pub mod Layers
+pub mod Planes
+pub mod RoomRows
+pub mod Regions
+pub mod PlaneQuads
+pub mod Verdicts
+pub mod Tallies
+pub mod Writings
+pub mod PlaneSteps
+pub mod LayerSteps
+pub mod BlockSteps
+pub mod MeshSteps

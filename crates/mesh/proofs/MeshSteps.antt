@@ -1,0 +1,88 @@
+-- The verdict of a call whose size is made: rows 2 to 4 first, then rows 5 and 6 with the counts. A refusal leaves the buffers, and where all
+-- rows pass there is room for the whole mesh. Assumes nothing.
+use Prim.Native.Nat.{ℕ, _*_, _≤_}
+use mathlib.Core.Path.{_≡_, refl, ap, sym, _∙_}
+use mathlib.Core.Bool.{Bool, true, false, cond, _&&_}
+use mathlib.Core.List.{List, [], _∷_}
+use native.Mathlib.Omega.{arith}
+use lib.Dec.{leb}
+use lib.ListN.{length}
+use lib.Ieee.{Float}
+use borrow.Author.Tests.{leb-true}
+use Rattle.laws.specs.Below.{over}
+use Rattle.block.specs.declared.Cut.{Cut}
+use Rattle.block.specs.declared.Size.{Size}
+use Rattle.block.specs.declared.Refusal.{Refusal}
+use Rattle.block.specs.declared.Checked.{Checked}
+use Rattle.block.specs.declared.Checked.the-variants.{Passes, Refuses}
+use Rattle.block.specs.Answer.{inOrder, refuses}
+use Rattle.block.specs.Rows.{countRow, thresholdRow, ceilingRow}
+use Rattle.block.specs.Size.{Limits}
+use Rattle.block.proofs.Order.{orders-refuse, orders-pass, order-first, order-rest}
+use Rattle.quads.specs.Writing.{Accepted}
+use Rattle.mesh.specs.declared.Totals.{Totals}
+use Rattle.mesh.specs.declared.Counted.the-variants as counted
+use Rattle.mesh.specs.Answer.{countsOf, vertexRow, quadRow, vertexCount, quadCount, written, MeshedBy}
+use Rattle.mesh.specs.Writes.{Roomy, BlockWritten}
+use Rattle.mesh.proofs.Verdicts.{refused-by, judged-passed, block-of, threshold-of, ceiling-of}
+
+-- both tests of a row that passes hold
+both : (a b : Bool) (number value : ℕ) → cond (a && b) Passes (refuses number value) ≡ Passes → (a ≡ true) × (b ≡ true)
+both true true number value e = (refl, refl)
+both true false number value e = let z : _≡_ {A = ℕ} 0 1 = cc in absurd (omega arith)
+both false b number value e = let z : _≡_ {A = ℕ} 0 1 = cc in absurd (omega arith)
+
+written-passed : {A : Type 0} (k : Checked) (xs b b′ : List A) → k ≡ Passes → b′ ≡ over xs b → b′ ≡ written k xs b
+unfolding written
+written-passed k xs b b′ e h = rw e h
+
+module _ (n : Size) (s : List ℕ) (cut : Cut) where
+  abbrev early : Checked
+  early = inOrder (countRow n s ∷ thresholdRow cut ∷ ceilingRow s ∷ [])
+
+  pub accepted-of : Limits n → early ≡ Passes → Accepted n s cut
+  accepted-of l e =
+      let b = block-of n s cut l e in
+      record { limits = l; count = b .samples; threshold = threshold-of n s cut e; ceiling = ceiling-of n s cut e }
+
+  module _ (w : List ℕ) (o : List Float) (q : List ℕ) where
+    abbrev late : Totals → Checked
+    late c = inOrder (vertexRow (c .vertices) (length w) (length o) ∷ quadRow (c .quads) (length q) ∷ [])
+
+    abbrev verdict : Checked
+    verdict =
+        inOrder (countRow n s ∷ thresholdRow cut ∷ ceilingRow s ∷ vertexRow (vertexCount n s cut) (length w) (length o) ∷ quadRow (quadCount n s cut) (length q) ∷ [])
+
+    -- rows 2 to 4 refuse
+    pub early-refused : (r : Refusal) → early ≡ Refuses r → MeshedBy verdict n s cut w o q (counted.Refused r) w o q
+    early-refused r e = refused-by verdict n s cut w o q r (orders-refuse (countRow n s ∷ thresholdRow cut ∷ ceilingRow s ∷ []) _ r e)
+
+    -- they pass, and rows 5 and 6 decide
+    late-decides : early ≡ Passes → (c : Totals) → c ≡ countsOf n s cut → verdict ≡ late c
+    late-decides e c f = orders-pass (countRow n s ∷ thresholdRow cut ∷ ceilingRow s ∷ []) _ e ∙ ap late (sym f)
+
+    pub late-refused : early ≡ Passes → (c : Totals) → c ≡ countsOf n s cut → (r : Refusal) → late c ≡ Refuses r → MeshedBy verdict n s cut w o q (counted.Refused r) w o q
+    late-refused e c f r h = refused-by verdict n s cut w o q r (late-decides e c f ∙ h)
+
+    pub roomy-of : (c : Totals) → c ≡ countsOf n s cut → late c ≡ Passes → Roomy n s cut w o q
+    roomy-of c f h =
+        let l : late (countsOf n s cut) ≡ Passes = ap late (sym f) ∙ h in
+        let v = both (leb (2 * vertexCount n s cut) (length w)) (leb (3 * vertexCount n s cut) (length o)) 5 (vertexCount n s cut) (order-first (vertexRow (vertexCount n s cut) (length w) (length o)) _ l) in
+        let p = both true (leb (4 * quadCount n s cut) (length q)) 6 (quadCount n s cut) (order-first (quadRow (quadCount n s cut) (length q)) _ (order-rest (vertexRow (vertexCount n s cut) (length w) (length o)) _ l)) in
+        record {
+          words = leb-true (2 * vertexCount n s cut) (length w) (v .0);
+          offsets = leb-true (3 * vertexCount n s cut) (length o) (v .1);
+          quads = leb-true (4 * quadCount n s cut) (length q) (p .1);
+        }
+
+    -- all pass
+    pub passed-by : early ≡ Passes → (c : Totals) → c ≡ countsOf n s cut → late c ≡ Passes → (w′ : List ℕ) (o′ : List Float) (q′ : List ℕ)
+        → BlockWritten n s cut w w′ o o′ q q′ → MeshedBy verdict n s cut w o q (counted.Counts c) w′ o′ q′
+    passed-by e c f h w′ o′ q′ b =
+        let k : verdict ≡ Passes = late-decides e c f ∙ h in
+        record {
+          answer = judged-passed verdict c (countsOf n s cut) k f;
+          words = written-passed verdict _ w w′ k (b .words);
+          offsets = written-passed verdict _ o o′ k (b .offsets);
+          quads = written-passed verdict _ q q′ k (b .quads);
+        }

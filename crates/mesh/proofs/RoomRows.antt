@@ -1,0 +1,42 @@
+-- What rows 5 and 6 say of a need of v vertices and q quads, and of w, o and l places in the three buffers.
+-- Assumes nothing.
+use Prim.Native.Nat.{ℕ, _*_, _≤_, _<_}
+use mathlib.Core.Path.{_≡_, refl, ap, _∙_}
+use mathlib.Core.Bool.{Bool, true, false, cond, _&&_, and-false}
+use mathlib.Core.List.{List, [], _∷_}
+use native.Mathlib.Omega.{arith}
+use lib.Dec.{leb}
+use borrow.Author.Tests.{le-leb, lt-leb}
+use Rattle.block.specs.declared.Checked.{Checked}
+use Rattle.block.specs.declared.Checked.the-variants.{Passes, Refuses}
+use Rattle.block.specs.Answer.{inOrder, refuses}
+use Rattle.block.proofs.Order.{order-refuses, order-passes, order-last}
+use Rattle.block.proofs.Rows.{given-small}
+use Rattle.mesh.specs.Answer.{vertexRow, quadRow}
+
+abbrev refusal : ℕ → ℕ → Checked
+refusal number value = Refuses (record { number = number; value = value })
+
+module _ (v q w o l : ℕ) where
+  abbrev roomOf : Checked
+  roomOf = inOrder (vertexRow v w o ∷ quadRow q l ∷ [])
+
+  vertex-short : v ≤ 4294967295 → (leb (2 * v) w && leb (3 * v) o) ≡ false → roomOf ≡ refusal 5 v
+  vertex-short s h = order-refuses (vertexRow v w o) _ _ (ap (λ (b : Bool). cond b Passes (refuses 5 v)) h ∙ ap (refusal 5) (given-small v s))
+
+  pub short-words : v ≤ 4294967295 → w < 2 * v → roomOf ≡ refusal 5 v
+  short-words s h = vertex-short s (ap (λ (b : Bool). b && leb (3 * v) o) (lt-leb (2 * v) w h))
+
+  pub short-offsets : v ≤ 4294967295 → 2 * v ≤ w → o < 3 * v → roomOf ≡ refusal 5 v
+  short-offsets s a h = vertex-short s (ap (λ (b : Bool). leb (2 * v) w && b) (lt-leb (3 * v) o h) ∙ and-false (leb (2 * v) w))
+
+  vertex-roomy : 2 * v ≤ w → 3 * v ≤ o → vertexRow v w o ≡ Passes
+  vertex-roomy a b = rw (le-leb (2 * v) w a, le-leb (3 * v) o b)
+
+  pub short-quads : q ≤ 4294967295 → 2 * v ≤ w → 3 * v ≤ o → l < 4 * q → roomOf ≡ refusal 6 q
+  short-quads s a b h =
+      order-passes (vertexRow v w o) _ (vertex-roomy a b)
+      ∙ order-refuses (quadRow q l) _ _ (ap (λ (b : Bool). cond b Passes (refuses 6 q)) (lt-leb (4 * q) l h) ∙ ap (refusal 6) (given-small q s))
+
+  pub roomy : 2 * v ≤ w → 3 * v ≤ o → 4 * q ≤ l → roomOf ≡ Passes
+  roomy a b h = order-passes (vertexRow v w o) _ (vertex-roomy a b) ∙ order-last (quadRow q l) ∙ ap (λ (b : Bool). cond b Passes (refuses 6 q)) (le-leb (4 * q) l h)

@@ -1,0 +1,62 @@
+-- `counts_of` meets its contract: a refusal of rows 2 to 4, or the counts of a whole tally.
+-- Assumes nothing.
+use mathlib.Core.Path.{_≡_, sym, _∙_}
+use mathlib.Core.List.{[], _∷_}
+use Rattle.block.specs.declared.Checked.the-variants.{Passes}
+use Rattle.block.specs.Answer.{inOrder}
+use Rattle.block.specs.Rows.{countRow, thresholdRow, ceilingRow}
+use Rattle.mesh.proofs.Tallies.{tallied-few, tallied-counts}
+use Rattle.mesh.proofs.Verdicts.{judged-refused, judged-passed, block-of}
+use borrow.Author.Needs.{needs}
+use Rattle.mesh.proofs.counts_of.Statement.{statement}
+use Rattle.mesh.proofs.counts_of.Tie as tie
+use Rattle.mesh.proofs.counts_of.Reads as reads
+use Rattle.mesh.proofs.counts_of.Lts as lts
+use Rattle.mesh.proofs.check.Reads as check-reads
+use Rattle.mesh.proofs.tally_block.Reads as tally-block-reads
+use Rattle.mesh.proofs.total.Reads as total-reads
+
+check-requires : tie.Need-check-requires
+check-requires c κs = search needs
+
+enum-known-checked : tie.Need-enum-known-checked
+enum-known-checked c = search needs
+
+returns : tie.Need-returns
+returns c = judged-refused _ _ _ (sym (c .before .before .before .check .ensures) ∙ c .before .checked .given .1)
+
+enum-told : tie.Need-enum-told
+enum-told c = search needs
+
+-- rows 2 to 4 passed
+passed : (c : tie.After-enum-told) → let a = c .before .before .before .before in
+    inOrder (countRow (a .args .size) (a .args .samples .now) ∷ thresholdRow (a .args .cut) ∷ ceilingRow (a .args .samples .now) ∷ []) ≡ Passes
+passed c = sym (c .before .before .check .ensures) ∙ c .enum-told .given .1
+
+tally-block-requires : tie.Need-tally-block-requires
+tally-block-requires c κs =
+    let a = c .before .before .before .before in
+    block-of (a .args .size) (a .args .samples .now) (a .args .cut) (a .pre) (passed c)
+
+total-requires : tie.Need-total-requires
+total-requires c κs =
+    let a = c .before .before .before .before .before in
+    tallied-few (a .args .size) (a .args .samples .now) (a .args .cut) (c .tally-block .result) (a .pre) (c .tally-block .ensures)
+
+returns-2 : tie.Need-returns-2
+returns-2 c =
+    let a = c .before .before .before .before .before .before in
+    judged-passed _ _ _ (passed (c .before .before))
+    (tallied-counts (a .args .size) (a .args .samples .now) (a .args .cut) (c .before .tally-block .result) (c .total .result) (c .before .tally-block .ensures) (c .total .ensures .0) (c .total .ensures .1))
+
+pub counts-of-spec : {M : Type 1} → statement M
+counts-of-spec =
+    tie.close
+    (tie.spec
+    check-requires
+    enum-known-checked
+    returns
+    enum-told
+    tally-block-requires
+    total-requires
+    returns-2)

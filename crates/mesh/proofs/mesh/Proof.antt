@@ -1,0 +1,65 @@
+-- `mesh` meets its promise: row 1 refuses, or the size is made and the other rows decide.
+-- Assumes nothing.
+use mathlib.Core.Path.{subst}
+use Rattle.block.specs.Size.{SizeMade}
+use Rattle.block.proofs.Sizes.{size-made}
+use Rattle.mesh.proofs.Verdicts.{mesh-bad-axis, mesh-made}
+use borrow.Author.Needs.{needs}
+use Rattle.mesh.proofs.mesh.Statement.{statement}
+use Rattle.mesh.proofs.mesh.Tie as tie
+use Rattle.mesh.proofs.mesh.Reads as reads
+use Rattle.mesh.proofs.mesh.Lts as lts
+use Rattle.block.proofs.Size.new.Reads as new-reads
+use Rattle.mesh.proofs.mesh_of.Reads as mesh-of-reads
+
+new-requires : tie.Need-new-requires
+new-requires c κs = search needs
+
+enum-known-made : tie.Need-enum-known-made
+enum-known-made c = search needs
+
+enum-known-made-2 : tie.Need-enum-known-made-2
+enum-known-made-2 c = search needs
+
+mesh-of-requires : tie.Need-mesh-of-requires
+mesh-of-requires c κs =
+    let n = c .before .before .before .before .before .before in
+    let a = n .before .before .before .before .before in
+    size-made (a .args .nx) (a .args .ny) (a .args .nz) _ (subst (SizeMade (a .args .nx) (a .args .ny) (a .args .nz)) (c .before .before .before .before .made2 .given .1) (n .new .ensures)) .1
+
+returns : tie.Need-returns
+returns c =
+    let n = c .before .before .before in
+    let a = n .before .before .before .before .before in
+    mesh-bad-axis (a .args .nx) (a .args .ny) (a .args .nz) (a .args .samples .now) (a .args .t) _ (a .args .words .now) (a .args .offsets .now) (a .args .quads .now)
+    (subst (SizeMade (a .args .nx) (a .args .ny) (a .args .nz)) (c .before .made .given .1) (n .new .ensures))
+
+same-length : tie.Need-same-length
+same-length c = search needs
+
+same-length-2 : tie.Need-same-length-2
+same-length-2 c = search needs
+
+same-length-3 : tie.Need-same-length-3
+same-length-3 c = search needs
+
+returns-2 : tie.Need-returns-2
+returns-2 c =
+    let n = c .before .before .before .before .before .before .before .before .before .before .before .before .before in
+    let a = n .before .before .before .before .before in
+    mesh-made (a .args .nx) (a .args .ny) (a .args .nz) (a .args .samples .now) (a .args .t) _ (a .args .words .now) (a .args .offsets .now) (a .args .quads .now) (c .before .before .before .before .before .before .mesh-of .result) _ _ _
+    (subst (SizeMade (a .args .nx) (a .args .ny) (a .args .nz)) (c .before .before .before .before .before .before .before .before .before .before .before .made2 .given .1) (n .new .ensures)) (c .before .before .before .before .before .before .mesh-of .ensures)
+
+pub mesh-spec : {M : Type 1} → statement M
+mesh-spec =
+    tie.close
+    (tie.spec
+    new-requires
+    enum-known-made
+    enum-known-made-2
+    mesh-of-requires
+    returns
+    same-length
+    same-length-2
+    same-length-3
+    returns-2)

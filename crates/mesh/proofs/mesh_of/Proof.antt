@@ -1,0 +1,117 @@
+-- `mesh_of` meets its contract: rows 2 to 4 refuse, or rows 5 and 6 with the counts, or the whole mesh is written.
+-- Assumes nothing.
+use mathlib.Core.Path.{_≡_, sym, _∙_}
+use mathlib.Core.List.{[], _∷_}
+use native.Mathlib.Omega.{arith}
+use Rattle.block.specs.declared.Checked.the-variants.{Passes}
+use Rattle.block.specs.Answer.{inOrder}
+use Rattle.block.specs.Rows.{countRow, thresholdRow, ceilingRow}
+use Rattle.mesh.specs.Answer.{countsOf}
+use Rattle.mesh.proofs.Tallies.{tallied-few, tallied-counts}
+use Rattle.mesh.proofs.Verdicts.{block-of}
+use Rattle.mesh.proofs.MeshSteps.{accepted-of, early-refused, late-refused, roomy-of, passed-by}
+use borrow.Author.Needs.{needs}
+use Rattle.mesh.proofs.mesh_of.Statement.{statement}
+use Rattle.mesh.proofs.mesh_of.Tie as tie
+use Rattle.mesh.proofs.mesh_of.Reads as reads
+use Rattle.mesh.proofs.mesh_of.Lts as lts
+use Rattle.mesh.proofs.check.Reads as check-reads
+use Rattle.mesh.proofs.room.Reads as room-reads
+use Rattle.mesh.proofs.tally_block.Reads as tally-block-reads
+use Rattle.mesh.proofs.total.Reads as total-reads
+use Rattle.mesh.proofs.write_block.Reads as write-block-reads
+
+check-requires : tie.Need-check-requires
+check-requires c κs = search needs
+
+enum-known-checked : tie.Need-enum-known-checked
+enum-known-checked c = search needs
+
+returns : tie.Need-returns
+returns c =
+    let a = c .before .before .before .before .before .before .before .before in
+    early-refused (a .args .size) (a .args .samples .now) (a .args .cut) (a .args .words .now) (a .args .offsets .now) (a .args .quads .now) _ (sym (c .before .before .before .check .ensures) ∙ c .before .checked .given .1)
+
+enum-told : tie.Need-enum-told
+enum-told c = search needs
+
+-- rows 2 to 4 passed
+passed : (c : tie.After-enum-told) → let a = c .before .before .before .before .before .before .before in
+    inOrder (countRow (a .args .size) (a .args .samples .now) ∷ thresholdRow (a .args .cut) ∷ ceilingRow (a .args .samples .now) ∷ []) ≡ Passes
+passed c = sym (c .before .before .check .ensures) ∙ c .enum-told .given .1
+
+tally-block-requires : tie.Need-tally-block-requires
+tally-block-requires c κs =
+    let a = c .before .before .before .before .before .before .before in
+    block-of (a .args .size) (a .args .samples .now) (a .args .cut) (a .pre) (passed c)
+
+total-requires : tie.Need-total-requires
+total-requires c κs =
+    let a = c .before .before .before .before .before .before .before .before in
+    tallied-few (a .args .size) (a .args .samples .now) (a .args .cut) (c .tally-block .result) (a .pre) (c .tally-block .ensures)
+
+-- the counts are those of the mesh
+counts-are : (c : tie.After-total) → let a = c .before .before .before .before .before .before .before .before .before in
+    c .total .result ≡ countsOf (a .args .size) (a .args .samples .now) (a .args .cut)
+counts-are c =
+    let a = c .before .before .before .before .before .before .before .before .before in
+    tallied-counts (a .args .size) (a .args .samples .now) (a .args .cut) (c .before .tally-block .result) (c .total .result) (c .before .tally-block .ensures) (c .total .ensures .0) (c .total .ensures .1)
+
+room-requires : tie.Need-room-requires
+room-requires c κs =
+    let a = c .before .before .before .before .before .before .before .before .before in
+    let few = tallied-few (a .args .size) (a .args .samples .now) (a .args .cut) (c .before .tally-block .result) (a .pre) (c .before .tally-block .ensures) in
+    (omega (arith, few .0, c .total .ensures .0), omega (arith, few .1, c .total .ensures .1))
+
+enum-known-fits : tie.Need-enum-known-fits
+enum-known-fits c = search needs
+
+returns-2 : tie.Need-returns-2
+returns-2 c =
+    let a = c .before .before .before .before .before .before .before .before .before .before .before .before .before in
+    late-refused (a .args .size) (a .args .samples .now) (a .args .cut) (a .args .words .now) (a .args .offsets .now) (a .args .quads .now) (passed (c .before .before .before .before .before .before)) (c .before .before .before .before .total .result) (counts-are (c .before .before .before .before)) _ (sym (c .before .before .before .room .ensures) ∙ c .before .fits2 .given .1)
+
+enum-told-2 : tie.Need-enum-told-2
+enum-told-2 c = search needs
+
+write-block-requires : tie.Need-write-block-requires
+write-block-requires c κs =
+    let a = c .before .before .before .before .before .before .before .before .before .before .before .before .before .before .before in (
+      accepted-of (a .args .size) (a .args .samples .now) (a .args .cut) (a .pre) (passed (c .before .before .before .before .before .before .before .before)),
+      c .before .before .before .before .before .before .before .tally-block .ensures,
+      roomy-of (a .args .size) (a .args .samples .now) (a .args .cut) (a .args .words .now) (a .args .offsets .now) (a .args .quads .now) (c .before .before .before .before .before .before .total .result) (counts-are (c .before .before .before .before .before .before)) (sym (c .before .before .before .before .before .room .ensures) ∙ c .before .before .before .enum-told2 .given .1),
+    )
+
+same-length : tie.Need-same-length
+same-length c = search needs
+
+same-length-2 : tie.Need-same-length-2
+same-length-2 c = search needs
+
+same-length-3 : tie.Need-same-length-3
+same-length-3 c = search needs
+
+returns-3 : tie.Need-returns-3
+returns-3 c =
+    let a = c .before .before .before .before .before .before .before .before .before .before .before .before .before .before .before .before .before .before .before .before .before .before in
+    passed-by (a .args .size) (a .args .samples .now) (a .args .cut) (a .args .words .now) (a .args .offsets .now) (a .args .quads .now) (passed (c .before .before .before .before .before .before .before .before .before .before .before .before .before .before .before)) (c .before .before .before .before .before .before .before .before .before .before .before .before .before .total .result) (counts-are (c .before .before .before .before .before .before .before .before .before .before .before .before .before)) (sym (c .before .before .before .before .before .before .before .before .before .before .before .before .room .ensures) ∙ c .before .before .before .before .before .before .before .before .before .before .enum-told2 .given .1) _ _ _ (c .before .before .before .before .before .before .write-block .ensures)
+
+pub mesh-of-spec : {M : Type 1} → statement M
+mesh-of-spec =
+    tie.close
+    (tie.spec
+    check-requires
+    enum-known-checked
+    returns
+    enum-told
+    tally-block-requires
+    total-requires
+    room-requires
+    enum-known-fits
+    returns-2
+    enum-told-2
+    write-block-requires
+    same-length
+    same-length-2
+    same-length-3
+    returns-3)

@@ -1,0 +1,123 @@
+-- `tally_block` meets its contract. The loop's invariant: a has the signs of plane k, and the layers before k are counted. The measure is
+-- what is left of the layers. Assumes nothing.
+use Prim.Native.Nat.{_+_, _-_, _≤_}
+use mathlib.Core.Path.{_≡_, refl}
+use native.Mathlib.Omega.{arith}
+use lib.ListN.{length}
+use borrow.Author.Needs.{needs}
+use Rattle.signs.specs.Signs.{Plane}
+use Rattle.signs.proofs.Planes.{plane-of}
+use Rattle.mesh.specs.Steps.{Counting}
+use Rattle.mesh.proofs.Tallies.{counting-none, counting-all}
+use Rattle.mesh.proofs.tally_block.Statement.{statement}
+use Rattle.mesh.proofs.tally_block.Tie as tie
+use Rattle.mesh.proofs.tally_block.Reads as reads
+use Rattle.mesh.proofs.tally_block.Lts as lts
+use Rattle.block.proofs.Size.nz.Reads as nz-reads
+use Rattle.cube.proofs.masks.Reads as masks-reads
+use Rattle.mesh.proofs.with_layer.Reads as with-layer-reads
+use Rattle.signs.proofs.plane_signs.Reads as plane-signs-reads
+
+abbrev Inv-loop : tie.InvT-loop
+Inv-loop size samples cut table nz a₀ b₀ t₀ k₀ a b t k = (k + 1 ≤ nz) × Plane size samples cut k a × (length b ≡ 1280) × Counting size samples cut k t
+
+abbrev μ-loop : tie.MeasureT-loop
+μ-loop size samples cut table nz a₀ b₀ t₀ k₀ a b t k = nz - k
+
+masks-requires : tie.Need-masks-requires Inv-loop μ-loop
+masks-requires c κs = search needs
+
+nz-requires : tie.Need-nz-requires Inv-loop μ-loop
+nz-requires c κs = search needs
+
+slice-aggregate-plane-signs : tie.Need-slice-aggregate-plane-signs Inv-loop μ-loop
+slice-aggregate-plane-signs c = search needs
+
+plane-signs-requires : tie.Need-plane-signs-requires Inv-loop μ-loop
+plane-signs-requires c κs = search needs
+
+loop-holds : tie.Need-loop-holds Inv-loop μ-loop
+loop-holds c =
+    let a = c .before .before .before .before .before .before in
+    (omega (arith, c .before .before .before .nz .ensures, a .pre .limits .z-low), plane-of (a .args .size) (a .args .samples .now) (a .args .cut) 0 _ _ (a .pre .limits) refl (c .before .plane-signs .ensures), refl, counting-none (a .args .size) (a .args .samples .now) (a .args .cut))
+
+add-loop : tie.Need-add-loop Inv-loop μ-loop
+add-loop c = search needs
+
+add-plane-signs : tie.Need-add-plane-signs Inv-loop μ-loop
+add-plane-signs c = search needs
+
+slice-aggregate-plane-signs-2 : tie.Need-slice-aggregate-plane-signs-2 Inv-loop μ-loop
+slice-aggregate-plane-signs-2 c = search needs
+
+plane-signs-requires-2 : tie.Need-plane-signs-requires-2 Inv-loop μ-loop
+plane-signs-requires-2 c κs = search needs
+
+-- the signs of the upper plane
+upper-of : (p : tie.After-plane-signs2 Inv-loop μ-loop)
+    → let a = p .before .before .before .before .before .before .before .before .before .before in
+    Plane (a .args .size) (a .args .samples .now) (a .args .cut) (p .before .before .before .loop .k + 1) (p .plane-signs2 .last .1 .1 .1 .1 .0)
+upper-of p =
+    let a = p .before .before .before .before .before .before .before .before .before .before in
+    plane-of (a .args .size) (a .args .samples .now) (a .args .cut) (p .before .before .before .loop .k + 1) _ _ (a .pre .limits) (p .before .before .before .loop .inv .2) (p .plane-signs2 .ensures)
+
+slice-aggregate-with-layer : tie.Need-slice-aggregate-with-layer Inv-loop μ-loop
+slice-aggregate-with-layer c = search needs
+
+slice-aggregate-with-layer-2 : tie.Need-slice-aggregate-with-layer-2 Inv-loop μ-loop
+slice-aggregate-with-layer-2 c = search needs
+
+with-layer-requires : tie.Need-with-layer-requires Inv-loop μ-loop
+with-layer-requires c κs =
+    let a = c .before .before .before .before .before .before .before .before .before .before .before .before .before .before in
+    let l = c .before .before .before .before .before .before .before in (
+      record {
+        limits = a .pre .limits;
+        samples = a .pre .samples;
+        masks = c .before .before .before .before .before .before .before .before .before .before .before .before .masks .ensures;
+        lower = l .loop .inv .1;
+        upper = upper-of (c .before .before .before .before);
+        inside = omega (arith, c .before .before .before .before .before .before .before .before .before .before .before .nz .ensures);
+      },
+      l .loop .inv .3,
+    )
+
+add-k : tie.Need-add-k Inv-loop μ-loop
+add-k c = search needs
+
+loop-less : tie.Need-loop-less Inv-loop μ-loop
+loop-less c = search needs
+
+loop-again : tie.Need-loop-again Inv-loop μ-loop
+loop-again c =
+    let u = upper-of (c .before .before .before .before .before) in
+    (omega arith, u, u .room, c .with-layer .ensures)
+
+returns : tie.Need-returns Inv-loop μ-loop
+returns c =
+    let a = c .before .before .before .before .before .before .before .before in
+    let l = c .before .loop in
+    counting-all (a .args .size) (a .args .samples .now) (a .args .cut) (l .k) (l .t) (l .inv .3) (omega (arith, c .before .before .before .before .before .nz .ensures))
+
+pub tally-block-spec : {M : Type 1} → statement M
+tally-block-spec =
+    tie.close
+    (tie.spec
+    Inv-loop
+    μ-loop
+    masks-requires
+    nz-requires
+    slice-aggregate-plane-signs
+    plane-signs-requires
+    loop-holds
+    add-loop
+    add-plane-signs
+    slice-aggregate-plane-signs-2
+    plane-signs-requires-2
+    slice-aggregate-with-layer
+    slice-aggregate-with-layer-2
+    with-layer-requires
+    add-k
+    loop-less
+    loop-again
+    returns)

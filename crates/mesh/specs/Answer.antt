@@ -1,0 +1,81 @@
+-- What counting and meshing a block answer, and what the lent buffers hold afterwards (document 01, "The mesh" and "Numbers of refusal").
+-- One verdict decides for the answer and for every buffer. Assumes nothing.
+use Prim.Native.Nat.{ℕ, _*_}
+use mathlib.Core.Path.{_≡_}
+use mathlib.Core.Bool.{Bool, cond, _&&_}
+use mathlib.Core.List.{List, [], _∷_}
+use lib.Dec.{leb}
+use lib.ListN.{length}
+use lib.Ieee.{Float}
+use Rattle.laws.specs.Below.{over}
+use Rattle.block.specs.declared.Cut.{Cut}
+use Rattle.block.specs.declared.Size.{Size}
+use Rattle.block.specs.declared.Checked.{Checked}
+use Rattle.block.specs.declared.Checked.the-variants.{Passes, Refuses}
+use Rattle.block.specs.Answer.{Answer, accepted, refused, refuses, inOrder, judged}
+use Rattle.block.specs.Rows.{axisRow, countRow, thresholdRow, ceilingRow}
+use Rattle.cube_rule.specs.Decider.{loopsOf}
+use Rattle.mesh_rule.specs.Mesh.{vertices, quads}
+use Rattle.mesh_rule.specs.Buffers.{meshWords, meshOffsets, meshQuads}
+use Rattle.mesh.specs.declared.Totals.{Totals}
+use Rattle.mesh.specs.declared.Counted.{Counted}
+use Rattle.mesh.specs.declared.Counted.the-variants as counted
+
+-- how many vertices and quads a mesh has
+abbrev pub vertexCount : Size → List ℕ → Cut → ℕ
+vertexCount n s cut = length (vertices loopsOf n s cut)
+
+abbrev pub quadCount : Size → List ℕ → Cut → ℕ
+quadCount n s cut = length (quads loopsOf n s cut)
+
+abbrev pub countsOf : Size → List ℕ → Cut → Totals
+countsOf n s cut = record { vertices = vertexCount n s cut; quads = quadCount n s cut }
+
+-- 01's number and values of each case
+abbrev pub saidCounts : Counted → Answer Totals
+saidCounts (counted.Counts c) = accepted c
+saidCounts (counted.Refused r) = refused r
+
+-- three axis lengths as a size, accepted or not
+abbrev pub sizeOf : ℕ → ℕ → ℕ → Size
+sizeOf nx ny nz = record { nx = nx; ny = ny; nz = nz }
+
+-- "Counting a mesh gives 1 to 4 only"
+abbrev pub countsVerdict : ℕ → ℕ → ℕ → List ℕ → Cut → Checked
+countsVerdict nx ny nz s cut = inOrder (axisRow nx ny nz ∷ countRow (sizeOf nx ny nz) s ∷ thresholdRow cut ∷ ceilingRow s ∷ [])
+
+-- the promise of `counts`
+abbrev pub CountsAnswered : ℕ → ℕ → ℕ → List ℕ → ℕ → Counted → Type 0
+CountsAnswered nx ny nz s t r =
+    saidCounts r ≡ judged (countsVerdict nx ny nz s (record { t = t })) (countsOf (sizeOf nx ny nz) s (record { t = t }))
+
+-- 5: either vertex buffer is short; vertices needed
+abbrev pub vertexRow : ℕ → ℕ → ℕ → Checked
+vertexRow v words offsets = cond (leb (2 * v) words && leb (3 * v) offsets) Passes (refuses 5 v)
+
+-- 6: the quad buffer is short; quads needed
+abbrev pub quadRow : ℕ → ℕ → Checked
+quadRow q room = cond (leb (4 * q) room) Passes (refuses 6 q)
+
+-- a block, and the lengths of the three buffers
+abbrev pub meshVerdict : ℕ → ℕ → ℕ → List ℕ → Cut → ℕ → ℕ → ℕ → Checked
+meshVerdict nx ny nz s cut words offsets room =
+    inOrder (axisRow nx ny nz ∷ countRow (sizeOf nx ny nz) s ∷ thresholdRow cut ∷ ceilingRow s
+    ∷ vertexRow (vertexCount (sizeOf nx ny nz) s cut) words offsets ∷ quadRow (quadCount (sizeOf nx ny nz) s cut) room ∷ [])
+
+-- a buffer afterwards: the mesh over its front, with the rest kept, or all as it was
+unfoldable pub written : {A : Type 0} → Checked → List A → List A → List A
+written Passes xs buffer = over xs buffer
+written (Refuses r) xs buffer = buffer
+
+-- the answer, and the three buffers w, o, q at entry and w′, o′, q′ at exit, where the checks say k
+pub record MeshedBy (k : Checked) (n : Size) (s : List ℕ) (cut : Cut) (w : List ℕ) (o : List Float) (q : List ℕ) (r : Counted) (w′ : List ℕ) (o′ : List Float) (q′ : List ℕ) : Type 0 where
+  pub answer : saidCounts r ≡ judged k (countsOf n s cut)
+  pub words : w′ ≡ written k (meshWords n s cut) w
+  pub offsets : o′ ≡ written k (meshOffsets n s cut) o
+  pub quads : q′ ≡ written k (meshQuads n s cut) q
+
+-- the promise of `mesh`
+abbrev pub Meshed : ℕ → ℕ → ℕ → List ℕ → ℕ → List ℕ → List Float → List ℕ → Counted → List ℕ → List Float → List ℕ → Type 0
+Meshed nx ny nz s t w o q r w′ o′ q′ =
+    MeshedBy (meshVerdict nx ny nz s (record { t = t }) (length w) (length o) (length q)) (sizeOf nx ny nz) s (record { t = t }) w o q r w′ o′ q′

@@ -1,0 +1,15 @@
+pub mod Products
+pub mod Ranges
+pub mod Crossed
+pub mod Counts
+pub mod Lead
+pub mod Layers
+pub mod Which
+pub mod Found
+pub mod Rows
+pub mod Step
+pub mod Round
+pub mod Writes
+pub mod Run
+pub mod Written
+pub mod Fixed

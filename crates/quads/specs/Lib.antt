@@ -1,0 +1,5 @@
+pub mod Edges
+pub mod Parts
+pub mod Steps
+pub mod Rings
+pub mod Writing

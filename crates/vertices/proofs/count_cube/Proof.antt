@@ -1,0 +1,44 @@
+-- `count_cube` meets its contract: no crossed edge, no loop; one to five, one loop; more, as many as the cube has.
+-- Assumes nothing.
+use mathlib.Core.Path.{_≡_, ap, sym, _∙_}
+use native.Mathlib.Omega.{arith}
+use borrow.Author.Needs.{needs}
+use denote.Ref.{now}
+use Rattle.cube.specs.Answer.{cubeLoops}
+use Rattle.cube_rule.specs.Edges.{patternOf, crossedMask}
+use Rattle.cube_rule.proofs.Laws.{pattern-lt}
+use Rattle.vertices.specs.Cubes.{cornersFrom}
+use Rattle.vertices.proofs.Cubes.{count-none, count-single, count-many}
+use Rattle.vertices.proofs.count_cube.Statement.{statement}
+use Rattle.vertices.proofs.count_cube.Tie as tie
+
+-- the table's entry has the cube's crossed edges
+mask-is : (d : tie.After-crossed-edges) → let a = d .before .before .args in
+    d .crossed-edges .result ≡ crossedMask (patternOf (a .cut) (cornersFrom (now (a .samples)) (a .nx) (a .nxy) (a .s)))
+mask-is d = d .crossed-edges .ensures .0 ∙ ap crossedMask (d .before .before .pre .signs)
+
+crossed-edges-requires : tie.Need-crossed-edges-requires
+crossed-edges-requires c κs = (rw (c .before .pre .signs) (pattern-lt _ _), c .before .pre .masks)
+
+returns : tie.Need-returns
+returns c = (count-none _ _ (sym (mask-is (c .before)) ∙ c .if1 .taken), omega arith)
+
+returns-2 : tie.Need-returns-2
+returns-2 c = (count-single _ _ _ (mask-is (c .before .before)) (c .before .if1 .left) (c .if2 .taken), omega arith)
+
+returns-3 : tie.Need-returns-3
+returns-3 c =
+    let l = c .before .loops-of in
+    (count-many _ _ (l .result) (l .ensures .0 ∙ ap (cubeLoops _) (c .before .before .corners .ensures)), l .ensures .1)
+
+pub count-cube-spec : {M : Type 1} → statement M
+count-cube-spec =
+    tie.close
+    (tie.spec
+    crossed-edges-requires
+    returns
+    returns-2
+    (λ c κs. search needs)
+    (λ c κs. search needs)
+    (λ c. search needs)
+    returns-3)

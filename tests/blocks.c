@@ -1,0 +1,232 @@
+/* Random numbers, sizes, thresholds and blocks of samples: those that the rules of the paper turn on.
+   Assumes nothing. */
+#include "blocks.h"
+
+const char *const kind_names[KINDS] = {"uniform noise", "values at t-1, t, t+1, 0, 65534",
+                                       "differences with equal products", "large products one step apart",
+                                       "checkerboard of two values", "checkerboard of many values", "pores",
+                                       "all metal", "all hollow", "plane", "sparse", "only 0 and 65534"};
+
+/* ---- chance ---- */
+
+static uint64_t next(struct chance *chance)
+{
+    uint64_t z = chance->state += UINT64_C(0x9E3779B97F4A7C15);
+    z = (z ^ z >> 30) * UINT64_C(0xBF58476D1CE4E5B9);
+    z = (z ^ z >> 27) * UINT64_C(0x94D049BB133111EB);
+    return z ^ z >> 31;
+}
+
+struct chance chance_of(uint64_t seed, uint64_t block)
+{
+    struct chance chance;
+    chance.state = seed;
+    chance.state = next(&chance) ^ block;
+    chance.state = next(&chance);
+    return chance;
+}
+
+uint64_t chance_below(struct chance *chance, uint64_t end)
+{
+    return next(chance) % end;
+}
+
+int chance_in_100(struct chance *chance, unsigned cases)
+{
+    return chance_below(chance, 100) < cases;
+}
+
+static uint16_t between(struct chance *chance, unsigned low, unsigned high)
+{
+    return (uint16_t)(low + chance_below(chance, high - low + 1));
+}
+
+/* ---- sizes and thresholds ---- */
+
+/* Lengths around the words of 64 samples, and the limit. */
+static const uint32_t long_axes[] = {62, 63, 64, 65, 66, 67, 127, 128, 129, 130, 191, 192, 193, 255, 256};
+
+void choose_size(struct chance *chance, int inner, uint32_t length[3])
+{
+    uint32_t shortest = inner ? SHORTEST_AXIS + 1 : SHORTEST_AXIS;
+    unsigned shape = (unsigned)chance_below(chance, 100), axis = (unsigned)chance_below(chance, 3);
+    for (unsigned i = 0; i < 3; i++)
+        length[i] = between(chance, shortest, shape < 80 ? 9 : 5);
+    if (shape < 80)
+        return;
+    if (chance_in_100(chance, 50))
+        axis = 0;
+    if (shape < 90)
+        length[axis] = between(chance, 10, 70);
+    else if (shape < 96)
+        length[axis] = long_axes[chance_below(chance, sizeof long_axes / sizeof *long_axes)];
+    else if (shape < 99)
+        length[axis] = between(chance, 10, 70), length[(axis + 1) % 3] = between(chance, 10, 70);
+    else
+        for (unsigned i = 0; i < 3; i++)
+            length[i] = between(chance, 10, 36);
+}
+
+uint16_t choose_threshold(struct chance *chance)
+{
+    switch (chance_below(chance, 8)) {
+    case 0:
+        return 1;
+    case 1:
+        return HIGHEST;
+    case 2:
+        return 100;
+    case 3:
+        return 32767;
+    default:
+        return between(chance, 1, HIGHEST);
+    }
+}
+
+/* ---- samples ---- */
+
+static uint16_t grey(int64_t value)
+{
+    return (uint16_t)(value < 0 ? 0 : value > HIGHEST ? HIGHEST : value);
+}
+
+static uint16_t metal(struct chance *chance, uint16_t t)
+{
+    return between(chance, t, HIGHEST);
+}
+
+static uint16_t hollow(struct chance *chance, uint16_t t)
+{
+    return between(chance, 0, t - 1u);
+}
+
+static uint16_t near_threshold(struct chance *chance, uint16_t t)
+{
+    switch (chance_below(chance, 5)) {
+    case 0:
+        return grey((int64_t)t - 1);
+    case 1:
+        return t;
+    case 2:
+        return grey((int64_t)t + 1);
+    case 3:
+        return 0;
+    default:
+        return HIGHEST;
+    }
+}
+
+/* Differences with many common multiples: the two products of a face are often equal, or off by one step. */
+static uint16_t equal_products(struct chance *chance, uint16_t t)
+{
+    static const int64_t differences[] = {1, 2, 3, 4, 6, 8, 12, 24};
+    int64_t difference = differences[chance_below(chance, sizeof differences / sizeof *differences)];
+    return grey(chance_in_100(chance, 50) ? t + difference : t - difference);
+}
+
+/* Differences m-1, m and m+1 of either sign with a large m: the products of a face are equal or differ by 1, m, ...
+   so that a comparison with fewer bits than the products have goes wrong. */
+static void large_products(struct chance *chance, const uint32_t length[3], uint16_t t, uint16_t *samples)
+{
+    size_t count = (size_t)length[0] * length[1] * length[2];
+    int64_t most = t < HIGHEST - t ? t : HIGHEST - t;
+    int64_t middle = most / 2 + (int64_t)chance_below(chance, (uint64_t)most / 2 + 1);
+    for (size_t index = 0; index < count; index++) {
+        int64_t difference = middle + (int64_t)chance_below(chance, 3) - 1;
+        samples[index] = grey(chance_in_100(chance, 50) ? t + difference : t - difference);
+    }
+}
+
+/* Distances are compared by their squares; the grey value falls by a step for each unit of the square. */
+static void pores(struct chance *chance, const uint32_t length[3], uint16_t t, uint16_t *samples)
+{
+    unsigned count = 1 + (unsigned)chance_below(chance, 4);
+    int64_t centre[4][3], radius[4], step = 1 + (int64_t)chance_below(chance, 3000);
+    size_t index = 0;
+    for (unsigned pore = 0; pore < count; pore++) {
+        for (unsigned axis = 0; axis < 3; axis++)
+            centre[pore][axis] = (int64_t)chance_below(chance, length[axis]);
+        radius[pore] = 1 + (int64_t)chance_below(chance, 5);
+    }
+    for (int64_t k = 0; k < (int64_t)length[2]; k++)
+        for (int64_t j = 0; j < (int64_t)length[1]; j++)
+            for (int64_t i = 0; i < (int64_t)length[0]; i++) {
+                int64_t outside = HIGHEST;
+                for (unsigned pore = 0; pore < count; pore++) {
+                    int64_t x = i - centre[pore][0], y = j - centre[pore][1], z = k - centre[pore][2];
+                    int64_t square = x * x + y * y + z * z - radius[pore] * radius[pore];
+                    outside = square < outside ? square : outside;
+                }
+                samples[index++] = grey(t + step * outside);
+            }
+}
+
+static void plane(struct chance *chance, const uint32_t length[3], uint16_t t, uint16_t *samples)
+{
+    int64_t slope[3], middle = 0;
+    size_t index = 0;
+    for (unsigned axis = 0; axis < 3; axis++) {
+        slope[axis] = chance_in_100(chance, 40) ? 0 : (int64_t)chance_below(chance, 2001) - 1000;
+        middle += slope[axis] * (int64_t)chance_below(chance, length[axis]);
+    }
+    for (int64_t k = 0; k < (int64_t)length[2]; k++)
+        for (int64_t j = 0; j < (int64_t)length[1]; j++)
+            for (int64_t i = 0; i < (int64_t)length[0]; i++)
+                samples[index++] = grey(t + slope[0] * i + slope[1] * j + slope[2] * k - middle);
+}
+
+static void checkerboard(struct chance *chance, int rough, const uint32_t length[3], uint16_t t, uint16_t *samples)
+{
+    uint16_t white = metal(chance, t), black = hollow(chance, t);
+    size_t index = 0;
+    if (chance_in_100(chance, 50))
+        black = grey(2 * (int64_t)t - white); /* a tie on every face, where there is room for it */
+    if (black >= t)
+        black = (uint16_t)(t - 1);
+    for (uint32_t k = 0; k < length[2]; k++)
+        for (uint32_t j = 0; j < length[1]; j++)
+            for (uint32_t i = 0; i < length[0]; i++) {
+                int is_white = (i + j + k) % 2 == 0;
+                if (rough)
+                    samples[index++] = is_white ? metal(chance, t) : hollow(chance, t);
+                else
+                    samples[index++] = is_white ? white : black;
+            }
+}
+
+static uint16_t one_sample(struct chance *chance, enum kind kind, uint16_t t, int mostly_metal)
+{
+    switch (kind) {
+    case NEAR_THRESHOLD:
+        return near_threshold(chance, t);
+    case EQUAL_PRODUCTS:
+        return equal_products(chance, t);
+    case ALL_METAL:
+        return metal(chance, t);
+    case ALL_HOLLOW:
+        return hollow(chance, t);
+    case SPARSE:
+        return chance_in_100(chance, 3) != mostly_metal ? metal(chance, t) : hollow(chance, t);
+    case EXTREMES:
+        return chance_in_100(chance, 50) ? HIGHEST : 0;
+    default:
+        return between(chance, 0, HIGHEST);
+    }
+}
+
+void fill_block(struct chance *chance, enum kind kind, const uint32_t length[3], uint16_t t, uint16_t *samples)
+{
+    size_t count = (size_t)length[0] * length[1] * length[2];
+    int mostly_metal = chance_in_100(chance, 50);
+    if (kind == PORES)
+        pores(chance, length, t, samples);
+    else if (kind == PLANE)
+        plane(chance, length, t, samples);
+    else if (kind == LARGE_PRODUCTS)
+        large_products(chance, length, t, samples);
+    else if (kind == CHECKERBOARD || kind == ROUGH_CHECKERBOARD)
+        checkerboard(chance, kind == ROUGH_CHECKERBOARD, length, t, samples);
+    else
+        for (size_t index = 0; index < count; index++)
+            samples[index] = one_sample(chance, kind, t, mostly_metal);
+}

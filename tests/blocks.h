@@ -1,0 +1,52 @@
+/* Random numbers, sizes, thresholds and blocks of samples for the comparison with the plain implementation.
+   Assumes nothing; the same seed gives the same numbers on every machine. */
+#ifndef PARSNIPROW_BLOCKS_H
+#define PARSNIPROW_BLOCKS_H
+
+#include <stddef.h>
+#include <stdint.h>
+
+enum { CEILING = 65535, HIGHEST = 65534, SHORTEST_AXIS = 2, LONGEST_AXIS = 256 };
+
+struct chance {
+    uint64_t state;
+};
+
+/* A row of random numbers of its own for each block, so that a block can be run alone. */
+struct chance chance_of(uint64_t seed, uint64_t block);
+
+/* A number from 0 to end - 1; end is at least 1. */
+uint64_t chance_below(struct chance *chance, uint64_t end);
+
+/* Yes in this many of a hundred cases. */
+int chance_in_100(struct chance *chance, unsigned cases);
+
+/* Three axis lengths from 2 to 256: mostly small, sometimes with rows of more than 64 samples.
+   Where inner is set each is at least 3, so that the block has inner edges. */
+void choose_size(struct chance *chance, int inner, uint32_t length[3]);
+
+/* A threshold from 1 to 65534. */
+uint16_t choose_threshold(struct chance *chance);
+
+enum kind {
+    UNIFORM_NOISE,
+    NEAR_THRESHOLD,
+    EQUAL_PRODUCTS,
+    LARGE_PRODUCTS,
+    CHECKERBOARD,
+    ROUGH_CHECKERBOARD,
+    PORES,
+    ALL_METAL,
+    ALL_HOLLOW,
+    PLANE,
+    SPARSE,
+    EXTREMES,
+    KINDS
+};
+
+extern const char *const kind_names[KINDS];
+
+/* Fills a block with grey values from 0 to 65534. */
+void fill_block(struct chance *chance, enum kind kind, const uint32_t length[3], uint16_t t, uint16_t *samples);
+
+#endif

@@ -1,0 +1,472 @@
+/* The paper's rules in plain C by another method than the library's: loops are walked link by link, no table of masks,
+   faces come from the corners, a quad's vertices are searched for.
+   Assumes doubles rounded to nearest, each operation by itself (-ffp-contract=off). */
+#include "plain.h"
+
+#include <stdio.h>
+#include <stdlib.h>
+
+enum { AXES = 3, CORNERS = 8, EDGES = 12, FACES = 6, MOST_LOOPS = 4, CEILING = 65535 };
+enum { SHORTEST_AXIS = 2, LONGEST_AXIS = 256, WORDS = 2, SIDES = 4 };
+
+/* Corner pairs of the edges, the lower one first. */
+static const unsigned ends[EDGES][2] = {{0, 1}, {2, 3}, {4, 5}, {6, 7}, {0, 2}, {1, 3},
+                                        {4, 6}, {5, 7}, {0, 4}, {1, 5}, {2, 6}, {3, 7}};
+
+struct cube {
+    uint16_t sample[CORNERS];
+    uint16_t t;
+};
+
+struct block {
+    size_t length[AXES];
+    const uint16_t *samples;
+    uint16_t t;
+};
+
+struct refusal {
+    uint32_t number, value;
+};
+
+static const struct refusal accepted = {0, 0};
+
+/* What the rules exclude is a fault of this file. */
+static void impossible(const char *what)
+{
+    fprintf(stderr, "plain: %s\n", what);
+    abort();
+}
+
+/* ---- edges ---- */
+
+static int positive(uint16_t sample, uint16_t t)
+{
+    return sample >= t;
+}
+
+static int crossed_between(uint16_t p, uint16_t q, uint16_t t)
+{
+    return positive(p, t) != positive(q, t);
+}
+
+static double fraction_between(uint16_t p, uint16_t q, uint16_t t)
+{
+    int part = abs((int)t - (int)p), all = abs((int)q - (int)p);
+    return (double)part / (double)all;
+}
+
+static int crossed(const struct cube *cube, unsigned edge)
+{
+    return crossed_between(cube->sample[ends[edge][0]], cube->sample[ends[edge][1]], cube->t);
+}
+
+/* ---- faces ---- */
+
+static int corner_on_face(unsigned corner, unsigned face)
+{
+    return (corner >> face / 2 & 1) == face % 2;
+}
+
+static int edge_on_face(unsigned edge, unsigned face)
+{
+    return corner_on_face(ends[edge][0], face) && corner_on_face(ends[edge][1], face);
+}
+
+static int meets(unsigned edge, unsigned corner)
+{
+    return ends[edge][0] == corner || ends[edge][1] == corner;
+}
+
+uint32_t plain_face(unsigned face)
+{
+    uint32_t mask = 0;
+    for (unsigned edge = 0; edge < EDGES; edge++)
+        if (edge_on_face(edge, face))
+            mask |= (uint32_t)1 << edge;
+    return mask;
+}
+
+/* The face of the edge that is not this one; for a number past the faces, its lowest face. */
+static unsigned other_face(unsigned edge, unsigned face)
+{
+    for (unsigned other = 0; other < FACES; other++)
+        if (other != face && edge_on_face(edge, other))
+            return other;
+    impossible("an edge lies on one face only");
+    return FACES;
+}
+
+/* On a face with four crossed edges: are the positive corners joined? */
+static int joined(const struct cube *cube, unsigned face)
+{
+    int64_t of_positive = 1, of_negative = 1;
+    for (unsigned corner = 0; corner < CORNERS; corner++) {
+        int64_t difference = (int64_t)cube->sample[corner] - (int64_t)cube->t;
+        if (!corner_on_face(corner, face))
+            continue;
+        if (positive(cube->sample[corner], cube->t))
+            of_positive *= difference;
+        else
+            of_negative *= difference;
+    }
+    return of_positive >= of_negative;
+}
+
+/* The edge that a crossed edge is linked with on one of its faces. */
+static unsigned partner(const struct cube *cube, unsigned edge, unsigned face)
+{
+    unsigned others[EDGES], count = 0, corner;
+    for (unsigned other = 0; other < EDGES; other++)
+        if (other != edge && edge_on_face(other, face) && crossed(cube, other))
+            others[count++] = other;
+    if (count == 1)
+        return others[0];
+    if (count != 3)
+        impossible("a face has an odd number of crossed edges");
+    /* joined metal: links turn round the negative corners, otherwise round the positive ones */
+    corner = ends[edge][0];
+    if (positive(cube->sample[corner], cube->t) == joined(cube, face))
+        corner = ends[edge][1];
+    for (unsigned i = 0; i < count; i++)
+        if (meets(others[i], corner))
+            return others[i];
+    impossible("no second edge at a corner of a face");
+    return EDGES;
+}
+
+/* ---- loops and places ---- */
+
+/* Walks every loop from its lowest edge and gives their number. */
+static unsigned loops(const struct cube *cube, uint32_t masks[MOST_LOOPS])
+{
+    uint32_t visited = 0;
+    unsigned count = 0;
+    for (unsigned start = 0; start < EDGES; start++) {
+        unsigned edge = start, face = other_face(start, FACES);
+        uint32_t mask = 0;
+        if ((visited >> start & 1) || !crossed(cube, start))
+            continue;
+        do {
+            mask |= (uint32_t)1 << edge;
+            edge = partner(cube, edge, face);
+            face = other_face(edge, face);
+        } while (edge != start);
+        if (count == MOST_LOOPS)
+            impossible("more than four loops");
+        masks[count++] = mask;
+        visited |= mask;
+    }
+    return count;
+}
+
+/* The local coordinate of an edge's crossing. */
+static double coordinate(const struct cube *cube, unsigned edge, unsigned axis)
+{
+    unsigned lower = ends[edge][0], upper = ends[edge][1];
+    if (lower + (1u << axis) == upper)
+        return fraction_between(cube->sample[lower], cube->sample[upper], cube->t);
+    return lower >> axis & 1 ? 1.0 : 0.0;
+}
+
+static void place(const struct cube *cube, uint32_t mask, double offset[AXES])
+{
+    for (unsigned axis = 0; axis < AXES; axis++) {
+        double sum = 0.0;
+        unsigned count = 0;
+        for (unsigned edge = 0; edge < EDGES; edge++)
+            if (mask >> edge & 1) {
+                sum += coordinate(cube, edge, axis);
+                count++;
+            }
+        offset[axis] = sum / (double)count;
+    }
+}
+
+/* ---- the block ---- */
+
+static size_t sample_index(const struct block *block, size_t i, size_t j, size_t k)
+{
+    return i + block->length[0] * (j + block->length[1] * k);
+}
+
+static size_t cube_number(const struct block *block, size_t i, size_t j, size_t k)
+{
+    return i + (block->length[0] - 1) * (j + (block->length[1] - 1) * k);
+}
+
+static size_t cubes(const struct block *block)
+{
+    return (block->length[0] - 1) * (block->length[1] - 1) * (block->length[2] - 1);
+}
+
+static struct cube cube_at(const struct block *block, size_t number)
+{
+    size_t across = block->length[0] - 1, down = block->length[1] - 1;
+    size_t i = number % across, j = number / across % down, k = number / across / down;
+    struct cube cube;
+    cube.t = block->t;
+    for (unsigned corner = 0; corner < CORNERS; corner++)
+        cube.sample[corner] =
+            block->samples[sample_index(block, i + (corner & 1), j + (corner >> 1 & 1), k + (corner >> 2 & 1))];
+    return cube;
+}
+
+/* All corners alike: no edge is crossed, and there is nothing to walk. */
+static int quiet(const struct cube *cube)
+{
+    int first = positive(cube->sample[0], cube->t);
+    for (unsigned corner = 1; corner < CORNERS; corner++)
+        if (positive(cube->sample[corner], cube->t) != first)
+            return 0;
+    return 1;
+}
+
+/* The number of vertices. Where first is given, it gets each cube's first vertex number, and the total at its end. */
+static uint32_t number_vertices(const struct block *block, uint32_t *first)
+{
+    uint32_t count = 0, masks[MOST_LOOPS];
+    size_t end = cubes(block);
+    for (size_t number = 0; number < end; number++) {
+        struct cube cube = cube_at(block, number);
+        if (first)
+            first[number] = count;
+        if (!quiet(&cube))
+            count += loops(&cube, masks);
+    }
+    if (first)
+        first[end] = count;
+    return count;
+}
+
+static void write_vertices(const struct block *block, uint32_t *words, double *offsets)
+{
+    size_t vertex = 0, end = cubes(block);
+    for (size_t number = 0; number < end; number++) {
+        struct cube cube = cube_at(block, number);
+        uint32_t masks[MOST_LOOPS];
+        unsigned count = quiet(&cube) ? 0 : loops(&cube, masks);
+        for (unsigned loop = 0; loop < count; loop++, vertex++) {
+            words[WORDS * vertex] = (uint32_t)number;
+            words[WORDS * vertex + 1] = masks[loop];
+            place(&cube, masks[loop], offsets + AXES * vertex);
+        }
+    }
+}
+
+/* ---- quads ---- */
+
+/* How far each of the four cubes of an inner edge lies below its lower sample, along x, y, z. */
+static const size_t below[AXES][SIDES][AXES] = {{{0, 1, 1}, {0, 0, 1}, {0, 0, 0}, {0, 1, 0}},
+                                                {{1, 0, 1}, {1, 0, 0}, {0, 0, 0}, {0, 0, 1}},
+                                                {{1, 1, 0}, {0, 1, 0}, {0, 0, 0}, {1, 0, 0}}};
+
+/* The edge of a cube that runs along an axis from this lower corner. */
+static unsigned edge_from(unsigned lower, unsigned along)
+{
+    for (unsigned edge = 0; edge < EDGES; edge++)
+        if (ends[edge][0] == lower && ends[edge][1] == lower + (1u << along))
+            return edge;
+    impossible("no edge runs from a corner along an axis");
+    return EDGES;
+}
+
+/* The vertex of a cube whose mask holds the edge. */
+static uint32_t vertex_with(const uint32_t *first, const uint32_t *words, size_t number, unsigned edge)
+{
+    for (uint32_t vertex = first[number]; vertex < first[number + 1]; vertex++)
+        if (words[WORDS * (size_t)vertex + 1] >> edge & 1)
+            return vertex;
+    impossible("no vertex of a cube holds a crossed edge");
+    return 0;
+}
+
+/* The quad of the crossed inner edge that runs along an axis from this lower sample. */
+static void write_quad(const struct block *block, const uint32_t *first, const uint32_t *words, unsigned along,
+                       const size_t at[AXES], int lower_positive, uint32_t quad[SIDES])
+{
+    for (unsigned side = 0; side < SIDES; side++) {
+        const size_t *step = below[along][side];
+        unsigned corner = (unsigned)(step[0] + 2 * step[1] + 4 * step[2]);
+        size_t number = cube_number(block, at[0] - step[0], at[1] - step[1], at[2] - step[2]);
+        quad[side] = vertex_with(first, words, number, edge_from(corner, along));
+    }
+    if (!lower_positive) {
+        uint32_t second = quad[1];
+        quad[1] = quad[3];
+        quad[3] = second;
+    }
+}
+
+/* The number of quads: along x, then y, then z, each by index of the lower sample. Where quads is given, it gets
+   them. */
+static uint32_t number_quads(const struct block *block, const uint32_t *first, const uint32_t *words, uint32_t *quads)
+{
+    uint32_t count = 0;
+    for (unsigned along = 0; along < AXES; along++) {
+        size_t from[AXES], at[AXES];
+        for (unsigned axis = 0; axis < AXES; axis++)
+            from[axis] = axis == along ? 0 : 1;
+        for (at[2] = from[2]; at[2] + 1 < block->length[2]; at[2]++)
+            for (at[1] = from[1]; at[1] + 1 < block->length[1]; at[1]++)
+                for (at[0] = from[0]; at[0] + 1 < block->length[0]; at[0]++) {
+                    uint16_t p = block->samples[sample_index(block, at[0], at[1], at[2])];
+                    uint16_t q = block->samples[sample_index(block, at[0] + (along == 0), at[1] + (along == 1),
+                                                             at[2] + (along == 2))];
+                    if (!crossed_between(p, q, block->t))
+                        continue;
+                    if (quads)
+                        write_quad(block, first, words, along, at, positive(p, block->t),
+                                   quads + SIDES * (size_t)count);
+                    count++;
+                }
+    }
+    return count;
+}
+
+/* ---- refusals ---- */
+
+static struct refusal refuse(uint32_t number, uint32_t value)
+{
+    struct refusal refusal;
+    refusal.number = number;
+    refusal.value = value;
+    return refusal;
+}
+
+static struct refusal check_threshold(uint16_t t)
+{
+    return t == 0 || t == CEILING ? refuse(3, t) : accepted;
+}
+
+static struct refusal check_ceiling(const uint16_t *samples, size_t samples_len)
+{
+    for (size_t index = 0; index < samples_len; index++)
+        if (samples[index] == CEILING)
+            return refuse(4, (uint32_t)index);
+    return accepted;
+}
+
+static struct refusal check_values(const uint16_t *samples, size_t samples_len, uint16_t t)
+{
+    struct refusal refusal = check_threshold(t);
+    return refusal.number ? refusal : check_ceiling(samples, samples_len);
+}
+
+static struct refusal check_block(uint32_t nx, uint32_t ny, uint32_t nz, const uint16_t *samples, size_t samples_len,
+                                  uint16_t t)
+{
+    uint32_t length[AXES], wanted;
+    length[0] = nx;
+    length[1] = ny;
+    length[2] = nz;
+    for (uint32_t axis = 0; axis < AXES; axis++)
+        if (length[axis] < SHORTEST_AXIS || length[axis] > LONGEST_AXIS)
+            return refuse(1, axis);
+    wanted = nx * ny * nz;
+    if (samples_len != wanted)
+        return refuse(2, wanted);
+    return check_values(samples, samples_len, t);
+}
+
+static void say(uint32_t *answer, size_t answer_len, uint32_t number, uint32_t second, uint32_t third)
+{
+    if (answer_len > 0)
+        answer[0] = number;
+    if (answer_len > 1)
+        answer[1] = second;
+    if (answer_len > 2)
+        answer[2] = third;
+}
+
+static struct block block_of(uint32_t nx, uint32_t ny, uint32_t nz, const uint16_t *samples, uint16_t t)
+{
+    struct block block;
+    block.length[0] = nx;
+    block.length[1] = ny;
+    block.length[2] = nz;
+    block.samples = samples;
+    block.t = t;
+    return block;
+}
+
+/* ---- the questions ---- */
+
+void plain_edge(uint16_t p, uint16_t q, uint16_t t, double *fraction, uint32_t *answer, size_t answer_len)
+{
+    uint16_t both[2];
+    struct refusal refusal;
+    both[0] = p;
+    both[1] = q;
+    refusal = check_values(both, 2, t);
+    *fraction = 0.0;
+    if (refusal.number) {
+        say(answer, answer_len, refusal.number, refusal.value, 0);
+        return;
+    }
+    if (crossed_between(p, q, t))
+        *fraction = fraction_between(p, q, t);
+    say(answer, answer_len, 0, crossed_between(p, q, t) ? 1 : 0, 0);
+}
+
+void plain_cube(const uint16_t corners[8], uint16_t t, uint32_t masks[4], double offsets[12], uint32_t *answer,
+                size_t answer_len)
+{
+    struct refusal refusal = check_values(corners, CORNERS, t);
+    struct cube cube;
+    unsigned count;
+    for (unsigned loop = 0; loop < MOST_LOOPS; loop++)
+        masks[loop] = 0;
+    for (unsigned i = 0; i < AXES * MOST_LOOPS; i++)
+        offsets[i] = 0.0;
+    if (refusal.number) {
+        say(answer, answer_len, refusal.number, refusal.value, 0);
+        return;
+    }
+    cube.t = t;
+    for (unsigned corner = 0; corner < CORNERS; corner++)
+        cube.sample[corner] = corners[corner];
+    count = loops(&cube, masks);
+    for (unsigned loop = 0; loop < count; loop++)
+        place(&cube, masks[loop], offsets + AXES * loop);
+    say(answer, answer_len, 0, count, 0);
+}
+
+void plain_counts(uint32_t nx, uint32_t ny, uint32_t nz, const uint16_t *samples, size_t samples_len, uint16_t t,
+                  uint32_t *answer, size_t answer_len)
+{
+    struct refusal refusal = check_block(nx, ny, nz, samples, samples_len, t);
+    struct block block = block_of(nx, ny, nz, samples, t);
+    if (refusal.number) {
+        say(answer, answer_len, refusal.number, refusal.value, 0);
+        return;
+    }
+    say(answer, answer_len, 0, number_vertices(&block, NULL), number_quads(&block, NULL, NULL, NULL));
+}
+
+void plain_mesh(uint32_t nx, uint32_t ny, uint32_t nz, const uint16_t *samples, size_t samples_len, uint16_t t,
+                uint32_t *words, size_t words_len, double *offsets, size_t offsets_len, uint32_t *quads,
+                size_t quads_len, uint32_t *answer, size_t answer_len)
+{
+    struct refusal refusal = check_block(nx, ny, nz, samples, samples_len, t);
+    struct block block = block_of(nx, ny, nz, samples, t);
+    uint32_t vertex_count, quad_count, *first;
+    if (refusal.number) {
+        say(answer, answer_len, refusal.number, refusal.value, 0);
+        return;
+    }
+    first = malloc((cubes(&block) + 1) * sizeof *first);
+    if (!first)
+        impossible("no memory");
+    vertex_count = number_vertices(&block, first);
+    quad_count = number_quads(&block, NULL, NULL, NULL);
+    if (words_len < WORDS * (size_t)vertex_count || offsets_len < AXES * (size_t)vertex_count) {
+        say(answer, answer_len, 5, vertex_count, 0);
+    } else if (quads_len < SIDES * (size_t)quad_count) {
+        say(answer, answer_len, 6, quad_count, 0);
+    } else {
+        write_vertices(&block, words, offsets);
+        number_quads(&block, first, words, quads);
+        say(answer, answer_len, 0, vertex_count, quad_count);
+    }
+    free(first);
+}

@@ -1,0 +1,249 @@
+/* Runs the plain implementation on the paper's samples: the example block with its whole output, the nine cubes, the
+   edges, the refusals and the table of faces. Prints each sample and its verdict; exits with 1 if one differs.
+   Assumes nothing of the library. */
+#include "plain.h"
+
+#include <stdio.h>
+#include <string.h>
+
+enum { ANSWER = 3, EXAMPLE_SAMPLES = 27, EXAMPLE_VERTICES = 8, EXAMPLE_QUADS = 6, CEILING = 65535 };
+
+static unsigned failures;
+
+static void verdict(const char *name, int good)
+{
+    printf("%-44s %s\n", name, good ? "as the paper says" : "DIFFERS");
+    if (!good)
+        failures++;
+}
+
+static int says(const uint32_t *answer, uint32_t number, uint32_t second, uint32_t third)
+{
+    return answer[0] == number && answer[1] == second && answer[2] == third;
+}
+
+/* ---- the example block ---- */
+
+static const char example_output[] =
+    "00000000080000000601\n"
+    "010000000008883FE80000000000003FE80000000000003FE8000000000000\n"
+    "010000000104483FD00000000000003FE80000000000003FE8000000000000\n"
+    "010000000202843FE80000000000003FD00000000000003FE8000000000000\n"
+    "010000000301443FD00000000000003FD00000000000003FE8000000000000\n"
+    "010000000408223FE80000000000003FE80000000000003FD0000000000000\n"
+    "010000000504123FD00000000000003FE80000000000003FD0000000000000\n"
+    "010000000602213FE80000000000003FD00000000000003FD0000000000000\n"
+    "010000000701113FD00000000000003FD00000000000003FD0000000000000\n"
+    "0200000000000000040000000600000002\n"
+    "0200000001000000030000000700000005\n"
+    "0200000000000000010000000500000004\n"
+    "0200000002000000060000000700000003\n"
+    "0200000000000000020000000300000001\n"
+    "0200000004000000050000000700000006\n";
+
+static void example_block(uint16_t samples[EXAMPLE_SAMPLES])
+{
+    memset(samples, 0, EXAMPLE_SAMPLES * sizeof *samples);
+    samples[13] = 0x190;
+}
+
+/* Is each side used exactly twice, and has it two different ends? */
+static int closed(const uint32_t *quads, size_t quad_count)
+{
+    for (size_t i = 0; i < 4 * quad_count; i++) {
+        uint32_t a = quads[i], b = quads[i / 4 * 4 + (i + 1) % 4];
+        unsigned uses = 0;
+        for (size_t j = 0; j < 4 * quad_count; j++) {
+            uint32_t c = quads[j], d = quads[j / 4 * 4 + (j + 1) % 4];
+            uses += (a == c && b == d) || (a == d && b == c);
+        }
+        if (a == b || uses != 2)
+            return 0;
+    }
+    return 1;
+}
+
+static unsigned long long bits(double x)
+{
+    uint64_t word;
+    memcpy(&word, &x, sizeof word);
+    return word;
+}
+
+static void example(void)
+{
+    uint16_t samples[EXAMPLE_SAMPLES];
+    uint32_t words[2 * EXAMPLE_VERTICES], quads[4 * EXAMPLE_QUADS], answer[ANSWER];
+    double offsets[3 * EXAMPLE_VERTICES];
+    char output[sizeof example_output + 100];
+    size_t used;
+    example_block(samples);
+    plain_counts(3, 3, 3, samples, EXAMPLE_SAMPLES, 100, answer, ANSWER);
+    verdict("counts of the example", says(answer, 0, EXAMPLE_VERTICES, EXAMPLE_QUADS));
+    plain_mesh(3, 3, 3, samples, EXAMPLE_SAMPLES, 100, words, 2 * EXAMPLE_VERTICES, offsets, 3 * EXAMPLE_VERTICES,
+               quads, 4 * EXAMPLE_QUADS, answer, ANSWER);
+    if (!says(answer, 0, EXAMPLE_VERTICES, EXAMPLE_QUADS)) {
+        verdict("mesh of the example", 0);
+        return;
+    }
+    used = (size_t)sprintf(output, "00%08X%08X%02X\n", (unsigned)answer[1], (unsigned)answer[2],
+                           closed(quads, EXAMPLE_QUADS) ? 1u : 0u);
+    for (size_t v = 0; v < EXAMPLE_VERTICES; v++)
+        used += (size_t)sprintf(output + used, "01%08X%04X%016llX%016llX%016llX\n", (unsigned)words[2 * v],
+                                (unsigned)words[2 * v + 1], bits(offsets[3 * v]), bits(offsets[3 * v + 1]),
+                                bits(offsets[3 * v + 2]));
+    for (size_t q = 0; q < EXAMPLE_QUADS; q++)
+        used += (size_t)sprintf(output + used, "02%08X%08X%08X%08X\n", (unsigned)quads[4 * q],
+                                (unsigned)quads[4 * q + 1], (unsigned)quads[4 * q + 2], (unsigned)quads[4 * q + 3]);
+    fputs(output, stdout);
+    verdict("whole output of the example", strcmp(output, example_output) == 0);
+}
+
+/* ---- cubes ---- */
+
+struct bench_cube {
+    const char *name;
+    uint16_t corners[8];
+    unsigned count;
+    uint32_t masks[4];
+};
+
+static const struct bench_cube bench_cubes[] = {
+    {"eight times 99", {99, 99, 99, 99, 99, 99, 99, 99}, 0, {0}},
+    {"eight times 100", {100, 100, 100, 100, 100, 100, 100, 100}, 0, {0}},
+    {"200, seven times 0", {200, 0, 0, 0, 0, 0, 0, 0}, 1, {0x111}},
+    {"110,0,0,110,0,0,0,0", {110, 0, 0, 110, 0, 0, 0, 0}, 2, {0x111, 0x822}},
+    {"300,50,50,300,0,0,0,0", {300, 50, 50, 300, 0, 0, 0, 0}, 1, {0x933}},
+    {"200,0,0,200,0,0,0,0 (tie)", {200, 0, 0, 200, 0, 0, 0, 0}, 1, {0x933}},
+    {"100,99,99,65534,0,0,0,0", {100, 99, 99, 65534, 0, 0, 0, 0}, 2, {0x111, 0x822}},
+    {"110,0,0,110,0,110,110,0", {110, 0, 0, 110, 0, 110, 110, 0}, 4, {0x111, 0x822, 0x284, 0x448}},
+    {"300,50,50,300,50,300,300,50", {300, 50, 50, 300, 50, 300, 300, 50}, 4, {0x221, 0x412, 0x144, 0x888}},
+};
+
+static void cubes(void)
+{
+    for (size_t i = 0; i < sizeof bench_cubes / sizeof *bench_cubes; i++) {
+        uint32_t masks[4], answer[ANSWER];
+        double offsets[12];
+        int within = 1;
+        plain_cube(bench_cubes[i].corners, 100, masks, offsets, answer, ANSWER);
+        for (unsigned loop = 0; loop < answer[1]; loop++)
+            printf("%s%03X", loop ? ", " : "masks ", (unsigned)masks[loop]);
+        printf("%s", answer[1] ? "\n" : "no masks\n");
+        for (unsigned j = 0; j < 12; j++)
+            within = within && offsets[j] >= 0.0 && offsets[j] <= 1.0 && (j < 3 * answer[1] || bits(offsets[j]) == 0);
+        verdict(bench_cubes[i].name, says(answer, 0, bench_cubes[i].count, 0) && within &&
+                                         memcmp(masks, bench_cubes[i].masks, sizeof masks) == 0);
+    }
+}
+
+static void cube_refusals(void)
+{
+    uint16_t corners[8] = {0, 0, 0, CEILING, 0, CEILING, 0, 0};
+    uint32_t masks[4], answer[ANSWER];
+    double offsets[12];
+    plain_cube(corners, 100, masks, offsets, answer, ANSWER);
+    verdict("cube with corners 3 and 5 at the ceiling",
+            says(answer, 4, 3, 0) && masks[0] == 0 && bits(offsets[0]) == 0);
+    plain_cube(corners, 0, masks, offsets, answer, ANSWER);
+    verdict("cube with t = 0", says(answer, 3, 0, 0));
+    plain_cube(corners, CEILING, masks, offsets, answer, ANSWER);
+    verdict("cube with t = 65535", says(answer, 3, CEILING, 0));
+}
+
+/* ---- edges ---- */
+
+static void edge(uint16_t p, uint16_t q, uint32_t number, uint32_t second, double wanted)
+{
+    uint32_t answer[ANSWER];
+    double fraction;
+    char name[64];
+    plain_edge(p, q, 100, &fraction, answer, ANSWER);
+    sprintf(name, "edge %u,%u: %s %g", (unsigned)p, (unsigned)q,
+            number ? "refused, fraction" : second ? "fraction" : "none, fraction", wanted);
+    verdict(name, says(answer, number, second, 0) && bits(fraction) == bits(wanted));
+}
+
+static void edges(void)
+{
+    edge(0, 400, 0, 1, 0.25);
+    edge(400, 0, 0, 1, 0.75);
+    edge(100, 0, 0, 1, 0.0);
+    edge(0, 100, 0, 1, 1.0);
+    edge(100, 400, 0, 0, 0.0);
+    edge(99, 0, 0, 0, 0.0);
+    edge(0, CEILING, 4, 1, 0.0);
+    edge(CEILING, CEILING, 4, 0, 0.0);
+}
+
+/* ---- refusals of a block ---- */
+
+static void axes(uint32_t nx, uint32_t ny, uint32_t nz, uint32_t axis)
+{
+    uint16_t samples[1] = {0};
+    uint32_t answer[ANSWER];
+    char name[64];
+    plain_counts(nx, ny, nz, samples, 0, 100, answer, ANSWER);
+    sprintf(name, "axes %u,%u,%u: 1, value %u", (unsigned)nx, (unsigned)ny, (unsigned)nz, (unsigned)axis);
+    verdict(name, says(answer, 1, axis, 0));
+}
+
+static void room(const char *name, size_t vertices, size_t quads, uint32_t number, uint32_t value)
+{
+    uint16_t samples[EXAMPLE_SAMPLES];
+    uint32_t words[2 * EXAMPLE_VERTICES], list[4 * EXAMPLE_QUADS], answer[ANSWER];
+    double offsets[3 * EXAMPLE_VERTICES];
+    example_block(samples);
+    plain_mesh(3, 3, 3, samples, EXAMPLE_SAMPLES, 100, words, 2 * vertices, offsets, 3 * vertices, list, 4 * quads,
+               answer, ANSWER);
+    verdict(name, says(answer, number, value, 0));
+}
+
+static void refusals(void)
+{
+    uint16_t samples[EXAMPLE_SAMPLES];
+    uint32_t answer[ANSWER];
+    axes(1, 2, 2, 0);
+    axes(2, 2, 257, 2);
+    room("room for 7 vertices: 5, value 8", 7, EXAMPLE_QUADS, 5, 8);
+    room("room for 5 quads: 6, value 6", EXAMPLE_VERTICES, 5, 6, 6);
+    room("both short: 5", 7, 5, 5, 8);
+    example_block(samples);
+    plain_counts(3, 3, 3, samples, EXAMPLE_SAMPLES - 1, 100, answer, ANSWER);
+    verdict("one sample less: 2, value 27", says(answer, 2, EXAMPLE_SAMPLES, 0));
+    plain_counts(3, 3, 3, samples, EXAMPLE_SAMPLES, 1, answer, ANSWER);
+    verdict("t = 1 passes", says(answer, 0, EXAMPLE_VERTICES, EXAMPLE_QUADS));
+    plain_counts(3, 3, 3, samples, EXAMPLE_SAMPLES, 65534, answer, ANSWER);
+    verdict("t = 65534 passes", says(answer, 0, 0, 0));
+    samples[EXAMPLE_SAMPLES - 1] = CEILING;
+    plain_counts(3, 3, 3, samples, EXAMPLE_SAMPLES, 100, answer, ANSWER);
+    verdict("last sample at the ceiling: 4, value 26", says(answer, 4, EXAMPLE_SAMPLES - 1, 0));
+}
+
+/* ---- faces ---- */
+
+static void faces(void)
+{
+    static const unsigned table[6][4] = {{4, 10, 6, 8}, {5, 11, 7, 9}, {0, 9, 2, 8},
+                                         {1, 11, 3, 10}, {0, 5, 1, 4}, {2, 7, 3, 6}};
+    for (unsigned face = 0; face < 6; face++) {
+        uint32_t mask = 0;
+        char name[32];
+        for (unsigned i = 0; i < 4; i++)
+            mask |= (uint32_t)1 << table[face][i];
+        sprintf(name, "edges of face %c=%u", "xyz"[face / 2], face % 2);
+        verdict(name, plain_face(face) == mask);
+    }
+}
+
+int main(void)
+{
+    faces();
+    edges();
+    cubes();
+    cube_refusals();
+    refusals();
+    example();
+    printf("plain_samples: %u differences\n", failures);
+    return failures ? 1 : 0;
+}
