@@ -6,6 +6,7 @@ use block::Size;
 use block::Sized;
 use cell::CubeAnswer;
 use cell::Found;
+use mesh::Counted;
 use place::Crossing;
 use place::Offset;
 
@@ -215,10 +216,336 @@ fn refusals() {
     ask_cube([65535, 0, 0, 0, 0, 0, 0, 0], 0);
 }
 
+fn word_is(word: u32) {
+    number(word as u64, 8);
+}
+
+fn words_of(words: &[u32]) {
+    io::write_all(1, b"  ");
+    let mut i: usize = 0;
+    while i < words.len() {
+        word_is(words[i]);
+        i += 1;
+    }
+    end_line();
+}
+
+fn floats_of(floats: &[f64]) {
+    io::write_all(1, b"  ");
+    let mut i: usize = 0;
+    while i < floats.len() {
+        float(floats[i]);
+        i += 1;
+    }
+    end_line();
+}
+
+fn counted_is(counted: Counted) {
+    match counted {
+        Counted::Counts(c) => {
+            number(c.vertices as u64, 8);
+            number(c.quads as u64, 8);
+        }
+        Counted::Refused(r) => {
+            refusal(r);
+        }
+    }
+}
+
+fn block_of(nx: u32, ny: u32, nz: u32, samples: usize, t: u16) {
+    number(nx as u64, 8);
+    number(ny as u64, 8);
+    number(nz as u64, 8);
+    number(samples as u64, 8);
+    number(t as u64, 4);
+    io::write_all(1, b"- ");
+}
+
+fn ask_counts(nx: u32, ny: u32, nz: u32, samples: &[u16], t: u16) {
+    io::write_all(1, b"counts ");
+    block_of(nx, ny, nz, samples.len(), t);
+    let counted = mesh::counts(nx, ny, nz, samples, t);
+    counted_is(counted);
+    end_line();
+}
+
+// The answer, and all of each buffer afterwards.
+fn ask_mesh(
+    nx: u32,
+    ny: u32,
+    nz: u32,
+    samples: &[u16],
+    t: u16,
+    words: &mut [u32],
+    offsets: &mut [f64],
+    quads: &mut [u32],
+) {
+    io::write_all(1, b"mesh ");
+    block_of(nx, ny, nz, samples.len(), t);
+    let counted = mesh::mesh(nx, ny, nz, samples, t, words, offsets, quads);
+    counted_is(counted);
+    end_line();
+    words_of(words);
+    floats_of(offsets);
+    words_of(quads);
+}
+
+// Room for 8 vertices and 6 quads, and no more.
+fn exact(nx: u32, ny: u32, nz: u32, samples: &[u16], t: u16) {
+    let mut words = [2779096485u32; 16];
+    let mut offsets = [0.125; 24];
+    let mut quads = [1515870810u32; 24];
+    ask_mesh(nx, ny, nz, samples, t, &mut words, &mut offsets, &mut quads);
+}
+
+// Room for one vertex and one quad more, and a place besides.
+fn ample(nx: u32, ny: u32, nz: u32, samples: &[u16], t: u16) {
+    let mut words = [2779096485u32; 19];
+    let mut offsets = [0.125; 28];
+    let mut quads = [1515870810u32; 29];
+    ask_mesh(nx, ny, nz, samples, t, &mut words, &mut offsets, &mut quads);
+}
+
+// Room for 7 vertices.
+fn few_vertices(nx: u32, ny: u32, nz: u32, samples: &[u16], t: u16) {
+    let mut words = [2779096485u32; 14];
+    let mut offsets = [0.125; 21];
+    let mut quads = [1515870810u32; 24];
+    ask_mesh(nx, ny, nz, samples, t, &mut words, &mut offsets, &mut quads);
+}
+
+// One offset short, with words to spare.
+fn few_offsets(nx: u32, ny: u32, nz: u32, samples: &[u16], t: u16) {
+    let mut words = [2779096485u32; 40];
+    let mut offsets = [0.125; 23];
+    let mut quads = [1515870810u32; 24];
+    ask_mesh(nx, ny, nz, samples, t, &mut words, &mut offsets, &mut quads);
+}
+
+// Room for 5 quads.
+fn few_quads(nx: u32, ny: u32, nz: u32, samples: &[u16], t: u16) {
+    let mut words = [2779096485u32; 16];
+    let mut offsets = [0.125; 24];
+    let mut quads = [1515870810u32; 20];
+    ask_mesh(nx, ny, nz, samples, t, &mut words, &mut offsets, &mut quads);
+}
+
+// Room for 7 vertices and 5 quads.
+fn few_both(nx: u32, ny: u32, nz: u32, samples: &[u16], t: u16) {
+    let mut words = [2779096485u32; 14];
+    let mut offsets = [0.125; 21];
+    let mut quads = [1515870810u32; 20];
+    ask_mesh(nx, ny, nz, samples, t, &mut words, &mut offsets, &mut quads);
+}
+
+// Counting the block of the paper, and each refusal of a count.
+fn counting(block: &[u16; 27], bright: &[u16; 27], less: &[u16; 26], more: &[u16; 28]) {
+    ask_counts(3, 3, 3, block, 100);
+    ask_counts(3, 3, 3, block, 1);
+    ask_counts(3, 3, 3, block, 65534);
+    ask_counts(1, 2, 2, block, 100);
+    ask_counts(2, 2, 257, block, 100);
+    ask_counts(3, 3, 3, less, 100);
+    ask_counts(3, 3, 3, more, 100);
+    ask_counts(3, 3, 3, block, 0);
+    ask_counts(3, 3, 3, block, 65535);
+    ask_counts(3, 3, 3, bright, 100);
+}
+
+// The mesh of that block, with each room, and each refusal.
+fn meshing(block: &[u16; 27], bright: &[u16; 27], less: &[u16; 26], more: &[u16; 28]) {
+    exact(3, 3, 3, block, 100);
+    ample(3, 3, 3, block, 100);
+    exact(3, 3, 3, block, 1);
+    exact(3, 3, 3, block, 65534);
+    exact(1, 2, 2, block, 100);
+    exact(2, 2, 257, block, 100);
+    exact(3, 3, 3, less, 100);
+    exact(3, 3, 3, more, 100);
+    exact(3, 3, 3, block, 0);
+    exact(3, 3, 3, block, 65535);
+    exact(3, 3, 3, bright, 100);
+    few_vertices(3, 3, 3, block, 100);
+    few_offsets(3, 3, 3, block, 100);
+    few_quads(3, 3, 3, block, 100);
+    few_both(3, 3, 3, block, 100);
+}
+
+// Two refusals due: the lower number is given. 1 before 2 to 6, 2 before 3 to 6, 3 before 4 to 6, 4 before 5 and 6; 5 before 6 stands above.
+fn orders(block: &[u16; 27], bright: &[u16; 27], less: &[u16; 26], dark: &[u16; 26]) {
+    exact(3, 3, 257, less, 100);
+    exact(3, 3, 257, block, 0);
+    exact(3, 3, 257, bright, 100);
+    few_vertices(3, 3, 257, block, 100);
+    few_quads(3, 3, 257, block, 100);
+    exact(3, 3, 3, less, 0);
+    exact(3, 3, 3, dark, 100);
+    few_vertices(3, 3, 3, less, 100);
+    few_quads(3, 3, 3, less, 100);
+    exact(3, 3, 3, bright, 65535);
+    few_vertices(3, 3, 3, block, 0);
+    few_quads(3, 3, 3, block, 0);
+    few_vertices(3, 3, 3, bright, 100);
+    few_quads(3, 3, 3, bright, 100);
+}
+
+// The block of the paper: 400 in the middle of 3 samples along each axis, and 0 elsewhere; with its last sample at the ceiling; and with one
+// sample less, one more, and one less of which one is at the ceiling.
+fn blocks() {
+    let block = [
+        0u16,
+        0,
+        0,
+        0,
+        0,
+        0,
+        0,
+        0,
+        0,
+        0,
+        0,
+        0,
+        0,
+        400,
+        0,
+        0,
+        0,
+        0,
+        0,
+        0,
+        0,
+        0,
+        0,
+        0,
+        0,
+        0,
+        0,
+    ];
+    let bright = [
+        0u16,
+        0,
+        0,
+        0,
+        0,
+        0,
+        0,
+        0,
+        0,
+        0,
+        0,
+        0,
+        0,
+        400,
+        0,
+        0,
+        0,
+        0,
+        0,
+        0,
+        0,
+        0,
+        0,
+        0,
+        0,
+        0,
+        65535,
+    ];
+    let less = [
+        0u16,
+        0,
+        0,
+        0,
+        0,
+        0,
+        0,
+        0,
+        0,
+        0,
+        0,
+        0,
+        0,
+        400,
+        0,
+        0,
+        0,
+        0,
+        0,
+        0,
+        0,
+        0,
+        0,
+        0,
+        0,
+        0,
+    ];
+    let more = [
+        0u16,
+        0,
+        0,
+        0,
+        0,
+        0,
+        0,
+        0,
+        0,
+        0,
+        0,
+        0,
+        0,
+        400,
+        0,
+        0,
+        0,
+        0,
+        0,
+        0,
+        0,
+        0,
+        0,
+        0,
+        0,
+        0,
+        0,
+        0,
+    ];
+    let dark = [
+        0u16,
+        0,
+        0,
+        0,
+        0,
+        0,
+        0,
+        0,
+        0,
+        0,
+        0,
+        0,
+        0,
+        65535,
+        0,
+        0,
+        0,
+        0,
+        0,
+        0,
+        0,
+        0,
+        0,
+        0,
+        0,
+        0,
+    ];
+    counting(&block, &bright, &less, &more);
+    meshing(&block, &bright, &less, &more);
+    orders(&block, &bright, &less, &dark);
+}
+
 fn main() {
     sizes();
     edges();
     table();
     ties();
     refusals();
+    blocks();
 }
