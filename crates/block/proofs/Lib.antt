@@ -4,3 +4,4 @@ pub mod Rows
 pub mod Sizes
 pub mod Fixed
 pub mod Order
+pub mod ClearRuns

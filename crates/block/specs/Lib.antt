@@ -3,3 +3,4 @@ pub mod Grey
 pub mod Numbering
 pub mod Rows
 pub mod Size
+pub mod Steps

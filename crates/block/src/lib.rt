@@ -1,10 +1,14 @@
 // The block: its size, the threshold, refusals by number, and the checks of rows 1 to 4 (document 01, "The block and its numbering" and
 // "Numbers of refusal").
 ghost use mathlib.Core.Path.{_≡_};
-ghost use Prim.Native.Nat.{_≤_};
+ghost use Prim.Native.Nat.{ℕ, _+_, _≤_};
+ghost use lib.ListN.{length, getD};
+ghost use Rattle.laws.specs.Bits.{bit};
+ghost use Rattle.laws.proofs.Counting.{count};
 ghost use Rattle.block.specs.Grey.{isCeiling};
 ghost use Rattle.block.specs.Numbering.{sampleCount, cubeCount};
 ghost use Rattle.block.specs.Rows.{countRow, thresholdRow, ceilingRow, lowest};
+ghost use Rattle.block.specs.Steps.{ClearBefore};
 ghost use Rattle.block.specs.Size.{Limits, SizeMade};
 
 // A refusal: 01's number, and the value that goes with it.
@@ -143,11 +147,50 @@ pub fn check_threshold(cut: Cut) -> Checked
     Checked::Passes
 }
 
+// 1 for a sample at the detector's ceiling, 0 for another.
+fn at_ceiling(sample: u16) -> u16
+    ensures { λ r. ⌜ r ≡ bit (isCeiling sample) ⌝ }
+    ensures { λ r. ⌜ r ≤ 1 ⌝ }
+{
+    if sample == 65535 {
+        return 1;
+    }
+    0
+}
+
+// How many of 256 samples are at the ceiling. The loop has no way out, so the compiler takes eight samples at a time.
+fn ceilings(samples: &[u16], from: usize) -> u16
+    requires { ⌜ from + 256 ≤ length (now samples) ⌝ }
+    ensures { λ r. ⌜ r ≡ count (λ (i : ℕ). isCeiling (getD (now (samples .entry)) (from + i) 0)) 256 ⌝ }
+{
+    let mut n: u16 = 0;
+    let mut i: usize = 0;
+    while i < 256 {
+        n += at_ceiling(samples[from + i]);
+        i += 1;
+    }
+    n
+}
+
+// An index before which no sample is at the ceiling, 256 samples at a time.
+fn clear_before(samples: &[u16]) -> usize
+    ensures { λ r. ⌜ ClearBefore (now (samples .entry)) r ⌝ }
+{
+    let mut i: usize = 0;
+    while samples.len() - i >= 256 {
+        if ceilings(samples, i) != 0 {
+            return i;
+        }
+        i += 256;
+    }
+    i
+}
+
 // The index of the first sample at the detector's ceiling, or how many samples there are.
 fn lowest_ceiling(samples: &[u16]) -> usize
     ensures { λ r. ⌜ r ≡ lowest isCeiling (now (samples .entry)) ⌝ }
 {
-    let mut i = 0;
+    let mut i = clear_before(samples);
     while i < samples.len() {
         if samples[i] == 65535 {
             return i;

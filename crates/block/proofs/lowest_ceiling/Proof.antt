@@ -9,20 +9,25 @@ use borrow.Author.Count.{below-more}
 use borrow.Author.Needs.{needs}
 use borrow.Author.Tests.{eq-eqb, ne-eqb}
 use Rattle.block.specs.Grey.{isCeiling}
+use Rattle.block.specs.Steps.{ClearBefore}
 use Rattle.block.proofs.Lowest.{lowest-is}
 use Rattle.block.proofs.lowest_ceiling.Statement.{statement}
 use Rattle.block.proofs.lowest_ceiling.Tie as tie
 use Rattle.block.proofs.lowest_ceiling.Reads as reads
 use Rattle.block.proofs.lowest_ceiling.Lts as lts
+use Rattle.block.proofs.clear_before.Reads as clear-before-reads
 
 abbrev Inv-loop : tie.InvT-loop
-Inv-loop samples i₀ i = (i ≤ length samples) × ((k : ℕ) → k < i → isCeiling (getD samples k 0) ≡ false)
+Inv-loop samples i₀ i = ClearBefore samples i
 
 abbrev μ-loop : tie.MeasureT-loop
 μ-loop samples i₀ i = length samples - i
 
+clear-before-requires : tie.Need-clear-before-requires Inv-loop μ-loop
+clear-before-requires c κs = search needs
+
 loop-holds : tie.Need-loop-holds Inv-loop μ-loop
-loop-holds c = (omega arith, λ k h. absurd (omega arith))
+loop-holds c = c .clear-before .ensures
 
 mul-if1 : tie.Need-mul-if1 Inv-loop μ-loop
 mul-if1 c = search needs
@@ -53,6 +58,7 @@ lowest-ceiling-spec =
     (tie.spec
     Inv-loop
     μ-loop
+    clear-before-requires
     loop-holds
     mul-if1
     shared-slice-read-if1

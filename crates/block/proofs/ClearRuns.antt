@@ -1,0 +1,45 @@
+-- Counting the samples at the ceiling: one sample more, and what follows where there is none.
+-- Assumes nothing.
+use Prim.Native.Nat.{ℕ, zero, suc, _+_, _-_, _<_, _≤_}
+use mathlib.Core.Path.{_≡_, refl, ap, sym, _∙_, subst}
+use mathlib.Core.Bool.{Bool, true, false}
+use mathlib.Core.Logic.{_⊎_, inl, inr, ⊎-elim}
+use mathlib.Core.List.{List}
+use native.Mathlib.Nat.{eq-or-lt-of-le, le-of-suc-le-suc, not-suc-le-zero}
+use native.Mathlib.Numerals.{add-one}
+use native.Mathlib.Omega.{arith}
+use lib.ListN.{length, getD}
+use Rattle.laws.specs.Bits.{bit}
+use Rattle.laws.proofs.Counting.{count}
+use Rattle.laws.proofs.Tests.{lt-or-ge}
+use Rattle.block.specs.Grey.{isCeiling}
+use Rattle.block.specs.Steps.{ClearBefore}
+
+pub count-none : (f : ℕ → Bool) → count f 0 ≡ 0
+unfolding count
+count-none f = refl
+
+pub count-next : (f : ℕ → Bool) (n : ℕ) → count f (n + 1) ≡ count f n + bit (f n)
+unfolding count
+count-next f n = ap (count f) (add-one n)
+
+-- none counted, none there
+count-clear : (f : ℕ → Bool) (n : ℕ) → count f n ≡ 0 → (k : ℕ) → k < n → f k ≡ false
+unfolding count
+count-clear f zero e k h = absurd (not-suc-le-zero h)
+count-clear f (suc n) e k h =
+    ⊎-elim (λ (i : k ≡ n). ap f i ∙ off (f n) (omega arith)) (λ (l : k < n). count-clear f n (omega arith) k l) (eq-or-lt-of-le (le-of-suc-le-suc h))
+  where
+    off : (b : Bool) → bit b ≡ 0 → b ≡ false
+    off true e = absurd (omega arith)
+    off false e = refl
+
+-- 256 samples more
+pub clear-more : (s : List ℕ) (i : ℕ) → i + 256 ≤ length s → ClearBefore s i → count (λ (x : ℕ). isCeiling (getD s (i + x) 0)) 256 ≡ 0 → ClearBefore s (i + 256)
+clear-more s i h c e = (h, λ (k : ℕ) (l : k < i + 256). ⊎-elim (c .1 k) (λ (g : i ≤ k). later k l g) (lt-or-ge k i))
+  where
+    later : (k : ℕ) → k < i + 256 → i ≤ k → isCeiling (getD s k 0) ≡ false
+    later k l g = subst (λ (x : ℕ). isCeiling (getD s x 0) ≡ false) (back k g) (count-clear (λ (x : ℕ). isCeiling (getD s (i + x) 0)) 256 e (k - i) (omega arith))
+      where
+        back : (k : ℕ) → i ≤ k → i + (k - i) ≡ k
+        back k g = omega arith

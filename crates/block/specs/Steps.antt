@@ -1,0 +1,12 @@
+-- What a step of a check promises.
+-- Assumes nothing.
+use Prim.Native.Nat.{ℕ, _≤_, _<_}
+use mathlib.Core.Path.{_≡_}
+use mathlib.Core.Bool.{false}
+use mathlib.Core.List.{List}
+use lib.ListN.{length, getD}
+use Rattle.block.specs.Grey.{isCeiling}
+
+-- no sample before the index is at the ceiling
+abbrev pub ClearBefore : List ℕ → ℕ → Type 0
+ClearBefore samples i = (i ≤ length samples) × ((k : ℕ) → k < i → isCeiling (getD samples k 0) ≡ false)
