@@ -23,7 +23,8 @@ use Rattle.mesh_rule.specs.Mesh.{verticesOf, verticesBefore, vertexNumber, vert
 use Rattle.mesh_rule.proofs.Holders.{first-lt}
 use Rattle.mesh_rule.proofs.Inner.{CrossedIn}
 use Rattle.mesh_rule.proofs.Numbers.{one-for-each-loop, corners-of-number}
-use Rattle.quads.specs.Parts.{leadCube, cornersFrom}
+use Rattle.vertices.proofs.CubeCorners.{corners-at}
+use Rattle.quads.specs.Parts.{leadCube}
 use Rattle.quads.specs.Rings.{rowCube, rowSample, foundOn, WantedOn, Fits32}
 use Rattle.quads.specs.Steps.{loopsFrom, OneLoop, FirstOf, foundAt}
 use Rattle.quads.specs.Writing.{Accepted}
@@ -44,35 +45,6 @@ cubes-few n l = product-le (n .nx - 1) (n .ny - 1) (n .nz - 1) 255 255 255 (less
   where
     less : {m : ℕ} → m ≤ 256 → m - 1 ≤ 255
     less h = omega arith
-
--- ---- the corners by the index of corner 0
-
-corners-from : (n : Size) (s : List ℕ) (x y z : ℕ) → cornersFrom s (sampleIndex n x y z) (n .nx) (n .nx * n .ny) ≡ cornersAt n s x y z
-corners-from n s x y z = same (n .nx) (n .ny)
-  where
-    i1 : (w h : ℕ) → x + w * (y + h * z) + 1 ≡ x + 1 + w * (y + h * z)
-    i1 w h = omega arith
-
-    i2 : (w h : ℕ) → x + w * (y + h * z) + w ≡ x + w * (y + 1 + h * z)
-    i2 w h = omega arith
-
-    i4 : (w h : ℕ) → x + w * (y + h * z) + w * h ≡ x + w * (y + h * (z + 1))
-    i4 w h = omega arith
-
-    i3 : (w h : ℕ) → x + w * (y + h * z) + w + 1 ≡ x + 1 + w * (y + 1 + h * z)
-    i3 w h = omega arith
-
-    i5 : (w h : ℕ) → x + w * (y + h * z) + w * h + 1 ≡ x + 1 + w * (y + h * (z + 1))
-    i5 w h = omega arith
-
-    i6 : (w h : ℕ) → x + w * (y + h * z) + w * h + w ≡ x + w * (y + 1 + h * (z + 1))
-    i6 w h = omega arith
-
-    i7 : (w h : ℕ) → x + w * (y + h * z) + w * h + w + 1 ≡ x + 1 + w * (y + 1 + h * (z + 1))
-    i7 w h = omega arith
-
-    same : (w h : ℕ) → cornersFrom s (x + w * (y + h * z)) w (w * h) ≡ cornersAt (record { nx = w; ny = h; nz = n .nz }) s x y z
-    same w h = rw (i7 w h, i6 w h, i5 w h, i4 w h, i3 w h, i2 w h, i1 w h)
 
 last-corner : (w h x y z : ℕ) → x + w * (y + h * z) + w * h + w + 1 ≡ x + 1 + w * (y + 1 + h * (z + 1))
 last-corner w h x y z = omega arith
@@ -95,11 +67,11 @@ module _ (n : Size) (s : List ℕ) (cut : Cut) (ok : Accepted n s cut) (x y z e 
   corner = sampleIndex n x y z
 
   loops-are : loopsFrom s cut corner (n .nx) (n .nx * n .ny) ≡ masksOf n s cut cube
-  loops-are = ap (loopsOf cut) (corners-from n s x y z ∙ sym (corners-of-number n s x y z (h .cube-in .0) (h .cube-in .1)))
+  loops-are = ap (loopsOf cut) (corners-at n s (sampleIndex n x y z) x y z refl ∙ sym (corners-of-number n s x y z (h .cube-in .0) (h .cube-in .1)))
 
   one-holder : holders e (loopsFrom s cut corner (n .nx) (n .nx * n .ny)) ≡ 1
   one-holder =
-      ap (λ (cs : List ℕ). holders e (loopsOf cut cs)) (corners-from n s x y z)
+      ap (λ (cs : List ℕ). holders e (loopsOf cut cs)) (corners-at n s (sampleIndex n x y z) x y z refl)
       ∙ cube-laws joined .each cut (cornersAt n s x y z) e (h .edge-lt)
       ∙ ap bit (h .is-crossed)
 

@@ -28,7 +28,7 @@ use Rattle.cell.specs.Answer.{wordOf, cubeVerdict, saidCube, CubeAnswered}
 use Rattle.cell.proofs.Answers.{verdict-second, accepted-loops}
 use Rattle.cell.proofs.Found.{the-type}
 use Rattle.mesh_rule.proofs.Holders.{first-lt, first-holds, only-first}
-use Rattle.quads.specs.Parts.{cornersFrom}
+use Rattle.vertices.specs.Cubes.{cornersFrom}
 use Rattle.quads.specs.Steps.{loopsFrom, OneLoop, FirstOf}
 
 words-same : (corners ms : List ℕ) → map (wordOf corners) ms ≡ ms
@@ -45,7 +45,7 @@ count-of m n h = cc
 
 module _ (samples : List ℕ) (cut : Cut) (e i nx nxy : ℕ) (o : OneLoop samples cut e i nx nxy) where
   abbrev corners : List ℕ
-  corners = cornersFrom samples i nx nxy
+  corners = cornersFrom samples nx nxy i
 
   abbrev loops : List ℕ
   loops = loopsFrom samples cut i nx nxy
@@ -53,7 +53,7 @@ module _ (samples : List ℕ) (cut : Cut) (e i nx nxy : ℕ) (o : OneLoop sample
   -- ---- rows 3 and 4 pass
 
   no-ceiling : ceilingRow corners ≡ Passes
-  unfolding lowestRow lowest
+  unfolding lowestRow lowest cornersFrom
   no-ceiling =
       let clear = row-clear isCeiling 4 samples (o .ceiling) in
       let far = o .room in

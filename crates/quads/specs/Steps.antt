@@ -9,11 +9,12 @@ use Rattle.block.specs.declared.Cut.{Cut}
 use Rattle.block.specs.Rows.{thresholdRow, ceilingRow}
 use Rattle.cube_rule.specs.Decider.{loopsOf}
 use Rattle.cube_rule.specs.Rule.{holders, firstHolder}
-use Rattle.quads.specs.Parts.{leadCube, cornersFrom}
+use Rattle.vertices.specs.Cubes.{cornersFrom}
+use Rattle.quads.specs.Parts.{leadCube}
 
 -- the loops of the cube whose corner 0 has the index i
 abbrev pub loopsFrom : List ℕ → Cut → ℕ → ℕ → ℕ → List ℕ
-loopsFrom s cut i nx nxy = loopsOf cut (cornersFrom s i nx nxy)
+loopsFrom s cut i nx nxy = loopsOf cut (cornersFrom s nx nxy i)
 
 -- one loop of the cube whose corner 0 has the index i holds the edge e, and rows 3 and 4 pass
 pub record OneLoop (samples : List ℕ) (cut : Cut) (e i nx nxy : ℕ) : Type 0 where

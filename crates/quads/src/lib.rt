@@ -17,7 +17,7 @@ ghost use Rattle.mesh_rule.specs.Mesh.{quad, turned, flat};
 ghost use Rattle.mesh_rule.specs.Buffers.{planeQuads};
 ghost use Rattle.signs.specs.Signs.{Plane};
 ghost use Rattle.quads.specs.Edges.{axisOf, edgesOf, firstRow, RowIn, PlaneIn, Planes, PlaneCounted, RowCount, PlaneCount};
-ghost use Rattle.quads.specs.Parts.{leadCube, cornersFrom};
+ghost use Rattle.quads.specs.Parts.{leadCube};
 ghost use Rattle.quads.specs.Steps.{loopsFrom, OneLoop, FirstOf, foundAt, Wanted};
 ghost use Rattle.quads.specs.Rings.{rowCube, rowSample, ringOf, fourOf, foundOn, WantedOn, Sought, cursorsAt, FourFit, quadFound, Behind};
 ghost use Rattle.quads.specs.Writing.{Ready, edgeQuads, rowQuads, InRow, RunOf, RowLeft, TwoLayers, OneLayer, Wrote};
@@ -273,30 +273,13 @@ fn seek(part: &[u32], from: usize, c: usize) -> usize
     v
 }
 
-// The samples at the corners of the cube whose corner 0 has the index i.
-fn corners(samples: &[u16], i: usize, nx: usize, nxy: usize) -> [u16; 8]
-    requires { ⌜ i + nxy + nx + 1 < length (now samples) ⌝ }
-    ensures { λ r. ⌜ r ≡ cornersFrom (now (samples .entry)) i nx nxy ⌝ }
-{
-    [
-        samples[i],
-        samples[i + 1],
-        samples[i + nx],
-        samples[i + nx + 1],
-        samples[i + nxy],
-        samples[i + nxy + 1],
-        samples[i + nxy + nx],
-        samples[i + nxy + nx + 1],
-    ]
-}
-
 // Which of a cube's loops holds the edge e, by the cube question.
 fn which_loop(samples: &[u16], cut: Cut, e: u32, i: usize, nx: usize, nxy: usize) -> usize
     requires { ⌜ OneLoop (now samples) cut e i nx nxy ⌝ }
     ensures { λ r. ⌜ r ≡ firstHolder e (loopsFrom (now (samples .entry)) cut i nx nxy) ⌝ }
     ensures { λ r. ⌜ r < 4 ⌝ }
 {
-    let answer = cell::cube(corners(samples, i, nx, nxy), cut.t);
+    let answer = cell::cube(vertices::corners(samples, i, nx, nxy), cut.t);
     let found = answer.found;
     let words = answer.words;
     let Found::Loops(n) = found else {
