@@ -38,6 +38,14 @@ pub quads-all-length : (n : Size) (s : List ℕ) (cut : Cut) → length (meshQua
 unfolding meshQuads
 quads-all-length n s cut = flat-length (quads loopsOf n s cut)
 
+-- a buffer with `front` at its start is written on behind it
+store-next : {A : Type 0} (l₀ l l′ front part all : List A) (i : ℕ) → l ≡ sets l₀ 0 front → i ≡ length front → l′ ≡ sets l i part → all ≡ front ++ part → l′ ≡ sets l₀ 0 all
+store-next {A} l₀ l l′ front part all i is at e whole =
+    e ∙ ap₂ (λ (x : List A) (j : ℕ). sets x j part) is (at ∙ from-zero (length front)) ∙ sets-append l₀ 0 front part ∙ ap (sets l₀ 0) (sym whole)
+  where
+    from-zero : (x : ℕ) → x ≡ 0 + x
+    from-zero x = omega arith
+
 module _ (n : Size) (s : List ℕ) (cut : Cut) where
   abbrev marks : ℕ → ℕ → ℕ → ℕ → ℕ → Marks
   marks b h x y z = record { below = b; here = h; x = x; y = y; z = z }
@@ -66,21 +74,13 @@ module _ (n : Size) (s : List ℕ) (cut : Cut) where
   module _ (k : ℕ) (m : Marks) (w₀ w : List ℕ) (o₀ o : List Float) (q₀ q : List ℕ) (r : Writing n s cut k m w₀ w o₀ o q₀ q) where
     pub words-next : (w′ : List ℕ) → w′ ≡ sets w (2 * m .here) (layerWords n s cut k) → w′ ≡ sets w₀ 0 (below (cubeWords n s cut) (layerSize n * (k + 1)))
     words-next w′ e =
-        e ∙ ap₂ (λ (l : List ℕ) (i : ℕ). sets l i (layerWords n s cut k)) (r .words) (ap (λ (x : ℕ). 2 * x) (r .here-is) ∙ sym (words-length n s cut (layerSize n * k)) ∙ from-zero (length (below (cubeWords n s cut) (layerSize n * k))))
-        ∙ sets-append w₀ 0 (below (cubeWords n s cut) (layerSize n * k)) (layerWords n s cut k)
-        ∙ ap (sets w₀ 0) (sym (layer-next (cubeWords n s cut) (layerSize n) k))
-      where
-        from-zero : (x : ℕ) → x ≡ 0 + x
-        from-zero x = omega arith
+        store-next w₀ w w′ (below (cubeWords n s cut) (layerSize n * k)) (layerWords n s cut k) (below (cubeWords n s cut) (layerSize n * (k + 1))) (2 * m .here)
+        (r .words) (ap (λ (x : ℕ). 2 * x) (r .here-is) ∙ sym (words-length n s cut (layerSize n * k))) e (layer-next (cubeWords n s cut) (layerSize n) k)
 
     offsets-next : (o′ : List Float) → o′ ≡ sets o (3 * m .here) (layerOffsets n s cut k) → o′ ≡ sets o₀ 0 (below (cubeOffsets n s cut) (layerSize n * (k + 1)))
     offsets-next o′ e =
-        e ∙ ap₂ (λ (l : List Float) (i : ℕ). sets l i (layerOffsets n s cut k)) (r .offsets) (ap (λ (x : ℕ). 3 * x) (r .here-is) ∙ sym (offsets-length n s cut (layerSize n * k)) ∙ from-zero (length (below (cubeOffsets n s cut) (layerSize n * k))))
-        ∙ sets-append o₀ 0 (below (cubeOffsets n s cut) (layerSize n * k)) (layerOffsets n s cut k)
-        ∙ ap (sets o₀ 0) (sym (layer-next (cubeOffsets n s cut) (layerSize n) k))
-      where
-        from-zero : (x : ℕ) → x ≡ 0 + x
-        from-zero x = omega arith
+        store-next o₀ o o′ (below (cubeOffsets n s cut) (layerSize n * k)) (layerOffsets n s cut k) (below (cubeOffsets n s cut) (layerSize n * (k + 1))) (3 * m .here)
+        (r .offsets) (ap (λ (x : ℕ). 3 * x) (r .here-is) ∙ sym (offsets-length n s cut (layerSize n * k))) e (layer-next (cubeOffsets n s cut) (layerSize n) k)
 
   -- ---- room
 
@@ -117,30 +117,31 @@ module _ (n : Size) (s : List ℕ) (cut : Cut) where
   words-fit : (k : ℕ) (w₀ : List ℕ) → k < n .nz → 2 * vertexCount n s cut ≤ length w₀ → length (below (cubeWords n s cut) (layerSize n * k)) ≤ length w₀
   words-fit k w₀ h r = omega (arith, words-length n s cut (layerSize n * k), first-le k h)
 
+  -- a layer with the rest behind it
+  layer-back : (k : ℕ) (w₀ w rest all : List ℕ) → all ≡ below (cubeWords n s cut) (layerSize n * k) ++ layerWords n s cut k ++ rest → length all ≤ length w₀ → w ≡ sets w₀ 0 all
+      → take (2 * layerFirst n s cut (k + 1) - 2 * layerFirst n s cut k) (drop (2 * layerFirst n s cut k) w) ≡ layerWords n s cut k
+  layer-back k w₀ w rest all is fits e =
+      let front = below (cubeWords n s cut) (layerSize n * k) in
+      ap₂ (λ (i j : ℕ). take i (drop j w)) size-of (sym (words-length n s cut (layerSize n * k)))
+      ∙ ap (λ (l : List ℕ). take (length (layerWords n s cut k)) (drop (length front) l)) (e ∙ ap (sets w₀ 0) is)
+      ∙ sets-part w₀ front (layerWords n s cut k) rest (subst (λ (l : List ℕ). length l ≤ length w₀) is fits)
+    where
+      size-of : 2 * layerFirst n s cut (k + 1) - 2 * layerFirst n s cut k ≡ length (layerWords n s cut k)
+      size-of = omega (arith, layer-words-length n s cut k, layer-first-next n s cut k)
+
   pub here-part : (k : ℕ) (w₀ w : List ℕ) → k + 1 < n .nz → 2 * vertexCount n s cut ≤ length w₀ → w ≡ sets w₀ 0 (below (cubeWords n s cut) (layerSize n * (k + 1)))
       → take (2 * layerFirst n s cut (k + 1) - 2 * layerFirst n s cut k) (drop (2 * layerFirst n s cut k) w) ≡ layerWords n s cut k
   here-part k w₀ w h r e =
-      let front = below (cubeWords n s cut) (layerSize n * k) in
-      let all : below (cubeWords n s cut) (layerSize n * (k + 1)) ≡ front ++ layerWords n s cut k ++ [] = layer-next (cubeWords n s cut) (layerSize n) k ∙ sym (append-nil (front ++ layerWords n s cut k)) in
-      ap₂ (λ (i j : ℕ). take i (drop j w)) (size-of k) (sym (words-length n s cut (layerSize n * k)))
-      ∙ ap (λ (l : List ℕ). take (length (layerWords n s cut k)) (drop (length front) l)) (e ∙ ap (sets w₀ 0) all)
-      ∙ sets-part w₀ front (layerWords n s cut k) [] (subst (λ (l : List ℕ). length l ≤ length w₀) all (words-fit (k + 1) w₀ h r))
-    where
-      size-of : (k : ℕ) → 2 * layerFirst n s cut (k + 1) - 2 * layerFirst n s cut k ≡ length (layerWords n s cut k)
-      size-of k = omega (arith, layer-words-length n s cut k, layer-first-next n s cut k)
+      layer-back k w₀ w [] (below (cubeWords n s cut) (layerSize n * (k + 1)))
+      (layer-next (cubeWords n s cut) (layerSize n) k ∙ sym (append-nil (below (cubeWords n s cut) (layerSize n * k) ++ layerWords n s cut k)))
+      (words-fit (k + 1) w₀ h r) e
 
   pub below-part : (k : ℕ) (w₀ w : List ℕ) → k + 1 + 1 < n .nz → 2 * vertexCount n s cut ≤ length w₀ → w ≡ sets w₀ 0 (below (cubeWords n s cut) (layerSize n * (k + 1 + 1)))
       → take (2 * layerFirst n s cut (k + 1) - 2 * layerFirst n s cut k) (drop (2 * layerFirst n s cut k) w) ≡ layerWords n s cut k
   below-part k w₀ w h r e =
-      let front = below (cubeWords n s cut) (layerSize n * k) in
-      let all : below (cubeWords n s cut) (layerSize n * (k + 1 + 1)) ≡ front ++ layerWords n s cut k ++ layerWords n s cut (k + 1) =
-      layer-next (cubeWords n s cut) (layerSize n) (k + 1) ∙ ap (λ (l : List ℕ). l ++ layerWords n s cut (k + 1)) (layer-next (cubeWords n s cut) (layerSize n) k) in
-      ap₂ (λ (i j : ℕ). take i (drop j w)) (size-of k) (sym (words-length n s cut (layerSize n * k)))
-      ∙ ap (λ (l : List ℕ). take (length (layerWords n s cut k)) (drop (length front) l)) (e ∙ ap (sets w₀ 0) all)
-      ∙ sets-part w₀ front (layerWords n s cut k) (layerWords n s cut (k + 1)) (subst (λ (l : List ℕ). length l ≤ length w₀) all (words-fit (k + 1 + 1) w₀ h r))
-    where
-      size-of : (k : ℕ) → 2 * layerFirst n s cut (k + 1) - 2 * layerFirst n s cut k ≡ length (layerWords n s cut k)
-      size-of k = omega (arith, layer-words-length n s cut k, layer-first-next n s cut k)
+      layer-back k w₀ w (layerWords n s cut (k + 1)) (below (cubeWords n s cut) (layerSize n * (k + 1 + 1)))
+      (layer-next (cubeWords n s cut) (layerSize n) (k + 1) ∙ ap (λ (l : List ℕ). l ++ layerWords n s cut (k + 1)) (layer-next (cubeWords n s cut) (layerSize n) k))
+      (words-fit (k + 1 + 1) w₀ h r) e
 
   -- ---- the three regions with the plane k more
 

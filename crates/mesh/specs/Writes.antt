@@ -1,5 +1,5 @@
 -- How far the three buffers are written before a layer: the vertices of the layers before it, and three regions of quads side by side, one
--- for each axis, from 0, bx and bz on.
+-- for each axis, from 0, `startY` and `startZ` on.
 -- Assumes nothing.
 use Prim.Native.Nat.{ℕ, _+_, _*_, _-_, _≤_, _<_}
 use mathlib.Core.Path.{_≡_}
