@@ -7,3 +7,4 @@ pub mod Reading
 pub mod Joined
 pub mod StandIn
 pub mod Example
+pub mod Words

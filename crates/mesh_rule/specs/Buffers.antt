@@ -24,7 +24,7 @@ abbrev pub triples : List Offset → List Float
 triples [] = []
 triples (o ∷ os) = o .x ∷ o .y ∷ o .z ∷ triples os
 
--- the cubes of a layer, and the number of its first
+-- how many cubes a layer has, and how many samples a plane
 abbrev pub layerSize : Size → ℕ
 layerSize n = (n .nx - 1) * (n .ny - 1)
 
