@@ -27,6 +27,7 @@ use Rattle.cube_rule.proofs.Laws.{cube-laws}
 use Rattle.cube_rule.proofs.Unique.{holding}
 use Rattle.place.specs.declared.Offset.{Offset}
 use Rattle.place.specs.Place.{Placeable, placeOf}
+use Rattle.place.specs.Unit.{CrossedSet}
 use Rattle.cell.specs.declared.Found.{Found}
 use Rattle.cell.specs.declared.Found.the-variants.{Loops, Refused}
 use Rattle.cell.specs.declared.CubeAnswer.{CubeAnswer}
@@ -44,12 +45,16 @@ module _ (cut : Cut) (corners : List ℕ) where
   crossed-of true h e = refl
   crossed-of false h e = absurd (omega arith)
 
-  pub loop-placeable : cubeVerdict cut corners ≡ Passes → (m : ℕ) → List·Memᴰ m (loopsOf cut corners) → Placeable cut corners m
-  loop-placeable v m d = record {
+  -- a loop is a set of crossed edges, and not the empty one, whatever rows 3 and 4 say
+  pub loop-crossed : (m : ℕ) → List·Memᴰ m (loopsOf cut corners) → CrossedSet cut corners m
+  loop-crossed m d = record {
+    some = loop-some m d;
     small = cube-laws joined .sized cut corners m d .2;
     crossed = λ e he h. crossed-of (crossedAt cut corners e) (holding e (loopsOf cut corners) m d h) (cube-laws joined .each cut corners e he);
-    passes = v;
   }
+
+  pub loop-placeable : cubeVerdict cut corners ≡ Passes → (m : ℕ) → List·Memᴰ m (loopsOf cut corners) → Placeable cut corners m
+  loop-placeable v m d = record { small = loop-crossed m d .small; crossed = loop-crossed m d .crossed; passes = v }
 
   -- ---- the answer of an accepted cube, and of a refused one
 

@@ -13,3 +13,4 @@ pub mod Stores
 pub mod Pack
 pub mod Words
 pub mod Visit
+pub mod Leading

@@ -4,3 +4,4 @@ pub mod Fixed
 pub mod Filled
 pub mod Below
 pub mod Pack
+pub mod Leading

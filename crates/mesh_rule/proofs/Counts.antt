@@ -94,12 +94,16 @@ module _ (loopsOf : Cut → List ℕ → List ℕ) (n : Size) (s : List ℕ) (cu
         product-le (n .nx - 2) (n .ny - 2) (n .nz - 1) 254 254 255 (omega arith) (omega arith) (omega arith),
       )
 
+  -- at most four vertices in each cube
+  pub vertices-le-cubes : {D : Decider} → CubeLaws D loopsOf → length (vertices loopsOf n s cut) ≤ 4 * cubeCount n
+  unfolding vertices verticesBefore
+  vertices-le-cubes laws = at-most (verticesOf loopsOf n s cut) 4 (cubeCount n) (λ c l. rw one-for-each-loop (laws .four cut (cornersOf n s c)))
+
   -- four in each of 255 · 255 · 255 cubes
   pub most-vertices : {D : Decider} → CubeLaws D loopsOf → Limits n → length (vertices loopsOf n s cut) ≤ 66325500
-  unfolding vertices verticesBefore
   most-vertices laws h =
       omega (
         arith,
-        at-most (verticesOf loopsOf n s cut) 4 (cubeCount n) (λ c l. rw one-for-each-loop (laws .four cut (cornersOf n s c))),
+        vertices-le-cubes laws,
         product-le (n .nx - 1) (n .ny - 1) (n .nz - 1) 255 255 255 (omega arith) (omega arith) (omega arith),
       )

@@ -8,3 +8,5 @@ pub mod Joined
 pub mod StandIn
 pub mod Example
 pub mod Words
+pub mod Offsets
+pub mod Small

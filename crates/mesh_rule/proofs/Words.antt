@@ -1,8 +1,10 @@
 -- The words buffer holds the vertices: the cube number and the mask of each, in order.
 -- Assumes nothing.
-use Prim.Native.Nat.{ℕ, zero, suc}
-use mathlib.Core.Path.{_≡_, refl, ap, ap₂, _∙_}
+use Prim.Native.Nat.{ℕ, zero, suc, _*_}
+use mathlib.Core.Path.{_≡_, refl, ap, ap₂, sym, _∙_}
 use mathlib.Core.List.{List, [], _∷_, _++_, map}
+use native.Mathlib.Omega.{arith}
+use lib.ListN.{length}
 use Rattle.laws.specs.Below.{below}
 use Rattle.block.specs.declared.Cut.{Cut}
 use Rattle.block.specs.declared.Size.{Size}
@@ -35,3 +37,11 @@ pub words-are-vertices : (n : Size) (s : List ℕ) (cut : Cut) → flatVertices 
 unfolding vertices verticesBefore verticesOf cubeWords meshWords
 words-are-vertices n s cut =
     flat-below (verticesOf loopsOf n s cut) (cubeWords n s cut) (λ (c : ℕ). of-cube c (cornersOf n s c) (loopsOf cut (cornersOf n s c))) (cubeCount n)
+
+-- so it has two words for each vertex
+flat-length : (vs : List Vertex) → length (flatVertices vs) ≡ 2 * length vs
+flat-length [] = refl
+flat-length (v ∷ vs) = omega (arith, flat-length vs)
+
+pub mesh-words-length : (n : Size) (s : List ℕ) (cut : Cut) → length (meshWords n s cut) ≡ 2 * length (vertices loopsOf n s cut)
+mesh-words-length n s cut = ap length (sym (words-are-vertices n s cut)) ∙ flat-length (vertices loopsOf n s cut)

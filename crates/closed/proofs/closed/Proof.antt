@@ -1,0 +1,220 @@
+-- `closed` meets its promise. The side in hand is 4·quad + side, and every side before it is in order; `used` is how many of the first m
+-- sides are the pair in hand. The measures are the quads, the sides and the uses that are left.
+-- Assumes nothing.
+use mathlib.Core.Path.{_≡_, sym, _∙_}
+use mathlib.Core.Bool.{true, false}
+use mathlib.Core.List.{List}
+use mathlib.Core.Logic.{⊎-elim}
+use Prim.Native.Nat.{ℕ, _+_, _*_, _-_, _≤_}
+use native.Mathlib.Nat.{add-zero, add-assoc}
+use native.Mathlib.Omega.{arith}
+use borrow.Author.Needs.{needs}
+use borrow.Author.Tests.{not-true, not-false}
+use lib.ListN.{length, getD}
+use Rattle.laws.proofs.Leading.{HoldsTo, holds-none, holds-more}
+use Rattle.closed.specs.Closed.{usesBefore, sideSound, allSound, openAt}
+use Rattle.closed.proofs.Search.{uses-none, uses-more, side-judged, finding-all, finding-open, answer-refused, answer-found}
+use Rattle.closed.proofs.closed.Statement.{statement}
+use Rattle.closed.proofs.closed.Tie as tie
+use Rattle.closed.proofs.closed.Reads as reads
+use Rattle.closed.proofs.closed.Lts as lts
+use Rattle.closed.proofs.next.Reads as next-reads
+use Rattle.closed.proofs.same.Reads as same-reads
+use Rattle.closed.proofs.sound.Reads as sound-reads
+
+abbrev Inv-uses : tie.InvT-uses
+Inv-uses quads rest count quad side n a e b used₀ m₀ used m = (m ≤ length quads) × (used ≤ m) × (used ≡ usesBefore quads a b m)
+
+abbrev μ-uses : tie.MeasureT-uses
+μ-uses quads rest count quad side n a e b used₀ m₀ used m = length quads - m
+
+abbrev Inv-sides : tie.InvT-sides
+Inv-sides quads rest count quad side₀ side = (side ≤ 4) × HoldsTo (sideSound quads) (4 * quad + side)
+
+abbrev μ-sides : tie.MeasureT-sides
+μ-sides quads rest count quad side₀ side = 4 - side
+
+abbrev Inv-quads : tie.InvT-quads
+Inv-quads quads rest count quad₀ side₀ quad side = (quad ≤ count) × HoldsTo (sideSound quads) (4 * quad)
+
+abbrev μ-quads : tie.MeasureT-quads
+μ-quads quads rest count quad₀ side₀ quad side = count - quad
+
+-- the list, and the side in hand
+abbrev quads-of : tie.At-quads Inv-uses μ-uses Inv-sides μ-sides Inv-quads μ-quads → List ℕ
+quads-of c = c .before .before .before .args .quads .now
+
+abbrev side-of : tie.At-sides Inv-uses μ-uses Inv-sides μ-sides Inv-quads μ-quads → ℕ
+side-of c = 4 * c .before .before .quads .quad + c .sides .side
+
+cast-t17 : tie.Need-cast-t17 Inv-uses μ-uses Inv-sides μ-sides Inv-quads μ-quads
+cast-t17 c = search needs
+
+returns : tie.Need-returns Inv-uses μ-uses Inv-sides μ-sides Inv-quads μ-quads
+returns c = answer-refused (c .before .before .args .quads .now) (c .if1 .taken)
+
+quads-holds : tie.Need-quads-holds Inv-uses μ-uses Inv-sides μ-sides Inv-quads μ-quads
+quads-holds c = (search needs, holds-none _)
+
+sides-holds : tie.Need-sides-holds Inv-uses μ-uses Inv-sides μ-sides Inv-quads μ-quads
+sides-holds c = (search needs, rw add-zero (c .before .quads .inv .1))
+
+mul-n : tie.Need-mul-n Inv-uses μ-uses Inv-sides μ-sides Inv-quads μ-quads
+mul-n c = search needs
+
+add-n : tie.Need-add-n Inv-uses μ-uses Inv-sides μ-sides Inv-quads μ-quads
+add-n c = search needs
+
+mul-a : tie.Need-mul-a Inv-uses μ-uses Inv-sides μ-sides Inv-quads μ-quads
+mul-a c = search needs
+
+shared-slice-read-a :
+    tie.Need-shared-slice-read-a Inv-uses μ-uses Inv-sides μ-sides Inv-quads μ-quads
+shared-slice-read-a c = search needs
+
+next-requires : tie.Need-next-requires Inv-uses μ-uses Inv-sides μ-sides Inv-quads μ-quads
+next-requires c κs = search needs
+
+mul-b : tie.Need-mul-b Inv-uses μ-uses Inv-sides μ-sides Inv-quads μ-quads
+mul-b c = search needs
+
+shared-slice-read-b :
+    tie.Need-shared-slice-read-b Inv-uses μ-uses Inv-sides μ-sides Inv-quads μ-quads
+shared-slice-read-b c = search needs
+
+uses-holds : tie.Need-uses-holds Inv-uses μ-uses Inv-sides μ-sides Inv-quads μ-quads
+uses-holds c = (search needs, search needs, uses-none (quads-of (c .before .before .before .before .before .before)) _ _)
+
+mul-c : tie.Need-mul-c Inv-uses μ-uses Inv-sides μ-sides Inv-quads μ-quads
+mul-c c = search needs
+
+shared-slice-read-c :
+    tie.Need-shared-slice-read-c Inv-uses μ-uses Inv-sides μ-sides Inv-quads μ-quads
+shared-slice-read-c c = search needs
+
+next-requires-2 : tie.Need-next-requires-2 Inv-uses μ-uses Inv-sides μ-sides Inv-quads μ-quads
+next-requires-2 c κs = search needs
+
+mul-d : tie.Need-mul-d Inv-uses μ-uses Inv-sides μ-sides Inv-quads μ-quads
+mul-d c = search needs
+
+shared-slice-read-d :
+    tie.Need-shared-slice-read-d Inv-uses μ-uses Inv-sides μ-sides Inv-quads μ-quads
+shared-slice-read-d c = search needs
+
+same-requires : tie.Need-same-requires Inv-uses μ-uses Inv-sides μ-sides Inv-quads μ-quads
+same-requires c κs = search needs
+
+add-used : tie.Need-add-used Inv-uses μ-uses Inv-sides μ-sides Inv-quads μ-quads
+add-used c = search needs
+
+add-m : tie.Need-add-m Inv-uses μ-uses Inv-sides μ-sides Inv-quads μ-quads
+add-m c = search needs
+
+uses-less : tie.Need-uses-less Inv-uses μ-uses Inv-sides μ-sides Inv-quads μ-quads
+uses-less c = search needs
+
+uses-again : tie.Need-uses-again Inv-uses μ-uses Inv-sides μ-sides Inv-quads μ-quads
+uses-again c =
+    let quads = quads-of (c .before .before .before .before .before .before .before .before .before .before .before .before) in
+    let n = side-of (c .before .before .before .before .before .before .before .before .before .before) in
+    let uses = c .before .before .before .before .before .uses in
+    let end = c .before .before .next2 in (
+      search needs,
+      search needs,
+      uses-more quads (getD quads n 0) (getD quads (c .before .before .before .before .before .before .before .next .result) 0) (uses .used) (uses .m) (end .result) (c .same .result)
+          (uses .inv .2) (end .ensures) (c .same .ensures .0),
+    )
+
+sound-requires : tie.Need-sound-requires Inv-uses μ-uses Inv-sides μ-sides Inv-quads μ-quads
+sound-requires c κs = search needs
+
+add-side : tie.Need-add-side Inv-uses μ-uses Inv-sides μ-sides Inv-quads μ-quads
+add-side c = search needs
+
+sides-less : tie.Need-sides-less Inv-uses μ-uses Inv-sides μ-sides Inv-quads μ-quads
+sides-less c = search needs
+
+sides-again : tie.Need-sides-again Inv-uses μ-uses Inv-sides μ-sides Inv-quads μ-quads
+sides-again c =
+    let quads = quads-of (c .before .before .before .before .before .before .before .before .before .before) in
+    let sides = c .before .before .before .before .before .before .before .before in
+    let end = c .before .before .before .before .before .next in
+    let uses = c .before .before .before .uses in
+    let ok : sideSound quads (side-of sides) ≡ true =
+    side-judged quads (side-of sides) (end .result) (uses .used) (uses .m) true (end .ensures) (omega arith) (uses .inv .0) (uses .inv .2)
+    (sym (not-false _ (c .if2 .left)) ∙ c .before .sound .ensures) in
+    (search needs, rw (← add-assoc) (holds-more (sideSound quads) (side-of sides) (sides .sides .inv .1) ok))
+
+add-quad : tie.Need-add-quad Inv-uses μ-uses Inv-sides μ-sides Inv-quads μ-quads
+add-quad c = search needs
+
+quads-less : tie.Need-quads-less Inv-uses μ-uses Inv-sides μ-sides Inv-quads μ-quads
+quads-less c = search needs
+
+quads-again : tie.Need-quads-again Inv-uses μ-uses Inv-sides μ-sides Inv-quads μ-quads
+quads-again c = (search needs, λ i l. c .before .sides .inv .1 i (omega arith))
+
+returns-2 : tie.Need-returns-2 Inv-uses μ-uses Inv-sides μ-sides Inv-quads μ-quads
+returns-2 c =
+    let quads = quads-of (c .before .before) in
+    let q = c .before .before .quads .quad in
+    ⊎-elim
+    (λ w. absurd (omega arith))
+    (λ w.
+    let s = w .1 .side in
+    let bad : sideSound quads (4 * q + s) ≡ false =
+    side-judged quads (4 * q + s) (w .4 .result) (w .6 .used) (w .6 .m) false (w .4 .ensures) (omega arith) (w .6 .inv .0) (w .6 .inv .2)
+    (sym (not-true _ (w .9 .taken)) ∙ w .8 .ensures) in
+    rw (w .10) (answer-found quads (omega arith) (openAt q s) (finding-open quads q s (w .2 .taken) (omega arith) (w .1 .inv .1) bad)))
+    (c .before .quads-test .came)
+
+returns-3 : tie.Need-returns-3 Inv-uses μ-uses Inv-sides μ-sides Inv-quads μ-quads
+returns-3 c =
+    let quads = quads-of (c .before .before) in
+    ⊎-elim
+    (λ w. answer-found quads (omega arith) allSound (finding-all quads (4 * c .before .before .quads .quad) (omega arith) (c .before .before .quads .inv .1)))
+    (λ w. absurd (omega arith))
+    (c .before .quads-test .came)
+
+pub closed-spec : {M : Type 1} → statement M
+closed-spec =
+    tie.close
+    (tie.spec
+    Inv-uses
+    μ-uses
+    Inv-sides
+    μ-sides
+    Inv-quads
+    μ-quads
+    cast-t17
+    returns
+    quads-holds
+    sides-holds
+    mul-n
+    add-n
+    mul-a
+    shared-slice-read-a
+    next-requires
+    mul-b
+    shared-slice-read-b
+    uses-holds
+    mul-c
+    shared-slice-read-c
+    next-requires-2
+    mul-d
+    shared-slice-read-d
+    same-requires
+    add-used
+    add-m
+    uses-less
+    uses-again
+    sound-requires
+    add-side
+    sides-less
+    sides-again
+    add-quad
+    quads-less
+    quads-again
+    returns-2
+    returns-3)

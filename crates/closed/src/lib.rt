@@ -1,0 +1,94 @@
+// The closed question: whether each side of a list of quads is in order, and the first side that is not (document 01, "The mesh"). It
+// compares every side with every other, so its cost grows with the square of the list's length.
+use block::Refusal;
+ghost use mathlib.Core.Path.{_≡_};
+ghost use Prim.Native.Nat.{_≤_, _<_};
+ghost use Rattle.laws.specs.Bits.{bit};
+ghost use Rattle.closed.specs.Closed.{nextPlace, sameSide, soundSide, ClosedAnswered};
+
+// What the closed question answers: closed, or open at a side of a quad, both counted from 0.
+pub enum Closure {
+    Closed,
+    Open { quad: usize, side: usize },
+    Refused(Refusal),
+}
+
+// The place of the vertex at which side n ends. Sides are counted over all quads: side s of quad q is side 4·q + s.
+fn next(n: usize) -> usize
+    requires { ⌜ n < 4611686018427387904 ⌝ }
+    ensures { λ r. ⌜ r ≡ nextPlace n ⌝ }
+{
+    4 * (n / 4) + (n + 1) % 4
+}
+
+// 1 if a-b and c-d are the same unordered pair, else 0.
+fn same(a: u32, b: u32, c: u32, d: u32) -> usize
+    ensures { λ r. ⌜ r ≡ bit (sameSide a b c d) ⌝ }
+    ensures { λ r. ⌜ r ≤ 1 ⌝ }
+{
+    if a == c {
+        if b == d {
+            return 1;
+        }
+    }
+    if a == d {
+        if b == c {
+            return 1;
+        }
+    }
+    0
+}
+
+// Whether a side from a to b that is used so often is in order.
+fn sound(a: u32, b: u32, uses: usize) -> bool
+    ensures { λ r. ⌜ r ≡ soundSide a b uses ⌝ }
+{
+    if a == b {
+        return false;
+    }
+    uses == 2
+}
+
+// Whether a list of quads is closed.
+pub fn closed(quads: &[u32]) -> Closure
+    ensures { λ r. ⌜ ClosedAnswered (now (quads .entry)) r ⌝ }
+{
+    let rest = quads.len() % 4;
+    if rest != 0 {
+        return Closure::Refused(Refusal {
+            number: 7,
+            value: rest as u32,
+        });
+    }
+    let count = quads.len() / 4;
+    let mut quad = 0;
+    let mut side = 0;
+    'quads: while quad < count {
+        side = 0;
+        'sides: while side < 4 {
+            let n = 4 * quad + side;
+            let a = quads[n];
+            let e = next(n);
+            let b = quads[e];
+            let mut used = 0;
+            let mut m = 0;
+            'uses: while m < quads.len() {
+                let c = quads[m];
+                let f = next(m);
+                let d = quads[f];
+                used += same(a, b, c, d);
+                m += 1;
+            }
+            if !sound(a, b, used) {
+                break 'quads;
+            }
+            side += 1;
+        }
+        quad += 1;
+    }
+    if quad < count {
+        Closure::Open { quad, side }
+    } else {
+        Closure::Closed
+    }
+}

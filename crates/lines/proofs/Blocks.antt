@@ -1,0 +1,165 @@
+-- From what `mesh` answers of a block of at most 8 samples an axis to what the program prints: refusal 4, or the whole mesh.
+-- Assumes nothing.
+use Prim.Native.Nat.{ℕ, zero, suc, _+_, _*_, _/_, _%_, _≤_, _<_}
+use mathlib.Core.Path.{_≡_, refl, sym, ap, subst, _∙_}
+use mathlib.Core.Logic.{_⊎_, inl, inr}
+use mathlib.Core.Bool.{not}
+use mathlib.Core.List.{List, [], _∷_, _++_}
+use native.Mathlib.Nat.{mul-le-mul}
+use native.Mathlib.Omega.{arith}
+use lib.Dec.{T}
+use lib.Ieee.{Float, isNan, nan}
+use lib.ListN.{length, getD, take}
+use lib.Seq.{take-at}
+use Rattle.laws.specs.Below.{below, over}
+use Rattle.laws.proofs.Over.{each, each-length, each-at, over-length}
+use Rattle.laws.proofs.Tests.{lt-or-ge}
+use Rattle.block.specs.declared.Cut.{Cut}
+use Rattle.block.specs.declared.Size.{Size}
+use Rattle.block.specs.declared.Refusal.{Refusal}
+use Rattle.block.specs.declared.Checked.{Checked}
+use Rattle.block.specs.declared.Checked.the-variants.{Passes, Refuses}
+use Rattle.block.specs.Answer.{Answer, accepted, refused, inOrder, judged}
+use Rattle.block.specs.Numbering.{sampleCount}
+use Rattle.block.specs.Rows.{axisRow, countRow, thresholdRow, ceilingRow}
+use Rattle.block.specs.Size.{Limits}
+use Rattle.block.proofs.Order.{order-passes}
+use Rattle.block.proofs.Rows.{count-passes}
+use Rattle.mesh_rule.specs.Buffers.{meshWords, meshOffsets, meshQuads}
+use Rattle.mesh_rule.proofs.Offsets.{Greys, offsets-in-unit, mesh-offsets-length}
+use Rattle.mesh_rule.proofs.Words.{mesh-words-length}
+use Rattle.mesh_rule.proofs.Small.{few-vertices, few-quads}
+use Rattle.mesh.specs.declared.Totals.{Totals}
+use Rattle.mesh.specs.declared.Counted.{Counted}
+use Rattle.mesh.specs.declared.Counted.the-variants as counted
+use Rattle.mesh.specs.Answer.{sizeOf, vertexCount, quadCount, countsOf, vertexRow, quadRow, meshVerdict, written, MeshedBy, Meshed}
+use Rattle.mesh.proofs.RoomRows.{roomy}
+use Rattle.mesh.proofs.Writings.{quads-all-length}
+use Rattle.lines.specs.Text.{numberAt}
+use Rattle.lines.specs.Input.{sampleRead, samplesRead}
+use Rattle.lines.specs.Output.{refusalLine, meshText, blockText, printed}
+use Rattle.lines.specs.Steps.{Numbers, Readable}
+use Rattle.lines.proofs.Axes.{AtMostEight, at-most-eight}
+use Rattle.lines.proofs.Reading.{getD-past, number-small}
+
+-- ---- the front of a buffer
+
+front : {A : Type 0} (xs b : List A) (m : ℕ) → length xs ≡ m → take m (over xs b) ≡ xs
+unfolding over
+front xs b m e = take-at xs _ m e
+
+-- ---- the samples that were read
+
+-- a block has at most 512 samples
+pub block-small : (nx ny nz : ℕ) → AtMostEight nx ny nz → nx * (ny * nz) ≤ 512
+block-small nx ny nz h = mul-le-mul (h .x) (h .rows)
+
+module _ (bytes : List ℕ) (n : Size) where
+  pub samples-length : length (samplesRead bytes n) ≡ sampleCount n
+  unfolding samplesRead
+  samples-length = each-length (sampleRead bytes (n .nx)) (sampleCount n)
+
+  pub samples-grey : Greys (samplesRead bytes n)
+  unfolding samplesRead
+  samples-grey i = go (lt-or-ge i (sampleCount n))
+    where
+      go : (i < sampleCount n) ⊎ (sampleCount n ≤ i) → getD (each (sampleRead bytes (n .nx)) (sampleCount n)) i 0 < 65536
+      go (inl l) = rw (each-at (sampleRead bytes (n .nx)) (sampleCount n) i 0 l) (number-small bytes _)
+      go (inr g) =
+          rw (getD-past (each (sampleRead bytes (n .nx)) (sampleCount n)) i 0 (rw (each-length (sampleRead bytes (n .nx)) (sampleCount n)) g)) (omega arith)
+
+  -- as `fill` leaves them at the front of a buffer
+  pub samples-front : (b c : List ℕ) → c ≡ over (below (λ (i : ℕ). sampleRead bytes (n .nx) i ∷ []) (sampleCount n)) b → take (sampleCount n) c ≡ samplesRead bytes n
+  unfolding samplesRead
+  samples-front b c e = rw e (front (each (sampleRead bytes (n .nx)) (sampleCount n)) b (sampleCount n) (each-length (sampleRead bytes (n .nx)) (sampleCount n)))
+
+-- ---- the mesh
+
+-- the ceiling decides where the others pass
+ceiling-decides : (k : Checked) (ks : List Checked) → inOrder ks ≡ Passes → inOrder (k ∷ ks) ≡ k
+unfolding inOrder
+ceiling-decides Passes ks e = e
+ceiling-decides (Refuses r) ks e = refl
+
+refused-by : {A : Type 0} (k : Checked) (a : A) (r : Refusal) → refused r ≡ judged k a → k ≡ Refuses r
+unfolding judged
+refused-by Passes a r e = let z : _≡_ {A = ℕ} 0 1 = cc in absurd (omega arith)
+refused-by (Refuses q) a r e = cc
+
+accepted-by : {A : Type 0} (k : Checked) (a b : A) → accepted b ≡ judged k a → (k ≡ Passes) × (b ≡ a)
+unfolding judged
+accepted-by Passes a b e = (refl, cc)
+accepted-by (Refuses q) a b e = let z : _≡_ {A = ℕ} 0 1 = cc in absurd (omega arith)
+
+written-front : {A : Type 0} (k : Checked) (xs b c : List A) (m : ℕ) → k ≡ Passes → c ≡ written k xs b → length xs ≡ m → take m c ≡ xs
+unfolding written
+written-front k xs b c m e d l = rw (d, e) (front xs b m l)
+
+module _ (nx ny nz t : ℕ) (s w : List ℕ) (o : List Float) (q : List ℕ) (r : Counted) (w′ : List ℕ) (o′ : List Float) (q′ : List ℕ)
+    (read : Readable nx ny nz t) (count : length s ≡ nx * (ny * nz)) (lw : length w ≡ 2744) (lo : length o ≡ 4116) (lq : length q ≡ 3024)
+    (m : Meshed nx ny nz s t w o q r w′ o′ q′) where
+  abbrev size : Size
+  size = sizeOf nx ny nz
+
+  abbrev cut : Cut
+  cut = record { t = t }
+
+  abbrev verdict : Checked
+  verdict = meshVerdict nx ny nz s cut (length w) (length o) (length q)
+
+  eight : AtMostEight nx ny nz
+  eight = at-most-eight nx ny nz (read .small)
+
+  few-v : vertexCount size s cut ≤ 1372
+  few-v = few-vertices size s cut (eight .x) (eight .y) (eight .z)
+
+  few-q : quadCount size s cut ≤ 756
+  few-q = few-quads size s cut (eight .x) (eight .y) (eight .z)
+
+  is-ceiling : verdict ≡ ceilingRow s
+  is-ceiling =
+      order-passes (axisRow nx ny nz) _ (read .axes)
+      ∙ order-passes (countRow size s) _ (count-passes size s count)
+      ∙ order-passes (thresholdRow cut) _ (read .cut)
+      ∙ ceiling-decides (ceilingRow s) _
+      (roomy (vertexCount size s cut) (quadCount size s cut) (length w) (length o) (length q) (omega (arith, few-v, lw)) (omega (arith, few-v, lo)) (omega (arith, few-q, lq)))
+
+  -- refused
+  pub refused-text : (x : Refusal) → r ≡ counted.Refused x → refusalLine x ≡ printed (ceilingRow s) (blockText size s cut)
+  unfolding printed
+  refused-text x e = rw (sym is-ceiling ∙ refused-by verdict (countsOf size s cut) x (rw e at (m .answer)))
+
+  -- accepted
+  module _ (c : Totals) (e : r ≡ counted.Counts c) where
+    both : (verdict ≡ Passes) × (c ≡ countsOf size s cut)
+    both = accepted-by verdict (countsOf size s cut) c (rw e at (m .answer))
+
+    vertices-are : c .vertices ≡ vertexCount size s cut
+    vertices-are = ap (λ (x : Totals). x .vertices) (both .1)
+
+    quads-are : c .quads ≡ quadCount size s cut
+    quads-are = ap (λ (x : Totals). x .quads) (both .1)
+
+    pub few-vertices-in : c .vertices ≤ 1372
+    few-vertices-in = omega (arith, vertices-are, few-v)
+
+    pub few-quads-in : c .quads ≤ 756
+    few-quads-in = omega (arith, quads-are, few-q)
+
+    words-are : take (2 * c .vertices) w′ ≡ meshWords size s cut
+    words-are = written-front verdict (meshWords size s cut) w w′ (2 * c .vertices) (both .0) (m .words) (mesh-words-length size s cut ∙ omega (arith, vertices-are))
+
+    offsets-are : take (3 * c .vertices) o′ ≡ meshOffsets size s cut
+    offsets-are = written-front verdict (meshOffsets size s cut) o o′ (3 * c .vertices) (both .0) (m .offsets) (mesh-offsets-length size s cut ∙ omega (arith, vertices-are))
+
+    quad-numbers-are : take (4 * c .quads) q′ ≡ meshQuads size s cut
+    quad-numbers-are = written-front verdict (meshQuads size s cut) q q′ (4 * c .quads) (both .0) (m .quads) (quads-all-length size s cut ∙ omega (arith, quads-are))
+
+    -- no offset is a NaN
+    pub numbers-in : Greys s → Numbers (take (3 * c .vertices) o′)
+    numbers-in grey = subst Numbers (sym offsets-are) (λ (k : ℕ) h. offsets-in-unit size s cut grey k h .number)
+
+    pub accepted-text : meshText (c .vertices) (c .quads) (take (2 * c .vertices) w′) (take (3 * c .vertices) o′) (take (4 * c .quads) q′)
+        ≡ printed (ceilingRow s) (blockText size s cut)
+    unfolding printed
+    accepted-text = rw (words-are, offsets-are, quad-numbers-are, vertices-are, quads-are, sym is-ceiling ∙ both .0)

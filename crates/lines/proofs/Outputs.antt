@@ -1,0 +1,111 @@
+-- The program's output by the verdict on its input: it fits into 112,917 bytes, and the promise of `run` fixes what it answers.
+-- Assumes nothing.
+use Prim.Native.Nat.{ℕ, zero, suc, _+_, _*_, _≤_, _<_}
+use mathlib.Core.Path.{_≡_, refl, sym, ap, ap₂, subst, _∙_}
+use mathlib.Core.List.{List, [], _∷_, _++_}
+use native.Mathlib.Nat.{zero-add}
+use native.Mathlib.Omega.{arith}
+use lib.ListN.{length, take}
+use lib.Seq.{length-take-le}
+use Rattle.laws.specs.Below.{over}
+use Rattle.laws.specs.Fixed.{Fixes}
+use Rattle.block.specs.declared.Cut.{Cut}
+use Rattle.block.specs.declared.Size.{Size}
+use Rattle.block.specs.declared.Refusal.{Refusal}
+use Rattle.block.specs.declared.Checked.{Checked}
+use Rattle.block.specs.declared.Checked.the-variants.{Passes, Refuses}
+use Rattle.block.specs.Answer.{inOrder}
+use Rattle.block.specs.Rows.{axisRow, thresholdRow, ceilingRow}
+use Rattle.block.proofs.Order.{order-first, order-rest, order-last, orders-refuse, orders-pass}
+use Rattle.mesh_rule.proofs.Small.{few-vertices, few-quads}
+use Rattle.mesh_rule.specs.Buffers.{meshWords, meshOffsets, meshQuads}
+use Rattle.mesh.specs.Answer.{sizeOf, vertexCount, quadCount}
+use Rattle.lines.specs.Text.{numberAt}
+use Rattle.lines.specs.Input.{firstLineRow, linesRow, largeRow, sizeRead, cutRead, samplesRead, inputVerdict, verdictOn}
+use Rattle.lines.specs.Output.{refusalLine, blockText, printed, outputOf, Ran}
+use Rattle.lines.specs.Steps.{Put, Readable}
+use Rattle.lines.proofs.Axes.{AtMostEight, at-most-eight}
+use Rattle.lines.proofs.Texts.{refusal-length, mesh-length}
+use Rattle.lines.proofs.Writing.{put-over, put-length}
+
+-- ---- by the verdict
+
+-- the rows that are tried before the samples are looked at
+abbrev pub linesFirst : List ℕ → ℕ → ℕ → ℕ → ℕ → List Checked
+linesFirst bytes nx ny nz t = firstLineRow bytes ∷ axisRow nx ny nz ∷ largeRow nx ny nz ∷ thresholdRow (record { t = t }) ∷ linesRow bytes nx (ny * nz) ∷ []
+
+-- what is written for an input with these numbers in line 1
+abbrev textFor : List ℕ → Size → Cut → List ℕ
+textFor bytes n cut = blockText n (samplesRead bytes n) cut
+
+abbrev outputFor : List ℕ → Size → Cut → List ℕ
+outputFor bytes n cut = printed (verdictOn bytes n cut (samplesRead bytes n)) (textFor bytes n cut)
+
+output-for : (bytes : List ℕ) (nx ny nz t : ℕ) → nx ≡ numberAt bytes 0 4 → ny ≡ numberAt bytes 4 4 → nz ≡ numberAt bytes 8 4 → t ≡ numberAt bytes 12 4
+    → outputOf bytes ≡ outputFor bytes (sizeOf nx ny nz) (record { t = t })
+unfolding outputOf
+output-for bytes nx ny nz t ex ey ez et = rw (ex, ey, ez, et)
+
+module _ (bytes : List ℕ) (nx ny nz t : ℕ) (ex : nx ≡ numberAt bytes 0 4) (ey : ny ≡ numberAt bytes 4 4) (ez : nz ≡ numberAt bytes 8 4) (et : t ≡ numberAt bytes 12 4) where
+  -- a row before row 4 refuses
+  pub output-refused : (r : Refusal) → inOrder (linesFirst bytes nx ny nz t) ≡ Refuses r → refusalLine r ≡ outputOf bytes
+  unfolding printed
+  output-refused r e =
+      sym (output-for bytes nx ny nz t ex ey ez et
+      ∙ ap (λ (k : Checked). printed k (textFor bytes (sizeOf nx ny nz) (record { t = t })))
+      (orders-refuse (linesFirst bytes nx ny nz t) (ceilingRow (samplesRead bytes (sizeOf nx ny nz)) ∷ []) r e))
+
+  -- none does, and row 4 decides
+  pub output-block : inOrder (linesFirst bytes nx ny nz t) ≡ Passes
+      → printed (ceilingRow (samplesRead bytes (sizeOf nx ny nz))) (textFor bytes (sizeOf nx ny nz) (record { t = t })) ≡ outputOf bytes
+  output-block e =
+      sym (output-for bytes nx ny nz t ex ey ez et
+      ∙ ap (λ (k : Checked). printed k (textFor bytes (sizeOf nx ny nz) (record { t = t })))
+      (orders-pass (linesFirst bytes nx ny nz t) (ceilingRow (samplesRead bytes (sizeOf nx ny nz)) ∷ []) e ∙ order-last _))
+
+  pub readable : inOrder (linesFirst bytes nx ny nz t) ≡ Passes → Readable nx ny nz t
+  readable e =
+      let a = order-rest (firstLineRow bytes) _ e in
+      let l = order-rest (axisRow nx ny nz) _ a in
+      record { axes = order-first _ _ a; small = order-first _ _ l; cut = order-first _ _ (order-rest (largeRow nx ny nz) _ l) }
+
+-- ---- the longest output
+
+text-fits : (n : Size) (s : List ℕ) (cut : Cut) → AtMostEight (n .nx) (n .ny) (n .nz) → length (blockText n s cut) ≤ 112917
+text-fits n s cut h =
+    rw (mesh-length (vertexCount n s cut) (quadCount n s cut) (meshWords n s cut) (meshOffsets n s cut) (meshQuads n s cut))
+    (omega (arith, few-vertices n s cut (h .x) (h .y) (h .z), few-quads n s cut (h .x) (h .y) (h .z)))
+
+-- no output is longer
+pub output-fits : (bytes : List ℕ) → length (outputOf bytes) ≤ 112917
+unfolding outputOf printed
+output-fits bytes = go (inputVerdict bytes) refl
+  where
+    go : (k : Checked) → inputVerdict bytes ≡ k → length (printed k (textFor bytes (sizeRead bytes) (cutRead bytes))) ≤ 112917
+    go Passes e =
+        text-fits (sizeRead bytes) (samplesRead bytes (sizeRead bytes)) (cutRead bytes)
+        (at-most-eight _ _ _ (order-first _ _ (order-rest (axisRow (sizeRead bytes .nx) (sizeRead bytes .ny) (sizeRead bytes .nz)) _ (order-rest (firstLineRow bytes) _ e))))
+    go (Refuses r) e = rw (refusal-length r) (omega arith)
+
+-- ---- the promise
+
+-- the output put at the start of a buffer that has room for it
+pub ran : {bytes out text out′ : List ℕ} {r : ℕ} → 112917 ≤ length out → Put out 0 text out′ r → text ≡ outputOf bytes
+    → Ran bytes out r out′ × ((r ≤ length out′) × (r ≡ length (take r out′)))
+ran {bytes} {out} {text} {out′} {r} room p e =
+    let fits : length text ≤ 112917 = rw e (output-fits bytes) in
+    let behind : r ≡ length text = p .behind ∙ zero-add (length text) in
+    let in-out : r ≤ length out′ = omega (arith, fits, behind, put-length p, room) in (
+      record { count = behind ∙ ap length e; text = rw e at (put-over p (omega (arith, fits, room))) },
+      (in-out, sym (length-take-le r out′ in-out)),
+    )
+
+-- an answer of `run` with its buffer at exit
+pub record Written : Type 0 where
+  pub count : ℕ
+  pub out : List ℕ
+
+-- any two outcomes that the promise of `run` allows are equal
+pub run-fixed : (bytes out : List ℕ) → Fixes (λ (x : Written). Ran bytes out (x .count) (x .out))
+run-fixed bytes out a b p q =
+    ap₂ (λ (n : ℕ) (l : List ℕ). record { count = n; out = l }) (p .count ∙ sym (q .count)) (p .text ∙ sym (q .text))

@@ -1,0 +1,94 @@
+-- Each kind of line, from the puts that write it, and its length; the lines of a whole mesh.
+-- Assumes nothing.
+use Prim.Native.Nat.{ℕ, zero, suc, _+_, _*_, _≤_, _<_}
+use mathlib.Core.Path.{_≡_, refl, sym, ap, _∙_}
+use mathlib.Core.List.{List, [], _∷_, _++_}
+use native.Mathlib.Nat.{mul-zero, mul-suc}
+use native.Mathlib.Numerals.{add-one}
+use native.Mathlib.Omega.{arith}
+use lib.ListN.{length, getD, length-append}
+use lib.Ieee.{Float, nan, toBits, binary64}
+use Rattle.laws.specs.Below.{below}
+use Rattle.block.specs.declared.Refusal.{Refusal}
+use Rattle.closed.specs.Closed.{findingOf}
+use Rattle.lines.specs.Text.{LF, hexOf}
+use Rattle.lines.specs.Output.{refusalLine, closedField, headLine, vertexLine, quadLine, vertexLineOf, quadLineOf, meshText}
+use Rattle.lines.specs.Steps.{Put}
+use Rattle.lines.proofs.Writing.{put-none, put-then, hex-length}
+
+-- ---- lengths
+
+pub refusal-length : (r : Refusal) → length (refusalLine r) ≡ 13
+unfolding refusalLine
+refusal-length r = simp (length-append, hex-length)
+
+pub head-length : (v q c : ℕ) → length (headLine v q c) ≡ 21
+unfolding headLine
+head-length v q c = simp (length-append, hex-length)
+
+pub vertex-length : (cube word : ℕ) (x y z : Float) → length (vertexLine cube word x y z) ≡ 63
+unfolding vertexLine
+vertex-length cube word x y z = simp (length-append, hex-length)
+
+pub quad-length : (a b c d : ℕ) → length (quadLine a b c d) ≡ 35
+unfolding quadLine
+quad-length a b c d = simp (length-append, hex-length)
+
+pub lines-length : (f : ℕ → List ℕ) (w : ℕ) → ((i : ℕ) → length (f i) ≡ w) → (n : ℕ) → length (below f n) ≡ w * n
+unfolding below
+lines-length f w e zero = rw (mul-zero w)
+lines-length f w e (suc n) = length-append (below f n) (f n) ∙ rw (lines-length f w e n, e n, mul-suc w n)
+
+pub mesh-length : (v q : ℕ) (words : List ℕ) (offsets : List Float) (quads : List ℕ) → length (meshText v q words offsets quads) ≡ 21 + 63 * v + 35 * q
+unfolding meshText
+mesh-length v q words offsets quads =
+    length-append (headLine v q (closedField (findingOf quads)) ++ below (vertexLineOf words offsets) v) (below (quadLineOf quads) q)
+    ∙ rw (
+      length-append (headLine v q (closedField (findingOf quads))) (below (vertexLineOf words offsets) v),
+      head-length,
+      lines-length (vertexLineOf words offsets) 63 (λ (i : ℕ). vertex-length _ _ _ _ _) v,
+      lines-length (quadLineOf quads) 35 (λ (i : ℕ). quad-length _ _ _ _) q,
+    )
+
+-- ---- a line from its fields
+
+module _ {o₀ o₁ o₂ o₃ o₄ : List ℕ} {p₀ p₁ p₂ p₃ p₄ : ℕ} where
+  pub refusal-put : (r : Refusal) → Put o₀ p₀ (hexOf 2 255) o₁ p₁ → Put o₁ p₁ (hexOf 2 (r .number)) o₂ p₂ → Put o₂ p₂ (hexOf 8 (r .value)) o₃ p₃ → Put o₃ p₃ (LF ∷ []) o₄ p₄
+      → Put o₀ p₀ (refusalLine r) o₄ p₄
+  unfolding refusalLine
+  refusal-put r a b c d = put-then _ (put-then _ (put-then _ a b) c) d
+
+  module _ {o₅ : List ℕ} {p₅ : ℕ} where
+    pub head-put : (v q f : ℕ) → Put o₀ p₀ (hexOf 2 0) o₁ p₁ → Put o₁ p₁ (hexOf 8 v) o₂ p₂ → Put o₂ p₂ (hexOf 8 q) o₃ p₃ → Put o₃ p₃ (hexOf 2 f) o₄ p₄ → Put o₄ p₄ (LF ∷ []) o₅ p₅
+        → Put o₀ p₀ (headLine v q f) o₅ p₅
+    unfolding headLine
+    head-put v q f a b c d e = put-then _ (put-then _ (put-then _ (put-then _ a b) c) d) e
+
+    module _ {o₆ : List ℕ} {p₆ : ℕ} where
+      pub quad-put : (v₀ v₁ v₂ v₃ : ℕ) → Put o₀ p₀ (hexOf 2 2) o₁ p₁ → Put o₁ p₁ (hexOf 8 v₀) o₂ p₂ → Put o₂ p₂ (hexOf 8 v₁) o₃ p₃ → Put o₃ p₃ (hexOf 8 v₂) o₄ p₄
+          → Put o₄ p₄ (hexOf 8 v₃) o₅ p₅ → Put o₅ p₅ (LF ∷ []) o₆ p₆ → Put o₀ p₀ (quadLine v₀ v₁ v₂ v₃) o₆ p₆
+      unfolding quadLine
+      quad-put v₀ v₁ v₂ v₃ a b c d e f = put-then _ (put-then _ (put-then _ (put-then _ (put-then _ a b) c) d) e) f
+
+      module _ {o₇ : List ℕ} {p₇ : ℕ} where
+        pub vertex-put : (cube word : ℕ) (x y z : Float) → Put o₀ p₀ (hexOf 2 1) o₁ p₁ → Put o₁ p₁ (hexOf 8 cube) o₂ p₂ → Put o₂ p₂ (hexOf 4 word) o₃ p₃
+            → Put o₃ p₃ (hexOf 16 (toBits binary64 x)) o₄ p₄ → Put o₄ p₄ (hexOf 16 (toBits binary64 y)) o₅ p₅ → Put o₅ p₅ (hexOf 16 (toBits binary64 z)) o₆ p₆ → Put o₆ p₆ (LF ∷ []) o₇ p₇
+            → Put o₀ p₀ (vertexLine cube word x y z) o₇ p₇
+        unfolding vertexLine
+        vertex-put cube word x y z a b c d e f g = put-then _ (put-then _ (put-then _ (put-then _ (put-then _ (put-then _ a b) c) d) e) f) g
+
+-- ---- many lines, and a mesh
+
+pub no-lines : (f : ℕ → List ℕ) (out : List ℕ) (at : ℕ) → Put out at (below f 0) out at
+unfolding below
+no-lines f out at = put-none out at
+
+pub line-more : (f : ℕ → List ℕ) (n : ℕ) {o₀ o₁ o₂ : List ℕ} {p₀ p₁ p₂ : ℕ} → Put o₀ p₀ (below f n) o₁ p₁ → Put o₁ p₁ (f n) o₂ p₂ → Put o₀ p₀ (below f (n + 1)) o₂ p₂
+unfolding below
+line-more f n a b = rw (add-one n) (put-then (f n) a b)
+
+pub mesh-put : (v q c : ℕ) (words : List ℕ) (offsets : List Float) (quads : List ℕ) {o₀ o₁ o₂ o₃ : List ℕ} {p₀ p₁ p₂ p₃ : ℕ} → c ≡ closedField (findingOf quads)
+    → Put o₀ p₀ (headLine v q c) o₁ p₁ → Put o₁ p₁ (below (vertexLineOf words offsets) v) o₂ p₂ → Put o₂ p₂ (below (quadLineOf quads) q) o₃ p₃
+    → Put o₀ p₀ (meshText v q words offsets quads) o₃ p₃
+unfolding meshText
+mesh-put v q c words offsets quads e a b d = put-then _ (put-then _ (rw e at a) b) d

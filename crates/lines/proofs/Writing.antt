@@ -1,0 +1,68 @@
+-- Texts put one behind the other, and a number digit by digit.
+-- Assumes nothing.
+use Prim.Native.Nat.{ℕ, zero, suc, _+_, _*_, _-_, _/_, _%_, _^_, _≤_, _<_}
+use mathlib.Core.Path.{_≡_, refl, sym, ap, ap₂, _∙_}
+use mathlib.Core.List.{List, [], _∷_, _++_}
+use native.Mathlib.Nat.{add-zero, sub-self, div-one}
+use native.Mathlib.Numerals.{add-one}
+use native.Mathlib.Omega.{arith}
+use lib.ListN.{length, set, length-append}
+use lib.Pow.{shr-shr}
+use lib.Seq.{sets}
+use Rattle.laws.proofs.Stores.{sets-append, sets-join, sets-length, sets-over}
+use Rattle.laws.specs.Below.{over}
+use Rattle.lines.specs.Text.{glyph, hexOf}
+use Rattle.lines.specs.Steps.{Put}
+
+pub put-none : (out : List ℕ) (at : ℕ) → Put out at [] out at
+put-none out at = record { stored = refl; behind = sym (add-zero at) }
+
+-- one text and then another
+pub put-then : {out at xs mid next out′ next′ : _} (ys : List ℕ) → Put out at xs mid next → Put mid next ys out′ next′ → Put out at (xs ++ ys) out′ next′
+put-then {out} {at} {xs} {mid} {next} {out′} {next′} ys p q = record {
+  stored = sets-join out at mid out′ next xs ys (p .stored) (p .behind) (q .stored);
+  behind = q .behind ∙ omega (arith, p .behind, length-append xs ys);
+}
+
+pub put-one : (out : List ℕ) (at b : ℕ) → Put out at (b ∷ []) (set out at b) (at + 1)
+put-one out at b = record { stored = refl; behind = refl }
+
+-- a buffer keeps its length
+pub put-length : {out at xs out′ next : _} → Put out at xs out′ next → length out′ ≡ length out
+put-length {out} {at} {xs} {out′} {next} p = sets-length out at out′ xs (p .stored)
+
+-- a text at the start
+pub put-over : {out xs out′ next : _} → Put out 0 xs out′ next → length xs ≤ length out → out′ ≡ over xs out
+put-over {out} {xs} {out′} {next} p h = p .stored ∙ sets-over out xs h
+
+-- ---- digits
+
+pub hex-length : (k v : ℕ) → length (hexOf k v) ≡ k
+unfolding hexOf
+hex-length zero v = refl
+hex-length (suc k) v = length-append (hexOf k (v / 16)) _ ∙ rw (hex-length k (v / 16)) (add-one k)
+
+-- the digits of v that stand above the last `left` bits, and one more of them
+pub hex-more : (v left i : ℕ) → hexOf i (v / 2 ^ (left + 4)) ++ glyph (v / 2 ^ left % 16) ∷ [] ≡ hexOf (i + 1) (v / 2 ^ left)
+unfolding hexOf
+hex-more v left i =
+    rw (add-one i) (ap (λ (u : ℕ). hexOf i u ++ glyph (v / 2 ^ left % 16) ∷ []) (sym (shr-shr v left 4)))
+
+-- the same as a loop meets it: next - at digits are put, and `left` bits are left
+module _ (out : List ℕ) (at v : ℕ) where
+  abbrev pub PutTo : ℕ → List ℕ → ℕ → Type 0
+  PutTo left out′ next = Put out at (hexOf (next - at) (v / 2 ^ left)) out′ next
+
+  pub hex-start : (left : ℕ) → PutTo left out at
+  unfolding hexOf
+  hex-start left = rw (sub-self at) (put-none out at)
+
+  pub hex-digit : (left : ℕ) (out′ : List ℕ) (next g : ℕ) → at ≤ next → 4 ≤ left → g ≡ glyph (v / 2 ^ (left - 4) % 16)
+      → PutTo left out′ next → PutTo (left - 4) (set out′ next g) (next + 1)
+  hex-digit left out′ next g h l e p =
+      let bits : left ≡ left - 4 + 4 = omega arith in
+      let more : next + 1 - at ≡ next - at + 1 = omega arith in
+      rw (e, more, ← hex-more v (left - 4) (next - at)) (put-then _ (rw bits at p) (put-one out′ next (glyph (v / 2 ^ (left - 4) % 16))))
+
+  pub hex-end : (k left : ℕ) (out′ : List ℕ) (next : ℕ) → left ≡ 0 → next - at ≡ k → PutTo left out′ next → Put out at (hexOf k v) out′ next
+  hex-end k left out′ next e f p = rw (e, f, div-one) at p

@@ -1,0 +1,93 @@
+use mathlib.Core.Path.{_≡_, sym, subst}
+use native.Mathlib.Omega.{arith}
+use Prim.Native.Nat.{ℕ}
+use mathlib.Core.List.{List}
+use lib.Seq.{length-take-le}
+use Rattle.mesh.specs.Answer.{sizeOf}
+use Rattle.mesh_rule.proofs.Offsets.{Greys}
+use Rattle.block.proofs.Sizes.{axes-within}
+use Rattle.block.specs.Rows.{ceilingRow}
+use Rattle.lines.specs.Output.{printed, blockText}
+use Rattle.lines.specs.Steps.{Put}
+use Rattle.lines.proofs.Axes.{at-most-eight}
+use Rattle.lines.proofs.Blocks.{block-small, samples-length, samples-grey, samples-front}
+use borrow.Author.Needs.{needs}
+use Rattle.lines.proofs.answer.Statement.{statement}
+use Rattle.lines.proofs.answer.Tie as tie
+use Rattle.lines.proofs.answer.Reads as reads
+use Rattle.lines.proofs.answer.Lts as lts
+use Rattle.lines.proofs.fill.Reads as fill-reads
+use Rattle.lines.proofs.put_block.Reads as put-block-reads
+
+-- src/lib.rt:447:24
+mul-count : tie.Need-mul-count
+mul-count c = omega (arith, at-most-eight _ _ _ (c .before .before .pre .0 .small) .rows)
+
+-- src/lib.rt:447:18
+mul-count-2 : tie.Need-mul-count-2
+mul-count-2 c = omega (arith, block-small _ _ _ (at-most-eight _ _ _ (c .before .before .pre .0 .small)))
+
+-- src/lib.rt:447:17
+cast-count : tie.Need-cast-count
+cast-count c = omega (arith, block-small _ _ _ (at-most-eight _ _ _ (c .before .before .pre .0 .small)))
+
+-- src/lib.rt:448:37
+slice-aggregate-fill : tie.Need-slice-aggregate-fill
+slice-aggregate-fill c = search needs
+
+-- src/lib.rt:448:5
+fill-requires : tie.Need-fill-requires
+fill-requires c κs =
+    let e = at-most-eight _ _ _ (c .before .before .before .pre .0 .small) in
+    let s = block-small _ _ _ e in
+    (omega (arith, axes-within _ _ _ (c .before .before .before .pre .0 .axes) .x-low), e .x, s, s)
+
+-- src/lib.rt:449:32
+array-share-prefix-samples : tie.Need-array-share-prefix-samples
+array-share-prefix-samples c = omega (arith, block-small _ _ _ (at-most-eight _ _ _ (c .before .before .before .before .before .before .pre .0 .small)), c .before .before .fill .kept)
+
+-- src/lib.rt:449:32
+slice-aggregate-put-block : tie.Need-slice-aggregate-put-block
+slice-aggregate-put-block c =
+    sym (length-take-le _ (c .before .before .before .fill .last .1 .1 .1 .0) (omega (arith, block-small _ _ _ (at-most-eight _ _ _ (c .before .before .before .before .before .before .before .pre .0 .small)), c .before .before .before .fill .kept)))
+
+-- src/lib.rt:449:5
+put-block-requires : tie.Need-put-block-requires
+put-block-requires c κs =
+    let a = c .before .before .before .before .before .before .before in
+    let f = c .before .before .before .fill in (
+      (
+        a .pre .0,
+        length-take-le _ (f .last .1 .1 .1 .0) (omega (arith, block-small _ _ _ (at-most-eight _ _ _ (a .pre .0 .small)), f .kept)),
+        subst Greys (sym (samples-front (a .args .input .now) (sizeOf (a .args .nx) (a .args .ny) (a .args .nz)) _ _ (f .ensures)))
+            (samples-grey (a .args .input .now) (sizeOf (a .args .nx) (a .args .ny) (a .args .nz))),
+      ),
+      a .pre .1,
+    )
+
+-- src/lib.rt:441:1
+same-length : tie.Need-same-length
+same-length c = search needs
+
+-- src/lib.rt:441:1
+returns : tie.Need-returns
+returns c =
+    let a = c .before .before .before .before .before .before .before .before .before .before in
+    let n = sizeOf (a .args .nx) (a .args .ny) (a .args .nz) in
+    subst (λ (s : List ℕ). Put (a .args .out .now) 0 (printed (ceilingRow s) (blockText n s (record { t = a .args .t }))) (c .before .before .put-block .last .0) (c .before .before .put-block .result))
+    (samples-front (a .args .input .now) n _ _ (c .before .before .before .before .before .before .fill .ensures)) (c .before .before .put-block .ensures)
+
+pub answer-spec : {M : Type 1} → statement M
+answer-spec =
+    tie.close
+    (tie.spec
+    mul-count
+    mul-count-2
+    cast-count
+    slice-aggregate-fill
+    fill-requires
+    array-share-prefix-samples
+    slice-aggregate-put-block
+    put-block-requires
+    same-length
+    returns)

@@ -1,0 +1,77 @@
+use Prim.Native.Nat.{ℕ, _+_, _-_, _≤_}
+use mathlib.Core.Path.{sym, _∙_}
+use native.Mathlib.Omega.{arith}
+use borrow.Author.Needs.{needs}
+use borrow.Author.Tests.{not-true, not-false}
+use Rattle.laws.proofs.Leading.{HoldsTo, holds-none, holds-more}
+use Rattle.lines.proofs.Reading.{rightAt, found-in, wrong-at, all-right}
+use Rattle.lines.proofs.right_bytes.Statement.{statement}
+use Rattle.lines.proofs.right_bytes.Tie as tie
+use Rattle.lines.proofs.right_bytes.Reads as reads
+use Rattle.lines.proofs.right_bytes.Lts as lts
+use Rattle.lines.proofs.read_at.Reads as read-at-reads
+use Rattle.lines.proofs.right_byte.Reads as right-byte-reads
+
+abbrev Inv-loop : tie.InvT-loop
+Inv-loop input at n column₀ column = (column ≤ n + 1) × HoldsTo (rightAt input at n) column
+
+abbrev μ-loop : tie.MeasureT-loop
+μ-loop input at n column₀ column = n + 1 - column
+
+-- src/lib.rt:90:5
+loop-holds : tie.Need-loop-holds Inv-loop μ-loop
+loop-holds c = (search needs, holds-none _)
+
+-- src/lib.rt:91:32
+add-read-at : tie.Need-add-read-at Inv-loop μ-loop
+add-read-at c = search needs
+
+-- src/lib.rt:91:13
+read-at-requires : tie.Need-read-at-requires Inv-loop μ-loop
+read-at-requires c κs = search needs
+
+-- src/lib.rt:92:13
+right-byte-requires : tie.Need-right-byte-requires Inv-loop μ-loop
+right-byte-requires c κs = search needs
+
+-- src/lib.rt:93:13
+returns : tie.Need-returns Inv-loop μ-loop
+returns c =
+    wrong-at (c .before .before .before .before .before .before .args .input .now) _ _ _ (c .before .before .before .loop-test .taken) (c .before .before .before .before .loop .inv .1)
+    (found-in (c .before .before .before .before .before .before .args .input .now) _ _ _ _ _ _ (c .before .before .read-at .ensures .0) (c .before .right-byte .ensures) (not-true _ (c .if1 .taken)))
+
+-- src/lib.rt:95:9
+add-column : tie.Need-add-column Inv-loop μ-loop
+add-column c = search needs
+
+-- src/lib.rt:90:5
+loop-less : tie.Need-loop-less Inv-loop μ-loop
+loop-less c = search needs
+
+-- src/lib.rt:90:5
+loop-again : tie.Need-loop-again Inv-loop μ-loop
+loop-again c = (
+  search needs,
+  holds-more (rightAt (c .before .before .before .before .before .before .args .input .now) _ _) _ (c .before .before .before .before .loop .inv .1)
+      (found-in (c .before .before .before .before .before .before .args .input .now) _ _ _ _ _ _ (c .before .before .read-at .ensures .0) (c .before .right-byte .ensures) (not-false _ (c .if1 .left))),
+)
+
+-- src/lib.rt:85:1
+returns-2 : tie.Need-returns-2 Inv-loop μ-loop
+returns-2 c = all-right (c .before .before .before .args .input .now) _ _ _ (omega (arith, c .loop-test .left, c .before .loop .inv .0)) (c .before .loop .inv .1)
+
+pub right-bytes-spec : {M : Type 1} → statement M
+right-bytes-spec =
+    tie.close
+    (tie.spec
+    Inv-loop
+    μ-loop
+    loop-holds
+    add-read-at
+    read-at-requires
+    right-byte-requires
+    returns
+    add-column
+    loop-less
+    loop-again
+    returns-2)

@@ -1,0 +1,73 @@
+-- What the program writes, as a list of bytes, and the promise of `run` (document 01, "The program").
+-- Assumes nothing.
+use Prim.Native.Nat.{ℕ, _+_, _*_}
+use mathlib.Core.Path.{_≡_}
+use mathlib.Core.Bool.{Bool}
+use mathlib.Core.List.{List, [], _∷_, _++_}
+use lib.ListN.{length, getD}
+use lib.Ieee.{Float, nan, toBits, binary64}
+use Rattle.laws.specs.Below.{below, over}
+use Rattle.laws.specs.Bits.{bit}
+use Rattle.block.specs.declared.Cut.{Cut}
+use Rattle.block.specs.declared.Size.{Size}
+use Rattle.block.specs.declared.Refusal.{Refusal}
+use Rattle.block.specs.declared.Checked.{Checked}
+use Rattle.block.specs.declared.Checked.the-variants.{Passes, Refuses}
+use Rattle.mesh_rule.specs.Buffers.{meshWords, meshOffsets, meshQuads}
+use Rattle.mesh.specs.Answer.{vertexCount, quadCount}
+use Rattle.closed.specs.Closed.{Finding, allSound, openAt, findingOf}
+use Rattle.lines.specs.Text.{LF, hexOf}
+use Rattle.lines.specs.Input.{sizeRead, cutRead, samplesRead, inputVerdict}
+
+-- "A refusal prints one line: FF, number (2 digits), value (8)."
+unfoldable pub refusalLine : Refusal → List ℕ
+refusalLine r = hexOf 2 255 ++ hexOf 2 (r .number) ++ hexOf 8 (r .value) ++ LF ∷ []
+
+-- "closed 01 or open 00"
+abbrev pub closedField : Finding → ℕ
+closedField allSound = 1
+closedField (openAt q s) = 0
+
+-- "00, vertices (8), quads (8), closed 01 or open 00"
+unfoldable pub headLine : ℕ → ℕ → ℕ → List ℕ
+headLine vertices quads closed = hexOf 2 0 ++ hexOf 8 vertices ++ hexOf 8 quads ++ hexOf 2 closed ++ LF ∷ []
+
+-- "01, cube (8), mask (4), three offsets as f64 bits (16 each)"
+unfoldable pub vertexLine : ℕ → ℕ → Float → Float → Float → List ℕ
+vertexLine cube word x y z =
+    hexOf 2 1 ++ hexOf 8 cube ++ hexOf 4 word ++ hexOf 16 (toBits binary64 x) ++ hexOf 16 (toBits binary64 y) ++ hexOf 16 (toBits binary64 z) ++ LF ∷ []
+
+-- "02 and four vertex numbers (8 each)"
+unfoldable pub quadLine : ℕ → ℕ → ℕ → ℕ → List ℕ
+quadLine a b c d = hexOf 2 2 ++ hexOf 8 a ++ hexOf 8 b ++ hexOf 8 c ++ hexOf 8 d ++ LF ∷ []
+
+-- the lines of the vertex v and of the quad q of a mesh, as its buffers hold it
+abbrev pub vertexLineOf : List ℕ → List Float → ℕ → List ℕ
+vertexLineOf words offsets v =
+    vertexLine (getD words (2 * v) 0) (getD words (2 * v + 1) 0) (getD offsets (3 * v) nan) (getD offsets (3 * v + 1) nan) (getD offsets (3 * v + 2) nan)
+
+abbrev pub quadLineOf : List ℕ → ℕ → List ℕ
+quadLineOf quads q = quadLine (getD quads (4 * q) 0) (getD quads (4 * q + 1) 0) (getD quads (4 * q + 2) 0) (getD quads (4 * q + 3) 0)
+
+-- a mesh of v vertices and q quads
+unfoldable pub meshText : ℕ → ℕ → List ℕ → List Float → List ℕ → List ℕ
+meshText v q words offsets quads =
+    headLine v q (closedField (findingOf quads)) ++ below (vertexLineOf words offsets) v ++ below (quadLineOf quads) q
+
+-- the mesh of a block
+abbrev pub blockText : Size → List ℕ → Cut → List ℕ
+blockText n s cut = meshText (vertexCount n s cut) (quadCount n s cut) (meshWords n s cut) (meshOffsets n s cut) (meshQuads n s cut)
+
+-- what is written where the checks say k: the text, or a refusal
+unfoldable pub printed : Checked → List ℕ → List ℕ
+printed Passes text = text
+printed (Refuses r) text = refusalLine r
+
+-- the program's output for its input
+unfoldable pub outputOf : List ℕ → List ℕ
+outputOf bytes = printed (inputVerdict bytes) (blockText (sizeRead bytes) (samplesRead bytes (sizeRead bytes)) (cutRead bytes))
+
+-- the promise of `run`: how many bytes it answers, and the buffer at entry and at exit
+pub record Ran (bytes out : List ℕ) (r : ℕ) (out′ : List ℕ) : Type 0 where
+  pub count : r ≡ length (outputOf bytes)
+  pub text : out′ ≡ over (outputOf bytes) out

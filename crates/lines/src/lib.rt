@@ -1,0 +1,466 @@
+// The program's reading and writing on slices (document 01, "The program"): lines of upper-case hexadecimal in, lines of upper-case
+// hexadecimal out.
+use block::Checked;
+use block::Cut;
+use block::Refusal;
+use block::Size;
+use block::Sized;
+use closed::Closure;
+use mesh::Counted;
+use mesh::Totals;
+ghost use mathlib.Core.Path.{_≡_};
+ghost use mathlib.Core.Bool.{not};
+ghost use mathlib.Core.List.{[], _∷_};
+ghost use Prim.Native.Nat.{ℕ, _+_, _*_, _%_, _≤_, _<_};
+ghost use lib.ListN.{length, take};
+ghost use lib.Dec.{T};
+ghost use lib.Ieee.{Float, isNan};
+ghost use Rattle.laws.specs.Below.{below, over};
+ghost use Rattle.block.specs.declared.Checked.the-variants.{Refuses};
+ghost use Rattle.block.specs.Answer.{inOrder};
+ghost use Rattle.block.specs.Rows.{axisRow, thresholdRow};
+ghost use Rattle.lines.specs.Text.{readAt, digitOf, rightByte, rightBytes, numberAt, hexOf, LF};
+ghost use Rattle.lines.specs.Text.{glyph as glyphOf};
+ghost use Rattle.lines.specs.Input.{lineThere, rightLines, firstLineRow, linesRow, largeRow, sampleRead};
+ghost use Rattle.block.specs.Rows.{ceilingRow};
+ghost use Rattle.closed.specs.Closed.{findingOf};
+ghost use Rattle.mesh.specs.Answer.{sizeOf};
+ghost use Rattle.mesh_rule.proofs.Offsets.{Greys};
+ghost use Rattle.lines.specs.Output.{refusalLine, headLine, vertexLine, quadLine, vertexLineOf, quadLineOf, closedField, meshText, blockText, printed, Ran};
+ghost use Rattle.lines.specs.Steps.{Put, Numbers, Readable};
+ghost use Rattle.lines.specs.Input.{samplesRead};
+
+// The longest output: a head line, four vertices in each of 7·7·7 cubes, and a quad for each of 3·7·6·6 inner edges.
+pub const ROOM: usize = 112917;
+
+fn wide(b: u8) -> u16
+    ensures { λ r. ⌜ r ≡ b ⌝ }
+    ensures { λ r. ⌜ r < 256 ⌝ }
+{
+    b as u16
+}
+
+// The byte at a place, or 256 for the end of the input.
+fn read_at(input: &[u8], at: usize) -> u16
+    ensures { λ r. ⌜ r ≡ readAt (now (input .entry)) at ⌝ }
+    ensures { λ r. ⌜ r ≤ 256 ⌝ }
+{
+    if at < input.len() {
+        return wide(input[at]);
+    }
+    256
+}
+
+// A digit's value, 16 for what is no digit.
+fn digit(b: u16) -> u16
+    requires { ⌜ b ≤ 256 ⌝ }
+    ensures { λ r. ⌜ r ≡ digitOf b ⌝ }
+    ensures { λ r. ⌜ r ≤ 16 ⌝ }
+{
+    if b < 48 {
+        return 16;
+    }
+    if b < 58 {
+        return b - 48;
+    }
+    if b < 65 {
+        return 16;
+    }
+    if b < 71 {
+        return b - 55;
+    }
+    16
+}
+
+// The number of four digits at a place.
+fn number(input: &[u8], at: usize) -> u16
+    requires { ⌜ at < 65536 ⌝ }
+    ensures { λ r. ⌜ r ≡ numberAt (now (input .entry)) at 4 ⌝ }
+{
+    let a = digit(read_at(input, at)) % 16;
+    let b = digit(read_at(input, at + 1)) % 16;
+    let c = digit(read_at(input, at + 2)) % 16;
+    let d = digit(read_at(input, at + 3)) % 16;
+    ((a * 16 + b) * 16 + c) * 16 + d
+}
+
+// Whether what stands in a column of a line of n digits is right.
+fn right_byte(n: usize, column: usize, b: u16) -> bool
+    requires { ⌜ b ≤ 256 ⌝ }
+    ensures { λ r. ⌜ r ≡ rightByte n column b ⌝ }
+{
+    if column < n {
+        return digit(b) < 16;
+    }
+    b == 10
+}
+
+// How many bytes of the line of n digits at a place are right before the first wrong one.
+fn right_bytes(input: &[u8], at: usize, n: usize) -> usize
+    requires { ⌜ (at < 65536) × (n ≤ 32) ⌝ }
+    ensures { λ r. ⌜ r ≡ rightBytes (now (input .entry)) at n ⌝ }
+{
+    let mut column: usize = 0;
+    while column <= n {
+        let b = read_at(input, at + column);
+        if !right_byte(n, column, b) {
+            return column;
+        }
+        column += 1;
+    }
+    column
+}
+
+// Whether line j + 2 is right: row j, or behind the last row the end of the input.
+fn line_there(input: &[u8], nx: usize, rows: usize, j: usize) -> bool
+    requires { ⌜ (nx ≤ 8) × (j ≤ 64) ⌝ }
+    ensures { λ r. ⌜ r ≡ lineThere (now (input .entry)) nx rows j ⌝ }
+{
+    let at = 17 + j * (4 * nx + 1);
+    if j < rows {
+        return right_bytes(input, at, 4 * nx) == 4 * nx + 1;
+    }
+    read_at(input, at) == 256
+}
+
+// How many lines from line 2 on are right before the first that is not.
+fn right_lines(input: &[u8], nx: usize, rows: usize) -> usize
+    requires { ⌜ (nx ≤ 8) × (rows ≤ 64) ⌝ }
+    ensures { λ r. ⌜ r ≡ rightLines (now (input .entry)) nx rows ⌝ }
+    ensures { λ r. ⌜ r ≤ 65 ⌝ }
+{
+    let mut j: usize = 0;
+    while j <= rows {
+        if !line_there(input, nx, rows, j) {
+            return j;
+        }
+        j += 1;
+    }
+    j
+}
+
+// Row 8 of line 1.
+fn check_first_line(input: &[u8]) -> Checked
+    ensures { λ r. ⌜ r ≡ firstLineRow (now (input .entry)) ⌝ }
+{
+    if right_bytes(input, 0, 16) == 17 {
+        return Checked::Passes;
+    }
+    Checked::Refuses(Refusal {
+        number: 8,
+        value: 1,
+    })
+}
+
+// Row 8 of the other lines.
+fn check_lines(input: &[u8], nx: usize, rows: usize) -> Checked
+    requires { ⌜ (nx ≤ 8) × (rows ≤ 64) ⌝ }
+    ensures { λ r. ⌜ r ≡ linesRow (now (input .entry)) nx rows ⌝ }
+{
+    let right = right_lines(input, nx, rows);
+    if right == rows + 1 {
+        return Checked::Passes;
+    }
+    Checked::Refuses(Refusal {
+        number: 8,
+        value: (right + 2) as u32,
+    })
+}
+
+// Row 1.
+fn check_axes(nx: u32, ny: u32, nz: u32) -> Checked
+    ensures { λ r. ⌜ r ≡ axisRow nx ny nz ⌝ }
+{
+    match Size::new(nx, ny, nz) {
+        Sized::BadAxis(axis) => Checked::Refuses(Refusal {
+            number: 1,
+            value: axis,
+        }),
+        Sized::Made(_) => Checked::Passes,
+    }
+}
+
+fn large(axis: u32) -> Checked
+    ensures { λ r. ⌜ r ≡ Refuses (record { number = 9; value = axis }) ⌝ }
+{
+    Checked::Refuses(Refusal {
+        number: 9,
+        value: axis,
+    })
+}
+
+// Row 9.
+fn check_large(nx: u32, ny: u32, nz: u32) -> Checked
+    ensures { λ r. ⌜ r ≡ largeRow nx ny nz ⌝ }
+{
+    if nx > 8 {
+        return large(0);
+    }
+    if ny > 8 {
+        return large(1);
+    }
+    if nz > 8 {
+        return large(2);
+    }
+    Checked::Passes
+}
+
+// The rows that are tried before the samples are looked at, in 01's order.
+fn check(input: &[u8], nx: u32, ny: u32, nz: u32, t: u16) -> Checked
+    ensures { λ r. ⌜ r ≡ inOrder (firstLineRow (now (input .entry)) ∷ axisRow nx ny nz ∷ largeRow nx ny nz ∷ thresholdRow (record { t = t }) ∷ linesRow (now (input .entry)) nx (ny * nz) ∷ []) ⌝ }
+{
+    let first = check_first_line(input);
+    if let Checked::Refuses(r) = first {
+        return Checked::Refuses(r);
+    }
+    let axes = check_axes(nx, ny, nz);
+    if let Checked::Refuses(r) = axes {
+        return Checked::Refuses(r);
+    }
+    let limit = check_large(nx, ny, nz);
+    if let Checked::Refuses(r) = limit {
+        return Checked::Refuses(r);
+    }
+    let threshold = block::check_threshold(Cut { t: t });
+    if let Checked::Refuses(r) = threshold {
+        return Checked::Refuses(r);
+    }
+    check_lines(input, nx as usize, (ny * nz) as usize)
+}
+
+// The samples over the front of a buffer.
+fn fill(input: &[u8], nx: usize, count: usize, samples: &mut [u16])
+    requires { ⌜ (0 < nx) × (nx ≤ 8) × (count ≤ 512) × (count ≤ length (now samples)) ⌝ }
+    ensures { λ _. ⌜ now (samples .exit) ≡ over (below (λ (i : ℕ). sampleRead (now (input .entry)) nx i ∷ []) count) (now (samples .entry)) ⌝ }
+{
+    let mut i: usize = 0;
+    while i < count {
+        samples[i] = number(input, 17 + i / nx * (4 * nx + 1) + 4 * (i % nx));
+        i += 1;
+    }
+}
+
+fn glyph(d: u8) -> u8
+    requires { ⌜ d < 16 ⌝ }
+    ensures { λ r. ⌜ r ≡ glyphOf d ⌝ }
+{
+    if d < 10 {
+        return 48 + d;
+    }
+    55 + d
+}
+
+// A number in k digits at a place; answers the place behind them.
+fn put_hex(out: &mut [u8], at: usize, k: u32, value: u64) -> usize
+    requires { ⌜ (k ≤ 16) × (at + k ≤ length (now out)) ⌝ }
+    ensures { λ r. ⌜ Put (now (out .entry)) at (hexOf k value) (now (out .exit)) r ⌝ }
+    ensures { λ r. ⌜ r ≡ at + k ⌝ }
+{
+    let mut next = at;
+    let mut left = 4 * k;
+    while left != 0 {
+        left -= 4;
+        out[next] = glyph(((value >> left) % 16) as u8);
+        next += 1;
+    }
+    next
+}
+
+// The end of a line.
+fn put_end(out: &mut [u8], at: usize) -> usize
+    requires { ⌜ at + 1 ≤ length (now out) ⌝ }
+    ensures { λ r. ⌜ Put (now (out .entry)) at (LF ∷ []) (now (out .exit)) r ⌝ }
+    ensures { λ r. ⌜ r ≡ at + 1 ⌝ }
+{
+    out[at] = 10;
+    at + 1
+}
+
+// A refusal's line at the start.
+fn put_refusal(out: &mut [u8], r: Refusal) -> usize
+    requires { ⌜ 13 ≤ length (now out) ⌝ }
+    ensures { λ n. ⌜ Put (now (out .entry)) 0 (refusalLine r) (now (out .exit)) n ⌝ }
+{
+    let a = put_hex(out, 0, 2, 255);
+    let b = put_hex(out, a, 2, r.number as u64);
+    let c = put_hex(out, b, 8, r.value as u64);
+    put_end(out, c)
+}
+
+// Whether a list of quads is closed, as the head line says it: 1 or 0.
+fn closed_field(quads: &[u32]) -> u32
+    requires { ⌜ length (now quads) % 4 ≡ 0 ⌝ }
+    ensures { λ r. ⌜ r ≡ closedField (findingOf (now (quads .entry))) ⌝ }
+{
+    match closed::closed(quads) {
+        Closure::Closed => 1,
+        Closure::Open { quad: _, side: _ } => 0,
+        Closure::Refused(_) => 0,
+    }
+}
+
+// The head line at the start.
+fn put_head(out: &mut [u8], vertices: u32, quads: u32, closed: u32) -> usize
+    requires { ⌜ 21 ≤ length (now out) ⌝ }
+    ensures { λ r. ⌜ Put (now (out .entry)) 0 (headLine vertices quads closed) (now (out .exit)) r ⌝ }
+    ensures { λ r. ⌜ r ≡ 21 ⌝ }
+{
+    let a = put_hex(out, 0, 2, 0);
+    let b = put_hex(out, a, 8, vertices as u64);
+    let c = put_hex(out, b, 8, quads as u64);
+    let d = put_hex(out, c, 2, closed as u64);
+    put_end(out, d)
+}
+
+// The line of a vertex.
+fn put_vertex(out: &mut [u8], at: usize, cube: u32, word: u32, x: f64, y: f64, z: f64) -> usize
+    requires { ⌜ T (not (isNan x)) × T (not (isNan y)) × T (not (isNan z)) ⌝ }
+    requires { ⌜ at + 63 ≤ length (now out) ⌝ }
+    ensures { λ r. ⌜ Put (now (out .entry)) at (vertexLine cube word x y z) (now (out .exit)) r ⌝ }
+    ensures { λ r. ⌜ r ≡ at + 63 ⌝ }
+{
+    let a = put_hex(out, at, 2, 1);
+    let b = put_hex(out, a, 8, cube as u64);
+    let c = put_hex(out, b, 4, word as u64);
+    let d = put_hex(out, c, 16, f64::to_bits(x));
+    let e = put_hex(out, d, 16, f64::to_bits(y));
+    let f = put_hex(out, e, 16, f64::to_bits(z));
+    put_end(out, f)
+}
+
+// The line of a quad.
+fn put_quad(out: &mut [u8], at: usize, v0: u32, v1: u32, v2: u32, v3: u32) -> usize
+    requires { ⌜ at + 35 ≤ length (now out) ⌝ }
+    ensures { λ r. ⌜ Put (now (out .entry)) at (quadLine v0 v1 v2 v3) (now (out .exit)) r ⌝ }
+    ensures { λ r. ⌜ r ≡ at + 35 ⌝ }
+{
+    let a = put_hex(out, at, 2, 2);
+    let b = put_hex(out, a, 8, v0 as u64);
+    let c = put_hex(out, b, 8, v1 as u64);
+    let d = put_hex(out, c, 8, v2 as u64);
+    let e = put_hex(out, d, 8, v3 as u64);
+    put_end(out, e)
+}
+
+// The lines of all vertices.
+fn put_vertices(out: &mut [u8], at: usize, words: &[u32], offsets: &[f64], count: usize) -> usize
+    requires { ⌜ (2 * count ≤ length (now words)) × (3 * count ≤ length (now offsets)) × (at + 63 * count ≤ length (now out)) × (count ≤ 1372) ⌝ }
+    requires { ⌜ Numbers (now offsets) ⌝ }
+    ensures { λ r. ⌜ Put (now (out .entry)) at (below (vertexLineOf (now (words .entry)) (now (offsets .entry))) count) (now (out .exit)) r ⌝ }
+    ensures { λ r. ⌜ r ≡ at + 63 * count ⌝ }
+{
+    let mut next = at;
+    let mut v: usize = 0;
+    while v < count {
+        let w = 2 * v;
+        let o = 3 * v;
+        next = put_vertex(
+            out,
+            next,
+            words[w],
+            words[w + 1],
+            offsets[o],
+            offsets[o + 1],
+            offsets[o + 2],
+        );
+        v += 1;
+    }
+    next
+}
+
+// The lines of all quads.
+fn put_quads(out: &mut [u8], at: usize, quads: &[u32], count: usize) -> usize
+    requires { ⌜ (4 * count ≤ length (now quads)) × (at + 35 * count ≤ length (now out)) × (count ≤ 756) ⌝ }
+    ensures { λ r. ⌜ Put (now (out .entry)) at (below (quadLineOf (now (quads .entry))) count) (now (out .exit)) r ⌝ }
+    ensures { λ r. ⌜ r ≡ at + 35 * count ⌝ }
+{
+    let mut next = at;
+    let mut q: usize = 0;
+    while q < count {
+        let n = 4 * q;
+        next = put_quad(
+            out,
+            next,
+            quads[n],
+            quads[n + 1],
+            quads[n + 2],
+            quads[n + 3],
+        );
+        q += 1;
+    }
+    next
+}
+
+// A mesh as its buffers hold it.
+fn put_mesh(out: &mut [u8], totals: Totals, words: &[u32], offsets: &[f64], quads: &[u32]) -> usize
+    requires { ⌜ (totals .vertices ≤ 1372) × (totals .quads ≤ 756) × (112917 ≤ length (now out)) ⌝ }
+    requires { ⌜ (length (now words) ≡ 2 * totals .vertices) × (length (now offsets) ≡ 3 * totals .vertices) × (length (now quads) ≡ 4 * totals .quads) ⌝ }
+    requires { ⌜ Numbers (now offsets) ⌝ }
+    ensures { λ r. ⌜ Put (now (out .entry)) 0 (meshText (totals .vertices) (totals .quads) (now (words .entry)) (now (offsets .entry)) (now (quads .entry))) (now (out .exit)) r ⌝ }
+{
+    let closed = closed_field(quads);
+    let a = put_head(out, totals.vertices, totals.quads, closed);
+    let b = put_vertices(out, a, words, offsets, totals.vertices as usize);
+    put_quads(out, b, quads, totals.quads as usize)
+}
+
+// The mesh at the front of three buffers.
+fn put_front(out: &mut [u8], totals: Totals, words: &[u32], offsets: &[f64], quads: &[u32]) -> usize
+    requires { ⌜ (totals .vertices ≤ 1372) × (totals .quads ≤ 756) × (112917 ≤ length (now out)) ⌝ }
+    requires { ⌜ (2 * totals .vertices ≤ length (now words)) × (3 * totals .vertices ≤ length (now offsets)) × (4 * totals .quads ≤ length (now quads)) ⌝ }
+    requires { ⌜ Numbers (take (3 * totals .vertices) (now offsets)) ⌝ }
+    ensures { λ r. ⌜ Put (now (out .entry)) 0 (meshText (totals .vertices) (totals .quads) (take (2 * totals .vertices) (now (words .entry))) (take (3 * totals .vertices) (now (offsets .entry))) (take (4 * totals .quads) (now (quads .entry)))) (now (out .exit)) r ⌝ }
+{
+    let v = totals.vertices as usize;
+    let q = totals.quads as usize;
+    put_mesh(
+        out,
+        totals,
+        &words[..2 * v],
+        &offsets[..3 * v],
+        &quads[..4 * q],
+    )
+}
+
+// The mesh of a block of at most 8 samples an axis, or refusal 4.
+fn put_block(out: &mut [u8], nx: u32, ny: u32, nz: u32, samples: &[u16], t: u16) -> usize
+    requires { ⌜ Readable nx ny nz t × (length (now samples) ≡ nx * (ny * nz)) × Greys (now samples) ⌝ }
+    requires { ⌜ 112917 ≤ length (now out) ⌝ }
+    ensures { λ r. ⌜ Put (now (out .entry)) 0 (printed (ceilingRow (now (samples .entry))) (blockText (sizeOf nx ny nz) (now (samples .entry)) (record { t = t }))) (now (out .exit)) r ⌝ }
+{
+    let mut words = [0u32; 2744];
+    let mut offsets = [0.0f64; 4116];
+    let mut quads = [0u32; 3024];
+    let counted = mesh::mesh(nx, ny, nz, samples, t, &mut words, &mut offsets, &mut quads);
+    match counted {
+        Counted::Refused(r) => put_refusal(out, r),
+        Counted::Counts(totals) => put_front(out, totals, &words, &offsets, &quads),
+    }
+}
+
+// The answer to an input whose lines are in order and whose axes and threshold pass.
+fn answer(input: &[u8], nx: u32, ny: u32, nz: u32, t: u16, out: &mut [u8]) -> usize
+    requires { ⌜ Readable nx ny nz t ⌝ }
+    requires { ⌜ 112917 ≤ length (now out) ⌝ }
+    ensures { λ r. ⌜ Put (now (out .entry)) 0 (printed (ceilingRow (samplesRead (now (input .entry)) (sizeOf nx ny nz))) (blockText (sizeOf nx ny nz) (samplesRead (now (input .entry)) (sizeOf nx ny nz)) (record { t = t }))) (now (out .exit)) r ⌝ }
+{
+    let mut samples = [0u16; 512];
+    let count = (nx * (ny * nz)) as usize;
+    fill(input, nx as usize, count, &mut samples);
+    put_block(out, nx, ny, nz, &samples[..count], t)
+}
+
+// The program: the output for an input at the front of `out`; answers how many bytes it has.
+pub fn run(input: &[u8], out: &mut [u8; ROOM]) -> usize
+    ensures { λ r. ⌜ Ran (now (input .entry)) (now (out .entry)) r (now (out .exit)) ⌝ }
+    ensures { λ r. ⌜ (r ≤ length (now (out .exit))) × (r ≡ length (take r (now (out .exit)))) ⌝ }
+{
+    let nx = number(input, 0) as u32;
+    let ny = number(input, 4) as u32;
+    let nz = number(input, 8) as u32;
+    let t = number(input, 12);
+    match check(input, nx, ny, nz, t) {
+        Checked::Refuses(r) => put_refusal(out, r),
+        Checked::Passes => answer(input, nx, ny, nz, t, out),
+    }
+}

@@ -1,0 +1,109 @@
+-- Every offset of a mesh is within its cube: each coordinate in the offsets buffer is at least 0 and at most 1, and is not minus zero, for
+-- 16-bit samples and every threshold. The buffer has three coordinates for each vertex.
+-- Assumes nothing.
+use Prim.Native.Nat.{ℕ, zero, suc, _+_, _*_, _-_, _/_, _%_, _<_}
+use mathlib.Core.Path.{_≡_, refl, ap, sym, _∙_, subst}
+use mathlib.Core.List.{List, [], _∷_, map, List·Memᴰ, List·Memᴰ·head, List·Memᴰ·tail}
+use native.Mathlib.Nat.{not-suc-le-zero}
+use native.Mathlib.Omega.{arith}
+use lib.Ieee.{nan}
+use lib.ListN.{length, getD, length-append, length-map}
+use Rattle.laws.specs.Below.{below}
+use Rattle.laws.proofs.Below.{split, getD-below}
+use Rattle.block.specs.declared.Cut.{Cut}
+use Rattle.block.specs.declared.Size.{Size}
+use Rattle.block.specs.Numbering.{sampleIndex, cubeCount}
+use Rattle.cube_rule.specs.Decider.{loopsOf}
+use Rattle.place.specs.declared.Offset.{Offset}
+use Rattle.place.specs.Place.{placeOf}
+use Rattle.place.specs.Unit.{InUnit, Inside, Grey}
+use Rattle.place.proofs.Bounds.{place-in-unit}
+use Rattle.cell.proofs.Answers.{loop-crossed}
+use Rattle.mesh_rule.specs.Grid.{cornersAt, cornersOf}
+use Rattle.mesh_rule.specs.Mesh.{verticesOf, verticesBefore, vertices}
+use Rattle.mesh_rule.specs.Buffers.{triples, masksOf, cubeOffsets, meshOffsets}
+use Rattle.mesh_rule.proofs.Numbers.{one-for-each-loop}
+
+-- "Samples are 16-bit"
+abbrev pub Greys : List ℕ → Type 0
+Greys s = (i : ℕ) → getD s i 0 < 65536
+
+-- ---- the corners of a cube are samples
+
+-- what is read from the samples at any places
+read-grey : (s : List ℕ) → Greys s → (ps : List ℕ) → Grey (map (λ (p : ℕ). getD s p 0) ps)
+read-grey s g [] c = omega arith
+read-grey s g (p ∷ ps) zero = g p
+read-grey s g (p ∷ ps) (suc c) = read-grey s g ps c
+
+at-grey : (n : Size) (s : List ℕ) → Greys s → (i j k : ℕ) → Grey (cornersAt n s i j k)
+at-grey n s g i j k =
+    read-grey s g
+    (sampleIndex n i j k ∷ sampleIndex n (i + 1) j k ∷ sampleIndex n i (j + 1) k ∷ sampleIndex n (i + 1) (j + 1) k
+    ∷ sampleIndex n i j (k + 1) ∷ sampleIndex n (i + 1) j (k + 1) ∷ sampleIndex n i (j + 1) (k + 1) ∷ sampleIndex n (i + 1) (j + 1) (k + 1) ∷ [])
+
+corners-grey : (n : Size) (s : List ℕ) → Greys s → (c : ℕ) → Grey (cornersOf n s c)
+unfolding cornersOf
+corners-grey n s g c = at-grey n s g (c % (n .nx - 1)) (c / (n .nx - 1) % (n .ny - 1)) (c / (n .nx - 1) / (n .ny - 1))
+
+-- ---- the coordinates of offsets that are inside
+
+triples-in-unit : (f : ℕ → Offset) (ms : List ℕ) → ((m : ℕ) → List·Memᴰ m ms → Inside (f m)) → (k : ℕ) → k < length (triples (map f ms))
+    → InUnit (getD (triples (map f ms)) k nan)
+triples-in-unit f [] h k l = absurd (not-suc-le-zero l)
+triples-in-unit f (m ∷ ms) h zero l = h m (List·Memᴰ·head refl) .xIn
+triples-in-unit f (m ∷ ms) h (suc zero) l = h m (List·Memᴰ·head refl) .yIn
+triples-in-unit f (m ∷ ms) h (suc (suc zero)) l = h m (List·Memᴰ·head refl) .zIn
+triples-in-unit f (m ∷ ms) h (suc (suc (suc k))) l = triples-in-unit f ms (λ x d. h x (List·Memᴰ·tail d)) k (omega arith)
+
+module _ (n : Size) (s : List ℕ) (cut : Cut) where
+  -- of one cube
+  cube-in-unit : Greys s → (c k : ℕ) → k < length (cubeOffsets n s cut c) → InUnit (getD (cubeOffsets n s cut c) k nan)
+  unfolding cubeOffsets
+  cube-in-unit g c =
+      triples-in-unit (placeOf cut (cornersOf n s c)) (masksOf n s cut c)
+      (λ m d. place-in-unit cut (cornersOf n s c) m (corners-grey n s g c) (loop-crossed cut (cornersOf n s c) m d))
+
+  -- of the whole mesh
+  pub offsets-in-unit : Greys s → (k : ℕ) → k < length (meshOffsets n s cut) → InUnit (getD (meshOffsets n s cut) k nan)
+  unfolding meshOffsets
+  offsets-in-unit g k h =
+      let r = split (cubeOffsets n s cut) (cubeCount n) k h in
+      subst InUnit
+      (sym (ap (λ (j : ℕ). getD (meshOffsets n s cut) j nan) (r .4) ∙ getD-below (cubeOffsets n s cut) nan (cubeCount n) (r .0) (r .1) (r .2) (r .3)))
+      (cube-in-unit g (r .0) (r .1) (r .3))
+
+-- ---- how many there are
+
+triples-length : (os : List Offset) → length (triples os) ≡ 3 * length os
+triples-length [] = refl
+triples-length (o ∷ os) = omega (arith, triples-length os)
+
+module _ (n : Size) (s : List ℕ) (cut : Cut) where
+  -- three for each vertex of a cube
+  cube-three : (c : ℕ) → length (cubeOffsets n s cut c) ≡ 3 * length (verticesOf loopsOf n s cut c)
+  unfolding cubeOffsets
+  cube-three c =
+      omega (
+        arith,
+        triples-length (map (placeOf cut (cornersOf n s c)) (masksOf n s cut c)),
+        length-map (masksOf n s cut c) (placeOf cut (cornersOf n s c)),
+        one-for-each-loop loopsOf n s cut c,
+      )
+
+  before-three : (c : ℕ) → length (below (cubeOffsets n s cut) c) ≡ 3 * length (verticesBefore loopsOf n s cut c)
+  unfolding below verticesBefore
+  before-three zero = refl
+  before-three (suc c) =
+      omega (
+        arith,
+        length-append (below (cubeOffsets n s cut) c) (cubeOffsets n s cut c),
+        length-append (below (verticesOf loopsOf n s cut) c) (verticesOf loopsOf n s cut c),
+        before-three c,
+        cube-three c,
+      )
+
+  -- and for each of the mesh
+  pub mesh-offsets-length : length (meshOffsets n s cut) ≡ 3 * length (vertices loopsOf n s cut)
+  unfolding meshOffsets vertices
+  mesh-offsets-length = before-three (cubeCount n)
