@@ -6,6 +6,7 @@ use block::Size;
 use block::Sized;
 use cell::CubeAnswer;
 use cell::Found;
+use closed::Closure;
 use mesh::Counted;
 use place::Crossing;
 use place::Offset;
@@ -541,6 +542,89 @@ fn blocks() {
     orders(&block, &bright, &less, &dark);
 }
 
+fn ask_closed(quads: &[u32]) {
+    io::write_all(1, b"closed ");
+    number(quads.len() as u64, 8);
+    io::write_all(1, b"- ");
+    match closed::closed(quads) {
+        Closure::Closed => {
+            io::write_all(1, b"closed ");
+        }
+        Closure::Open { quad, side } => {
+            io::write_all(1, b"open ");
+            number(quad as u64, 8);
+            number(side as u64, 1);
+        }
+        Closure::Refused(r) => {
+            refusal(r);
+        }
+    }
+    end_line();
+    words_of(quads);
+}
+
+// No quad; a quad alone; lengths that are no multiple of 4.
+fn short_lists() {
+    let none = [0u32; 0];
+    ask_closed(&none);
+    ask_closed(&[0, 1, 2, 3]);
+    ask_closed(&[0]);
+    ask_closed(&[0, 1]);
+    ask_closed(&[0, 1, 2]);
+    ask_closed(&[0, 1, 2, 3, 0]);
+}
+
+// The six quads of the paper's block, and five of them.
+fn six_quads() {
+    ask_closed(
+        &[
+            0,
+            4,
+            6,
+            2,
+            1,
+            3,
+            7,
+            5,
+            0,
+            1,
+            5,
+            4,
+            2,
+            6,
+            7,
+            3,
+            0,
+            2,
+            3,
+            1,
+            4,
+            5,
+            7,
+            6,
+        ],
+    );
+    ask_closed(&[0, 4, 6, 2, 1, 3, 7, 5, 0, 1, 5, 4, 2, 6, 7, 3, 0, 2, 3, 1]);
+}
+
+// Sides with two equal ends, which are used twice.
+fn equal_ends() {
+    ask_closed(&[0, 0, 1, 2, 0, 0, 1, 2]);
+    ask_closed(&[0, 1, 2, 2, 0, 1, 2, 2]);
+    ask_closed(&[7, 7, 7, 7]);
+}
+
+// A side used twice in either direction, within one quad too; used three and four times; the first fault in a later quad or side.
+fn uses() {
+    ask_closed(&[0, 1, 2, 3, 0, 1, 2, 3]);
+    ask_closed(&[0, 1, 2, 3, 3, 2, 1, 0]);
+    ask_closed(&[5, 6, 5, 7]);
+    ask_closed(&[0, 1, 0, 1]);
+    ask_closed(&[0, 1, 2, 3, 0, 1, 2, 3, 0, 1, 2, 3]);
+    ask_closed(&[0, 1, 2, 3, 0, 1, 2, 3, 4, 5, 6, 7]);
+    ask_closed(&[0, 1, 2, 3, 0, 1, 2, 4294967295]);
+}
+
 fn main() {
     sizes();
     edges();
@@ -548,4 +632,8 @@ fn main() {
     ties();
     refusals();
     blocks();
+    short_lists();
+    six_quads();
+    equal_ends();
+    uses();
 }
