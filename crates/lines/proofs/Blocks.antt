@@ -95,6 +95,12 @@ written-front : {A : Type 0} (k : Checked) (xs b c : List A) (m : ℕ) → k ≡
 unfolding written
 written-front k xs b c m e d l = rw (d, e) (front xs b m l)
 
+-- what is at the front of the buffers of an accepted block
+pub record Front (n : Size) (s : List ℕ) (cut : Cut) (w : List ℕ) (o : List Float) (q : List ℕ) (c : Totals) : Type 0 where
+  pub few : (c .vertices ≤ 1372) × (c .quads ≤ 756)
+  pub numbers : Numbers (take (3 * c .vertices) o)
+  pub text : meshText (c .vertices) (c .quads) (take (2 * c .vertices) w) (take (3 * c .vertices) o) (take (4 * c .quads) q) ≡ printed (ceilingRow s) (blockText n s cut)
+
 module _ (nx ny nz t : ℕ) (s w : List ℕ) (o : List Float) (q : List ℕ) (r : Counted) (w′ : List ℕ) (o′ : List Float) (q′ : List ℕ)
     (read : Readable nx ny nz t) (count : length s ≡ nx * (ny * nz)) (lw : length w ≡ 2744) (lo : length o ≡ 4116) (lq : length q ≡ 3024)
     (m : Meshed nx ny nz s t w o q r w′ o′ q′) where
@@ -140,12 +146,6 @@ module _ (nx ny nz t : ℕ) (s w : List ℕ) (o : List Float) (q : List ℕ) (r 
     quads-are : c .quads ≡ quadCount size s cut
     quads-are = ap (λ (x : Totals). x .quads) (both .1)
 
-    pub few-vertices-in : c .vertices ≤ 1372
-    few-vertices-in = omega (arith, vertices-are, few-v)
-
-    pub few-quads-in : c .quads ≤ 756
-    few-quads-in = omega (arith, quads-are, few-q)
-
     words-are : take (2 * c .vertices) w′ ≡ meshWords size s cut
     words-are = written-front verdict (meshWords size s cut) w w′ (2 * c .vertices) (both .0) (m .words) (mesh-words-length size s cut ∙ omega (arith, vertices-are))
 
@@ -155,11 +155,14 @@ module _ (nx ny nz t : ℕ) (s w : List ℕ) (o : List Float) (q : List ℕ) (r 
     quad-numbers-are : take (4 * c .quads) q′ ≡ meshQuads size s cut
     quad-numbers-are = written-front verdict (meshQuads size s cut) q q′ (4 * c .quads) (both .0) (m .quads) (quads-all-length size s cut ∙ omega (arith, quads-are))
 
-    -- no offset is a NaN
-    pub numbers-in : Greys s → Numbers (take (3 * c .vertices) o′)
-    numbers-in grey = subst Numbers (sym offsets-are) (λ (k : ℕ) h. offsets-in-unit size s cut grey k h .number)
-
-    pub accepted-text : meshText (c .vertices) (c .quads) (take (2 * c .vertices) w′) (take (3 * c .vertices) o′) (take (4 * c .quads) q′)
+    accepted-text : meshText (c .vertices) (c .quads) (take (2 * c .vertices) w′) (take (3 * c .vertices) o′) (take (4 * c .quads) q′)
         ≡ printed (ceilingRow s) (blockText size s cut)
     unfolding printed
     accepted-text = rw (words-are, offsets-are, quad-numbers-are, vertices-are, quads-are, sym is-ceiling ∙ both .0)
+
+    pub accepted-front : Greys s → Front size s cut w′ o′ q′ c
+    accepted-front grey = record {
+      few = (omega (arith, vertices-are, few-v), omega (arith, quads-are, few-q));
+      numbers = subst Numbers (sym offsets-are) (λ (k : ℕ) h. offsets-in-unit size s cut grey k h .number);
+      text = accepted-text;
+    }

@@ -7,3 +7,4 @@ pub mod Closing
 pub mod Blocks
 pub mod Outputs
 pub mod Prefix
+pub mod Rules

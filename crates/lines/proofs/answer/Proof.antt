@@ -1,3 +1,5 @@
+-- `answer` meets its contract: the samples that were read are those of the block.
+-- Assumes nothing.
 use mathlib.Core.Path.{_≡_, sym, subst}
 use native.Mathlib.Omega.{arith}
 use Prim.Native.Nat.{ℕ}
@@ -19,39 +21,31 @@ use Rattle.lines.proofs.answer.Lts as lts
 use Rattle.lines.proofs.fill.Reads as fill-reads
 use Rattle.lines.proofs.put_block.Reads as put-block-reads
 
--- src/lib.rt:447:24
 mul-count : tie.Need-mul-count
 mul-count c = omega (arith, at-most-eight _ _ _ (c .before .before .pre .0 .small) .rows)
 
--- src/lib.rt:447:18
 mul-count-2 : tie.Need-mul-count-2
 mul-count-2 c = omega (arith, block-small _ _ _ (at-most-eight _ _ _ (c .before .before .pre .0 .small)))
 
--- src/lib.rt:447:17
 cast-count : tie.Need-cast-count
 cast-count c = omega (arith, block-small _ _ _ (at-most-eight _ _ _ (c .before .before .pre .0 .small)))
 
--- src/lib.rt:448:37
 slice-aggregate-fill : tie.Need-slice-aggregate-fill
 slice-aggregate-fill c = search needs
 
--- src/lib.rt:448:5
 fill-requires : tie.Need-fill-requires
 fill-requires c κs =
     let e = at-most-eight _ _ _ (c .before .before .before .pre .0 .small) in
     let s = block-small _ _ _ e in
     (omega (arith, axes-within _ _ _ (c .before .before .before .pre .0 .axes) .x-low), e .x, s, s)
 
--- src/lib.rt:449:32
 array-share-prefix-samples : tie.Need-array-share-prefix-samples
 array-share-prefix-samples c = omega (arith, block-small _ _ _ (at-most-eight _ _ _ (c .before .before .before .before .before .before .pre .0 .small)), c .before .before .fill .kept)
 
--- src/lib.rt:449:32
 slice-aggregate-put-block : tie.Need-slice-aggregate-put-block
 slice-aggregate-put-block c =
     sym (length-take-le _ (c .before .before .before .fill .last .1 .1 .1 .0) (omega (arith, block-small _ _ _ (at-most-eight _ _ _ (c .before .before .before .before .before .before .before .pre .0 .small)), c .before .before .before .fill .kept)))
 
--- src/lib.rt:449:5
 put-block-requires : tie.Need-put-block-requires
 put-block-requires c κs =
     let a = c .before .before .before .before .before .before .before in
@@ -65,11 +59,9 @@ put-block-requires c κs =
       a .pre .1,
     )
 
--- src/lib.rt:441:1
 same-length : tie.Need-same-length
 same-length c = search needs
 
--- src/lib.rt:441:1
 returns : tie.Need-returns
 returns c =
     let a = c .before .before .before .before .before .before .before .before .before .before in

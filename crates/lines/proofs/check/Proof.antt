@@ -1,3 +1,5 @@
+-- `check` meets its contract: the first of five rows that refuses decides.
+-- Assumes nothing.
 use mathlib.Core.Path.{_≡_, sym, _∙_}
 use native.Mathlib.Omega.{arith}
 use Rattle.block.proofs.Order.{order-refuses, order-passes, order-last}
@@ -13,30 +15,24 @@ use Rattle.lines.proofs.check_first_line.Reads as check-first-line-read
 use Rattle.lines.proofs.check_large.Reads as check-large-reads
 use Rattle.lines.proofs.check_lines.Reads as check-lines-reads
 
--- src/lib.rt:198:9
 check-first-line-requires : tie.Need-check-first-line-requires
 check-first-line-requires c κs = search needs
 
--- src/lib.rt:199:29
 enum-known-first : tie.Need-enum-known-first
 enum-known-first c = search needs
 
--- src/lib.rt:200:9
 returns : tie.Need-returns
 returns c = sym (order-refuses _ _ _ (sym (c .before .before .before .check-first-line .ensures) ∙ c .before .first .given .1))
 
 enum-told : tie.Need-enum-told
 enum-told c = search needs
 
--- src/lib.rt:202:9
 check-axes-requires : tie.Need-check-axes-requires
 check-axes-requires c κs = search needs
 
--- src/lib.rt:203:29
 enum-known-axes : tie.Need-enum-known-axes
 enum-known-axes c = search needs
 
--- src/lib.rt:204:9
 returns-2 : tie.Need-returns-2
 returns-2 c =
     let t = c .before .before .before in
@@ -46,15 +42,12 @@ returns-2 c =
 enum-told-2 : tie.Need-enum-told-2
 enum-told-2 c = search needs
 
--- src/lib.rt:206:9
 check-large-requires : tie.Need-check-large-requires
 check-large-requires c κs = search needs
 
--- src/lib.rt:207:29
 enum-known-limit : tie.Need-enum-known-limit
 enum-known-limit c = search needs
 
--- src/lib.rt:208:9
 returns-3 : tie.Need-returns-3
 returns-3 c =
     let l = c .before .before .before in
@@ -66,15 +59,12 @@ returns-3 c =
 enum-told-3 : tie.Need-enum-told-3
 enum-told-3 c = search needs
 
--- src/lib.rt:210:9
 check-threshold-requires : tie.Need-check-threshold-requires
 check-threshold-requires c κs = search needs
 
--- src/lib.rt:211:29
 enum-known-threshold : tie.Need-enum-known-threshold
 enum-known-threshold c = search needs
 
--- src/lib.rt:212:9
 returns-4 : tie.Need-returns-4
 returns-4 c =
     let h = c .before .before .before in
@@ -88,7 +78,6 @@ returns-4 c =
 enum-told-4 : tie.Need-enum-told-4
 enum-told-4 c = search needs
 
--- src/lib.rt:214:38
 mul-check-lines : tie.Need-mul-check-lines
 mul-check-lines c =
     let h = c .before .before in
@@ -96,7 +85,6 @@ mul-check-lines c =
     let eight = at-most-eight _ _ _ (sym (l .check-large .ensures) ∙ h .before .enum-told3 .given .1) in
     omega (arith, eight .rows)
 
--- src/lib.rt:214:37
 cast-check-lines : tie.Need-cast-check-lines
 cast-check-lines c =
     let h = c .before .before in
@@ -104,7 +92,6 @@ cast-check-lines c =
     let eight = at-most-eight _ _ _ (sym (l .check-large .ensures) ∙ h .before .enum-told3 .given .1) in
     omega (arith, eight .rows)
 
--- src/lib.rt:214:5
 check-lines-requires : tie.Need-check-lines-requires
 check-lines-requires c κs =
     let h = c .before .before in
@@ -112,7 +99,6 @@ check-lines-requires c κs =
     let eight = at-most-eight _ _ _ (sym (l .check-large .ensures) ∙ h .before .enum-told3 .given .1) in
     (eight .x, eight .rows)
 
--- src/lib.rt:195:1
 returns-5 : tie.Need-returns-5
 returns-5 c =
     let h = c .before .before .before in

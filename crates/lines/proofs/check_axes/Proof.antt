@@ -1,3 +1,5 @@
+-- `check_axes` meets its contract: what `Size::new` answers is what row 1 says.
+-- Assumes nothing.
 use mathlib.Core.Path.{sym, subst}
 use Rattle.block.specs.Size.{SizeMade}
 use Rattle.mesh.proofs.Verdicts.{axis-refused, axis-passed}
@@ -8,25 +10,20 @@ use Rattle.lines.proofs.check_axes.Reads as reads
 use Rattle.lines.proofs.check_axes.Lts as lts
 use Rattle.block.proofs.Size.new.Reads as new-reads
 
--- src/lib.rt:160:11
 new-requires : tie.Need-new-requires
 new-requires c κs = search needs
 
--- src/lib.rt:161:24
 enum-known-axis : tie.Need-enum-known-axis
 enum-known-axis c = search needs
 
--- src/lib.rt:165:27
 enum-told : tie.Need-enum-told
 enum-told c = search needs
 
--- src/lib.rt:157:1
 returns : tie.Need-returns
 returns c =
     let a = c .before .before .before .before in
     sym (axis-refused (a .args .nx) (a .args .ny) (a .args .nz) _ (subst (SizeMade (a .args .nx) (a .args .ny) (a .args .nz)) (c .before .axis .given .1) (c .before .before .before .new .ensures)))
 
--- src/lib.rt:157:1
 returns-2 : tie.Need-returns-2
 returns-2 c =
     let a = c .before .before .before in

@@ -1,3 +1,5 @@
+-- `check_first_line` meets its contract: line 1 has 17 right bytes, or is refused.
+-- Assumes nothing.
 use Rattle.lines.proofs.Reading.{first-pass, first-refuse}
 use borrow.Author.Needs.{needs}
 use Rattle.lines.proofs.check_first_line.Statement.{statement}
@@ -6,15 +8,12 @@ use Rattle.lines.proofs.check_first_line.Reads as reads
 use Rattle.lines.proofs.check_first_line.Lts as lts
 use Rattle.lines.proofs.right_bytes.Reads as right-bytes-reads
 
--- src/lib.rt:132:8
 right-bytes-requires : tie.Need-right-bytes-requires
 right-bytes-requires c κs = search needs
 
--- src/lib.rt:133:9
 returns : tie.Need-returns
 returns c = first-pass (c .before .before .before .args .input .now) _ (c .before .right-bytes .ensures) (c .if1 .taken)
 
--- src/lib.rt:129:1
 returns-2 : tie.Need-returns-2
 returns-2 c = first-refuse (c .before .before .before .args .input .now) _ (c .before .right-bytes .ensures) (c .if1 .left)
 

@@ -1,3 +1,5 @@
+-- `check_lines` meets its contract: all lines are right, or the first that is not is named.
+-- Assumes nothing.
 use native.Mathlib.Omega.{arith}
 use Rattle.lines.proofs.Reading.{lines-pass, lines-refuse}
 use borrow.Author.Needs.{needs}
@@ -7,27 +9,21 @@ use Rattle.lines.proofs.check_lines.Reads as reads
 use Rattle.lines.proofs.check_lines.Lts as lts
 use Rattle.lines.proofs.right_lines.Reads as right-lines-reads
 
--- src/lib.rt:146:9
 right-lines-requires : tie.Need-right-lines-requires
 right-lines-requires c κs = search needs
 
--- src/lib.rt:147:17
 add-if1 : tie.Need-add-if1
 add-if1 c = search needs
 
--- src/lib.rt:148:9
 returns : tie.Need-returns
 returns c = lines-pass (c .before .before .before .args .input .now) (c .before .before .before .args .nx) _ _ (c .before .right-lines .ensures .0) (c .if1 .taken)
 
--- src/lib.rt:152:17
 add-t5 : tie.Need-add-t5
 add-t5 c = search needs
 
--- src/lib.rt:152:16
 cast-t7 : tie.Need-cast-t7
 cast-t7 c = search needs
 
--- src/lib.rt:142:1
 returns-2 : tie.Need-returns-2
 returns-2 c = lines-refuse (c .before .before .before .args .input .now) (c .before .before .before .args .nx) _ _ (c .before .right-lines .ensures .0) (c .if1 .left) (omega (arith, c .before .right-lines .ensures .1))
 

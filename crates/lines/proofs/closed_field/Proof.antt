@@ -1,3 +1,5 @@
+-- `closed_field` meets its contract: what the closed question answers, as 1 or 0.
+-- Assumes nothing.
 use Rattle.lines.proofs.Closing.{field-closed, field-open, field-refused}
 use borrow.Author.Needs.{needs}
 use Rattle.lines.proofs.closed_field.Statement.{statement}
@@ -6,31 +8,24 @@ use Rattle.lines.proofs.closed_field.Reads as reads
 use Rattle.lines.proofs.closed_field.Lts as lts
 use Rattle.closed.proofs.closed.Reads as closed-reads
 
--- src/lib.rt:289:11
 closed-requires : tie.Need-closed-requires
 closed-requires c κs = search needs
 
--- src/lib.rt:290:28
 enum-told : tie.Need-enum-told
 enum-told c = search needs
 
--- src/lib.rt:291:47
 enum-told-2 : tie.Need-enum-told-2
 enum-told-2 c = search needs
 
--- src/lib.rt:292:32
 enum-told-3 : tie.Need-enum-told-3
 enum-told-3 c = search needs
 
--- src/lib.rt:285:1
 returns : tie.Need-returns
 returns c = field-closed (c .before .before .before .before .args .quads .now) (c .before .before .before .before .pre) _ (c .before .before .closed .ensures) (c .enum-told .given .1)
 
--- src/lib.rt:285:1
 returns-2 : tie.Need-returns-2
 returns-2 c = field-open (c .before .before .before .before .args .quads .now) (c .before .before .before .before .pre) _ _ _ (c .before .before .closed .ensures) (c .enum-told2 .given .1)
 
--- src/lib.rt:285:1
 returns-3 : tie.Need-returns-3
 returns-3 c = field-refused (c .before .before .before .before .args .quads .now) (c .before .before .before .before .pre) _ _ (c .before .before .closed .ensures) (c .enum-told3 .given .1)
 

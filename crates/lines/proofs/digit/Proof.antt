@@ -1,3 +1,5 @@
+-- `digit` meets its contract: each return is one stretch of bytes.
+-- Assumes nothing.
 use native.Mathlib.Omega.{arith}
 use Rattle.lines.proofs.Digits.{before-digits, decimal, between-digits, letter, behind-digits}
 use borrow.Author.Needs.{needs}
@@ -6,27 +8,21 @@ use Rattle.lines.proofs.digit.Tie as tie
 use Rattle.lines.proofs.digit.Reads as reads
 use Rattle.lines.proofs.digit.Lts as lts
 
--- src/lib.rt:47:9
 returns : tie.Need-returns
 returns c = (before-digits _ (c .before .pre) (c .if1 .taken), search needs)
 
--- src/lib.rt:50:9
 returns-2 : tie.Need-returns-2
 returns-2 c = (decimal _ (c .before .before .pre) (c .before .if1 .left) (c .if2 .taken), omega (arith, c .if2 .taken))
 
--- src/lib.rt:53:9
 returns-3 : tie.Need-returns-3
 returns-3 c = (between-digits _ (c .before .before .before .pre) (c .before .if2 .left) (c .if3 .taken), search needs)
 
--- src/lib.rt:56:16
 sub-result : tie.Need-sub-result
 sub-result c = search needs
 
--- src/lib.rt:56:9
 returns-4 : tie.Need-returns-4
 returns-4 c = (letter _ (c .before .before .before .before .pre) (c .before .if3 .left) (c .if4 .taken), omega (arith, c .if4 .taken))
 
--- src/lib.rt:41:1
 returns-5 : tie.Need-returns-5
 returns-5 c = (behind-digits _ (c .before .before .before .before .pre) (c .if4 .left), search needs)
 

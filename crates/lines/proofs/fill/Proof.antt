@@ -1,3 +1,5 @@
+-- `fill` meets its contract: the samples before the one in hand stand at the front of the buffer.
+-- Assumes nothing.
 use Prim.Native.Nat.{ℕ, _+_, _*_, _-_, _≤_, _<_}
 use mathlib.Core.Path.{_≡_, refl, sym, _∙_}
 use native.Mathlib.Omega.{arith}
@@ -20,73 +22,58 @@ Inv-loop input nx count samples₀ i₀ samples i =
 abbrev μ-loop : tie.MeasureT-loop
 μ-loop input nx count samples₀ i₀ samples i = count - i
 
--- src/lib.rt:223:5
 loop-holds : tie.Need-loop-holds Inv-loop μ-loop
 loop-holds c = (search needs, over-none _ _, refl)
 
--- src/lib.rt:224:41
 div-number : tie.Need-div-number Inv-loop μ-loop
 div-number c = c .before .before .before .before .pre .0
 
--- src/lib.rt:224:51
 mul-number : tie.Need-mul-number Inv-loop μ-loop
 mul-number c = search needs
 
--- src/lib.rt:224:51
 add-number : tie.Need-add-number Inv-loop μ-loop
 add-number c = search needs
 
--- src/lib.rt:224:41
 mul-number-2 : tie.Need-mul-number-2 Inv-loop μ-loop
 mul-number-2 c =
     let small = sample-place-small (c .before .before .before .before .args .nx) (c .before .loop .i) (c .before .before .before .before .pre .0) (c .before .before .before .before .pre .1) (omega (arith, c .loop-test .taken, c .before .before .before .before .pre .2)) in
     omega (arith, small .0)
 
--- src/lib.rt:224:36
 add-number-2 : tie.Need-add-number-2 Inv-loop μ-loop
 add-number-2 c =
     let small = sample-place-small (c .before .before .before .before .args .nx) (c .before .loop .i) (c .before .before .before .before .pre .0) (c .before .before .before .before .pre .1) (omega (arith, c .loop-test .taken, c .before .before .before .before .pre .2)) in
     omega (arith, small .0)
 
--- src/lib.rt:224:70
 rem-number : tie.Need-rem-number Inv-loop μ-loop
 rem-number c = c .before .before .before .before .pre .0
 
--- src/lib.rt:224:65
 mul-number-3 : tie.Need-mul-number-3 Inv-loop μ-loop
 mul-number-3 c =
     let small = sample-place-small (c .before .before .before .before .args .nx) (c .before .loop .i) (c .before .before .before .before .pre .0) (c .before .before .before .before .pre .1) (omega (arith, c .loop-test .taken, c .before .before .before .before .pre .2)) in
     omega (arith, small .1)
 
--- src/lib.rt:224:36
 add-number-3 : tie.Need-add-number-3 Inv-loop μ-loop
 add-number-3 c =
     let small = sample-place-small (c .before .before .before .before .args .nx) (c .before .loop .i) (c .before .before .before .before .pre .0) (c .before .before .before .before .pre .1) (omega (arith, c .loop-test .taken, c .before .before .before .before .pre .2)) in
     omega (arith, small .0, small .1)
 
--- src/lib.rt:224:22
 number-requires : tie.Need-number-requires Inv-loop μ-loop
 number-requires c κs =
     let small = sample-place-small (c .before .before .before .before .args .nx) (c .before .loop .i) (c .before .before .before .before .pre .0) (c .before .before .before .before .pre .1) (omega (arith, c .loop-test .taken, c .before .before .before .before .pre .2)) in
     omega (arith, small .0, small .1)
 
--- src/lib.rt:224:9
 mul-samples : tie.Need-mul-samples Inv-loop μ-loop
 mul-samples c = search needs
 
--- src/lib.rt:224:9
 slice-write-samples : tie.Need-slice-write-samples Inv-loop μ-loop
 slice-write-samples c = omega (arith, c .before .loop-test .taken, c .before .before .loop .inv .2, c .before .before .before .before .before .pre .3)
 
--- src/lib.rt:225:9
 add-i : tie.Need-add-i Inv-loop μ-loop
 add-i c = search needs
 
--- src/lib.rt:223:5
 loop-less : tie.Need-loop-less Inv-loop μ-loop
 loop-less c = search needs
 
--- src/lib.rt:223:5
 loop-again : tie.Need-loop-again Inv-loop μ-loop
 loop-again c =
     let i = c .before .before .loop .inv in (
@@ -95,11 +82,9 @@ loop-again c =
       search needs,
     )
 
--- src/lib.rt:218:1
 same-length : tie.Need-same-length Inv-loop μ-loop
 same-length c = c .before .loop .inv .2
 
--- src/lib.rt:218:1
 returns : tie.Need-returns Inv-loop μ-loop
 returns c =
     let end : c .before .loop .i ≡ c .before .before .before .before .args .count = omega (arith, c .loop-test .left, c .before .loop .inv .0) in

@@ -1,3 +1,5 @@
+-- `glyph` meets its contract: a figure or a letter.
+-- Assumes nothing.
 use Rattle.lines.proofs.Digits.{glyph-low, glyph-high}
 use borrow.Author.Needs.{needs}
 use Rattle.lines.proofs.glyph.Statement.{statement}
@@ -5,19 +7,15 @@ use Rattle.lines.proofs.glyph.Tie as tie
 use Rattle.lines.proofs.glyph.Reads as reads
 use Rattle.lines.proofs.glyph.Lts as lts
 
--- src/lib.rt:234:16
 add-result : tie.Need-add-result
 add-result c = search needs
 
--- src/lib.rt:234:9
 returns : tie.Need-returns
 returns c = glyph-low _ (c .before .pre) (c .if1 .taken)
 
--- src/lib.rt:236:5
 add-result-2 : tie.Need-add-result-2
 add-result-2 c = search needs
 
--- src/lib.rt:229:1
 returns-2 : tie.Need-returns-2
 returns-2 c = glyph-high _ (c .before .pre) (c .if1 .left)
 

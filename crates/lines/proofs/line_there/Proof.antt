@@ -1,3 +1,5 @@
+-- `line_there` meets its contract: a row, or the end of the input.
+-- Assumes nothing.
 use Prim.Native.Nat.{ℕ, _+_, _*_}
 use mathlib.Core.Path.{sym, ap, _∙_}
 use native.Mathlib.Omega.{arith}
@@ -11,47 +13,36 @@ use Rattle.lines.proofs.line_there.Lts as lts
 use Rattle.lines.proofs.read_at.Reads as read-at-reads
 use Rattle.lines.proofs.right_bytes.Reads as right-bytes-reads
 
--- src/lib.rt:105:24
 mul-at : tie.Need-mul-at
 mul-at c = search needs
 
--- src/lib.rt:105:24
 add-at : tie.Need-add-at
 add-at c = search needs
 
--- src/lib.rt:105:19
 mul-at-2 : tie.Need-mul-at-2
 mul-at-2 c = omega (arith, rows-small (c .before .args .nx) (c .before .args .j) (c .before .pre .0) (c .before .pre .1))
 
--- src/lib.rt:105:14
 add-at-2 : tie.Need-add-at-2
 add-at-2 c = omega (arith, rows-small (c .before .args .nx) (c .before .args .j) (c .before .pre .0) (c .before .pre .1))
 
--- src/lib.rt:107:39
 mul-right-bytes : tie.Need-mul-right-bytes
 mul-right-bytes c = search needs
 
--- src/lib.rt:107:16
 right-bytes-requires : tie.Need-right-bytes-requires
 right-bytes-requires c κs = (omega (arith, rows-small (c .before .before .args .nx) (c .before .before .args .j) (c .before .before .pre .0) (c .before .before .pre .1)), omega (arith, c .before .before .pre .0))
 
--- src/lib.rt:107:50
 mul-result : tie.Need-mul-result
 mul-result c = search needs
 
--- src/lib.rt:107:50
 add-result : tie.Need-add-result
 add-result c = search needs
 
--- src/lib.rt:107:9
 returns : tie.Need-returns
 returns c = ap (λ (k : ℕ). eqb k (4 * c .before .before .before .args .nx + 1)) (c .right-bytes .ensures) ∙ sym (there-row (c .before .before .before .args .input .now) _ _ _ (c .before .if1 .taken))
 
--- src/lib.rt:109:5
 read-at-requires : tie.Need-read-at-requires
 read-at-requires c κs = search needs
 
--- src/lib.rt:101:1
 returns-2 : tie.Need-returns-2
 returns-2 c = ap (λ (k : ℕ). eqb k 256) (c .read-at .ensures .0) ∙ sym (there-end (c .before .before .before .args .input .now) (c .before .before .before .args .nx) _ _ (c .before .if1 .left))
 

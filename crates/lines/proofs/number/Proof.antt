@@ -1,3 +1,5 @@
+-- `number` meets its contract: four digits, each read and worth what the definition says.
+-- Assumes nothing.
 use Rattle.lines.proofs.Reading.{number-read}
 use borrow.Author.Needs.{needs}
 use Rattle.lines.proofs.number.Statement.{statement}
@@ -7,75 +9,57 @@ use Rattle.lines.proofs.number.Lts as lts
 use Rattle.lines.proofs.digit.Reads as digit-reads
 use Rattle.lines.proofs.read_at.Reads as read-at-reads
 
--- src/lib.rt:66:19
 read-at-requires : tie.Need-read-at-requires
 read-at-requires c κs = search needs
 
--- src/lib.rt:66:13
 digit-requires : tie.Need-digit-requires
 digit-requires c κs = search needs
 
--- src/lib.rt:67:34
 add-read-at : tie.Need-add-read-at
 add-read-at c = search needs
 
--- src/lib.rt:67:19
 read-at-requires-2 : tie.Need-read-at-requires-2
 read-at-requires-2 c κs = search needs
 
--- src/lib.rt:67:13
 digit-requires-2 : tie.Need-digit-requires-2
 digit-requires-2 c κs = search needs
 
--- src/lib.rt:68:34
 add-read-at-2 : tie.Need-add-read-at-2
 add-read-at-2 c = search needs
 
--- src/lib.rt:68:19
 read-at-requires-3 : tie.Need-read-at-requires-3
 read-at-requires-3 c κs = search needs
 
--- src/lib.rt:68:13
 digit-requires-3 : tie.Need-digit-requires-3
 digit-requires-3 c κs = search needs
 
--- src/lib.rt:69:34
 add-read-at-3 : tie.Need-add-read-at-3
 add-read-at-3 c = search needs
 
--- src/lib.rt:69:19
 read-at-requires-4 : tie.Need-read-at-requires-4
 read-at-requires-4 c κs = search needs
 
--- src/lib.rt:69:13
 digit-requires-4 : tie.Need-digit-requires-4
 digit-requires-4 c κs = search needs
 
--- src/lib.rt:70:7
 mul-result : tie.Need-mul-result
 mul-result c = search needs
 
--- src/lib.rt:70:7
 add-result : tie.Need-add-result
 add-result c = search needs
 
--- src/lib.rt:70:6
 mul-result-2 : tie.Need-mul-result-2
 mul-result-2 c = search needs
 
--- src/lib.rt:70:6
 add-result-2 : tie.Need-add-result-2
 add-result-2 c = search needs
 
--- src/lib.rt:70:5
 mul-result-3 : tie.Need-mul-result-3
 mul-result-3 c = search needs
 
--- src/lib.rt:70:5
 add-result-3 : tie.Need-add-result-3
 add-result-3 c = search needs
 
--- src/lib.rt:62:1
 returns : tie.Need-returns
 returns c =
     number-read (c .before .before .before .before .before .before .before .before .before .args .input .now) _ _ _ _ _ _ _ _ _

@@ -1,3 +1,5 @@
+-- `put_front` meets its contract: the fronts of the buffers are the mesh.
+-- Assumes nothing.
 use mathlib.Core.Path.{sym}
 use lib.Seq.{length-take-le}
 use borrow.Author.Needs.{needs}
@@ -7,39 +9,30 @@ use Rattle.lines.proofs.put_front.Reads as reads
 use Rattle.lines.proofs.put_front.Lts as lts
 use Rattle.lines.proofs.put_mesh.Reads as put-mesh-reads
 
--- src/lib.rt:419:13
 cast-v : tie.Need-cast-v
 cast-v c = search needs
 
--- src/lib.rt:420:13
 cast-q : tie.Need-cast-q
 cast-q c = search needs
 
--- src/lib.rt:421:36
 mul-put-mesh : tie.Need-mul-put-mesh
 mul-put-mesh c = search needs
 
--- src/lib.rt:421:27
 slice-aggregate-put-mesh : tie.Need-slice-aggregate-put-mesh
 slice-aggregate-put-mesh c = sym (length-take-le _ (c .before .before .before .before .before .before .before .before .args .words .now) (c .before .before .before .before .before .before .before .before .pre .1 .0 .0))
 
--- src/lib.rt:421:55
 mul-put-mesh-2 : tie.Need-mul-put-mesh-2
 mul-put-mesh-2 c = search needs
 
--- src/lib.rt:421:44
 slice-aggregate-put-mesh-2 : tie.Need-slice-aggregate-put-mesh-2
 slice-aggregate-put-mesh-2 c = sym (length-take-le _ (c .before .before .before .before .before .before .before .before .before .args .offsets .now) (c .before .before .before .before .before .before .before .before .before .pre .1 .0 .1))
 
--- src/lib.rt:421:72
 mul-put-mesh-3 : tie.Need-mul-put-mesh-3
 mul-put-mesh-3 c = search needs
 
--- src/lib.rt:421:63
 slice-aggregate-put-mesh-3 : tie.Need-slice-aggregate-put-mesh-3
 slice-aggregate-put-mesh-3 c = sym (length-take-le _ (c .before .before .before .before .before .before .before .before .before .before .args .quads .now) (c .before .before .before .before .before .before .before .before .before .before .pre .1 .0 .2))
 
--- src/lib.rt:421:5
 put-mesh-requires : tie.Need-put-mesh-requires
 put-mesh-requires c κs =
     let p = c .before .before .before .before .before .before .before .before .before .before .pre in
@@ -51,11 +44,9 @@ put-mesh-requires c κs =
       ),
     )
 
--- src/lib.rt:407:1
 same-length : tie.Need-same-length
 same-length c = search needs
 
--- src/lib.rt:407:1
 returns : tie.Need-returns
 returns c = search needs
 

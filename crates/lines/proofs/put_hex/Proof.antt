@@ -1,3 +1,5 @@
+-- `put_hex` meets its contract: the digits above the bits that are left are put.
+-- Assumes nothing.
 use Prim.Native.Nat.{ℕ, _+_, _*_, _-_, _/_, _%_, _^_, _≤_, _<_}
 use mathlib.Core.Path.{_≡_, refl, sym, _∙_}
 use native.Mathlib.Nat.{mod-lt}
@@ -18,47 +20,36 @@ Inv-loop out₀ at k value next₀ left₀ out next left =
 abbrev μ-loop : tie.MeasureT-loop
 μ-loop out₀ at k value next₀ left₀ out next left = left
 
--- src/lib.rt:246:20
 mul-left : tie.Need-mul-left Inv-loop μ-loop
 mul-left c = search needs
 
--- src/lib.rt:247:5
 loop-holds : tie.Need-loop-holds Inv-loop μ-loop
 loop-holds c = (search needs, search needs, hex-start _ _ _ _, refl)
 
--- src/lib.rt:248:9
 sub-left : tie.Need-sub-left Inv-loop μ-loop
 sub-left c = omega (arith, c .loop-test .taken, c .before .loop .inv .1)
 
--- src/lib.rt:249:38
 cast-glyph : tie.Need-cast-glyph Inv-loop μ-loop
 cast-glyph c = search needs
 
--- src/lib.rt:249:29
 shr-glyph : tie.Need-shr-glyph Inv-loop μ-loop
 shr-glyph c = omega (arith, c .before .loop .inv .1, c .before .before .before .pre .0)
 
--- src/lib.rt:249:27
 cast-glyph-2 : tie.Need-cast-glyph-2 Inv-loop μ-loop
 cast-glyph-2 c = search needs
 
--- src/lib.rt:249:21
 glyph-requires : tie.Need-glyph-requires Inv-loop μ-loop
 glyph-requires c κs = search needs
 
--- src/lib.rt:249:9
 slice-write-out : tie.Need-slice-write-out Inv-loop μ-loop
 slice-write-out c = omega (arith, c .before .loop-test .taken, c .before .before .loop .inv .0, c .before .before .loop .inv .1, c .before .before .loop .inv .3, c .before .before .before .before .pre .1)
 
--- src/lib.rt:250:9
 add-next : tie.Need-add-next Inv-loop μ-loop
 add-next c = search needs
 
--- src/lib.rt:247:5
 loop-less : tie.Need-loop-less Inv-loop μ-loop
 loop-less c = omega (arith, c .before .loop-test .taken, c .before .before .loop .inv .1)
 
--- src/lib.rt:247:5
 loop-again : tie.Need-loop-again Inv-loop μ-loop
 loop-again c =
     let i = c .before .before .loop .inv in
@@ -69,11 +60,9 @@ loop-again c =
       search needs,
     )
 
--- src/lib.rt:240:1
 same-length : tie.Need-same-length Inv-loop μ-loop
 same-length c = c .before .loop .inv .3
 
--- src/lib.rt:240:1
 returns : tie.Need-returns Inv-loop μ-loop
 returns c =
     let i = c .before .loop .inv in

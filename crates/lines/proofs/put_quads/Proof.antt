@@ -1,3 +1,5 @@
+-- `put_quads` meets its contract: the lines of the quads before the one in hand are put.
+-- Assumes nothing.
 use Prim.Native.Nat.{ℕ, _+_, _*_, _-_, _≤_, _<_}
 use mathlib.Core.Path.{_≡_, refl, sym, ap, _∙_}
 use native.Mathlib.Omega.{arith}
@@ -20,71 +22,54 @@ Inv-loop out₀ at quads count next₀ q₀ out next q =
 abbrev μ-loop : tie.MeasureT-loop
 μ-loop out₀ at quads count next₀ q₀ out next q = count - q
 
--- src/lib.rt:380:5
 loop-holds : tie.Need-loop-holds Inv-loop μ-loop
 loop-holds c = (search needs, search needs, no-lines _ _ _, refl)
 
--- src/lib.rt:381:17
 mul-n : tie.Need-mul-n Inv-loop μ-loop
 mul-n c = search needs
 
--- src/lib.rt:382:36
 mul-put-quad : tie.Need-mul-put-quad Inv-loop μ-loop
 mul-put-quad c = search needs
 
--- src/lib.rt:382:36
 shared-slice-read-put-quad : tie.Need-shared-slice-read-put-quad Inv-loop μ-loop
 shared-slice-read-put-quad c = search needs
 
--- src/lib.rt:382:52
 add-put-quad : tie.Need-add-put-quad Inv-loop μ-loop
 add-put-quad c = search needs
 
--- src/lib.rt:382:46
 mul-put-quad-2 : tie.Need-mul-put-quad-2 Inv-loop μ-loop
 mul-put-quad-2 c = search needs
 
--- src/lib.rt:382:46
 shared-slice-read-put-quad-2 : tie.Need-shared-slice-read-put-quad-2 Inv-loop μ-loop
 shared-slice-read-put-quad-2 c = search needs
 
--- src/lib.rt:382:66
 add-put-quad-2 : tie.Need-add-put-quad-2 Inv-loop μ-loop
 add-put-quad-2 c = search needs
 
--- src/lib.rt:382:60
 mul-put-quad-3 : tie.Need-mul-put-quad-3 Inv-loop μ-loop
 mul-put-quad-3 c = search needs
 
--- src/lib.rt:382:60
 shared-slice-read-put-quad-3 : tie.Need-shared-slice-read-put-quad-3 Inv-loop μ-loop
 shared-slice-read-put-quad-3 c = search needs
 
--- src/lib.rt:382:80
 add-put-quad-3 : tie.Need-add-put-quad-3 Inv-loop μ-loop
 add-put-quad-3 c = search needs
 
--- src/lib.rt:382:74
 mul-put-quad-4 : tie.Need-mul-put-quad-4 Inv-loop μ-loop
 mul-put-quad-4 c = search needs
 
--- src/lib.rt:382:74
 shared-slice-read-put-quad-4 : tie.Need-shared-slice-read-put-quad-4 Inv-loop μ-loop
 shared-slice-read-put-quad-4 c = search needs
 
--- src/lib.rt:382:9
 put-quad-requires : tie.Need-put-quad-requires Inv-loop μ-loop
 put-quad-requires c κs = omega (arith, c .before .before .before .before .before .loop-test .taken, c .before .before .before .before .before .before .loop .inv .1, c .before .before .before .before .before .before .loop .inv .3, c .before .before .before .before .before .before .before .before .before .pre .1)
 
--- src/lib.rt:383:9
 add-q : tie.Need-add-q Inv-loop μ-loop
 add-q c = search needs
 
--- src/lib.rt:380:5
 loop-less : tie.Need-loop-less Inv-loop μ-loop
 loop-less c = search needs
 
--- src/lib.rt:380:5
 loop-again : tie.Need-loop-again Inv-loop μ-loop
 loop-again c =
     let i = c .before .before .before .before .before .before .before .before .before .loop .inv in
@@ -95,11 +80,9 @@ loop-again c =
       c .before .before .put-quad .kept .0 ∙ i .3,
     )
 
--- src/lib.rt:373:1
 same-length : tie.Need-same-length Inv-loop μ-loop
 same-length c = c .before .loop .inv .3
 
--- src/lib.rt:373:1
 returns : tie.Need-returns Inv-loop μ-loop
 returns c =
     let i = c .before .loop .inv in

@@ -1,3 +1,5 @@
+-- `put_vertices` meets its contract: the lines of the vertices before the one in hand are put.
+-- Assumes nothing.
 use Prim.Native.Nat.{ℕ, _+_, _*_, _-_, _≤_, _<_}
 use mathlib.Core.Path.{_≡_, refl, sym, ap, _∙_}
 use native.Mathlib.Omega.{arith}
@@ -20,71 +22,54 @@ Inv-loop out₀ at words offsets count next₀ v₀ out next v =
 abbrev μ-loop : tie.MeasureT-loop
 μ-loop out₀ at words offsets count next₀ v₀ out next v = count - v
 
--- src/lib.rt:355:5
 loop-holds : tie.Need-loop-holds Inv-loop μ-loop
 loop-holds c = (search needs, search needs, no-lines _ _ _, refl)
 
--- src/lib.rt:356:17
 mul-w : tie.Need-mul-w Inv-loop μ-loop
 mul-w c = search needs
 
--- src/lib.rt:357:17
 mul-o : tie.Need-mul-o Inv-loop μ-loop
 mul-o c = search needs
 
--- src/lib.rt:361:13
 mul-put-vertex : tie.Need-mul-put-vertex Inv-loop μ-loop
 mul-put-vertex c = search needs
 
--- src/lib.rt:361:13
 shared-slice-read-put-vertex : tie.Need-shared-slice-read-put-vertex Inv-loop μ-loop
 shared-slice-read-put-vertex c = search needs
 
--- src/lib.rt:362:19
 add-put-vertex : tie.Need-add-put-vertex Inv-loop μ-loop
 add-put-vertex c = search needs
 
--- src/lib.rt:362:13
 mul-put-vertex-2 : tie.Need-mul-put-vertex-2 Inv-loop μ-loop
 mul-put-vertex-2 c = search needs
 
--- src/lib.rt:362:13
 shared-slice-read-put-vertex-2 : tie.Need-shared-slice-read-put-vertex-2 Inv-loop μ-loop
 shared-slice-read-put-vertex-2 c = search needs
 
--- src/lib.rt:363:13
 mul-put-vertex-3 : tie.Need-mul-put-vertex-3 Inv-loop μ-loop
 mul-put-vertex-3 c = search needs
 
--- src/lib.rt:363:13
 shared-slice-read-put-vertex-3 : tie.Need-shared-slice-read-put-vertex-3 Inv-loop μ-loop
 shared-slice-read-put-vertex-3 c = search needs
 
--- src/lib.rt:364:21
 add-put-vertex-2 : tie.Need-add-put-vertex-2 Inv-loop μ-loop
 add-put-vertex-2 c = search needs
 
--- src/lib.rt:364:13
 mul-put-vertex-4 : tie.Need-mul-put-vertex-4 Inv-loop μ-loop
 mul-put-vertex-4 c = search needs
 
--- src/lib.rt:364:13
 shared-slice-read-put-vertex-4 : tie.Need-shared-slice-read-put-vertex-4 Inv-loop μ-loop
 shared-slice-read-put-vertex-4 c = search needs
 
--- src/lib.rt:365:21
 add-put-vertex-3 : tie.Need-add-put-vertex-3 Inv-loop μ-loop
 add-put-vertex-3 c = search needs
 
--- src/lib.rt:365:13
 mul-put-vertex-5 : tie.Need-mul-put-vertex-5 Inv-loop μ-loop
 mul-put-vertex-5 c = search needs
 
--- src/lib.rt:365:13
 shared-slice-read-put-vertex-5 : tie.Need-shared-slice-read-put-vertex-5 Inv-loop μ-loop
 shared-slice-read-put-vertex-5 c = search needs
 
--- src/lib.rt:358:9
 put-vertex-requires : tie.Need-put-vertex-requires Inv-loop μ-loop
 put-vertex-requires c κs =
     let l = c .before .before .before .before .before .before .before .loop in
@@ -98,15 +83,12 @@ put-vertex-requires c κs =
       omega (arith, t, l .inv .1, l .inv .3, c .before .before .before .before .before .before .before .before .before .before .before .pre .0 .2),
     )
 
--- src/lib.rt:367:9
 add-v : tie.Need-add-v Inv-loop μ-loop
 add-v c = search needs
 
--- src/lib.rt:355:5
 loop-less : tie.Need-loop-less Inv-loop μ-loop
 loop-less c = search needs
 
--- src/lib.rt:355:5
 loop-again : tie.Need-loop-again Inv-loop μ-loop
 loop-again c =
     let i = c .before .before .before .before .before .before .before .before .before .before .loop .inv in
@@ -117,11 +99,9 @@ loop-again c =
       c .before .before .put-vertex .kept .0 ∙ i .3,
     )
 
--- src/lib.rt:341:1
 same-length : tie.Need-same-length Inv-loop μ-loop
 same-length c = c .before .loop .inv .3
 
--- src/lib.rt:341:1
 returns : tie.Need-returns Inv-loop μ-loop
 returns c =
     let i = c .before .loop .inv in

@@ -1,3 +1,5 @@
+-- `read_at` meets its contract: a byte before the end, and 256 behind it.
+-- Assumes nothing.
 use mathlib.Core.Path.{sym, _∙_}
 use native.Mathlib.Omega.{arith}
 use Rattle.lines.proofs.Reading.{getD-other, getD-past}
@@ -8,19 +10,15 @@ use Rattle.lines.proofs.read_at.Reads as reads
 use Rattle.lines.proofs.read_at.Lts as lts
 use Rattle.lines.proofs.wide.Reads as wide-reads
 
--- src/lib.rt:35:21
 shared-slice-read-wide : tie.Need-shared-slice-read-wide
 shared-slice-read-wide c = search needs
 
--- src/lib.rt:35:9
 wide-requires : tie.Need-wide-requires
 wide-requires c κs = search needs
 
--- src/lib.rt:35:9
 returns : tie.Need-returns
 returns c = (c .wide .ensures .0 ∙ getD-other (c .before .before .before .before .args .input .now) _ _ _ (c .before .before .if1 .taken), omega (arith, c .wide .ensures .1))
 
--- src/lib.rt:30:1
 returns-2 : tie.Need-returns-2
 returns-2 c = (sym (getD-past (c .before .before .args .input .now) _ _ (c .if1 .left)), search needs)
 

@@ -1,3 +1,5 @@
+-- `right_byte` meets its contract: a digit before the last column, LF in it.
+-- Assumes nothing.
 use mathlib.Core.Path.{sym, _∙_, ap}
 use Prim.Native.Nat.{ℕ}
 use lib.Dec.{ltb}
@@ -9,15 +11,12 @@ use Rattle.lines.proofs.right_byte.Reads as reads
 use Rattle.lines.proofs.right_byte.Lts as lts
 use Rattle.lines.proofs.digit.Reads as digit-reads
 
--- src/lib.rt:79:16
 digit-requires : tie.Need-digit-requires
 digit-requires c κs = search needs
 
--- src/lib.rt:79:9
 returns : tie.Need-returns
 returns c = ap (λ (d : ℕ). ltb d 16) (c .digit .ensures .0) ∙ sym (right-digit _ _ _ (c .before .if1 .taken))
 
--- src/lib.rt:74:1
 returns-2 : tie.Need-returns-2
 returns-2 c = sym (right-end _ _ _ (c .if1 .left))
 

@@ -1,3 +1,5 @@
+-- `right_bytes` meets its contract: all columns before the one in hand are right.
+-- Assumes nothing.
 use Prim.Native.Nat.{ℕ, _+_, _-_, _≤_}
 use mathlib.Core.Path.{sym, _∙_}
 use native.Mathlib.Omega.{arith}
@@ -18,37 +20,29 @@ Inv-loop input at n column₀ column = (column ≤ n + 1) × HoldsTo (rightAt in
 abbrev μ-loop : tie.MeasureT-loop
 μ-loop input at n column₀ column = n + 1 - column
 
--- src/lib.rt:90:5
 loop-holds : tie.Need-loop-holds Inv-loop μ-loop
 loop-holds c = (search needs, holds-none _)
 
--- src/lib.rt:91:32
 add-read-at : tie.Need-add-read-at Inv-loop μ-loop
 add-read-at c = search needs
 
--- src/lib.rt:91:13
 read-at-requires : tie.Need-read-at-requires Inv-loop μ-loop
 read-at-requires c κs = search needs
 
--- src/lib.rt:92:13
 right-byte-requires : tie.Need-right-byte-requires Inv-loop μ-loop
 right-byte-requires c κs = search needs
 
--- src/lib.rt:93:13
 returns : tie.Need-returns Inv-loop μ-loop
 returns c =
     wrong-at (c .before .before .before .before .before .before .args .input .now) _ _ _ (c .before .before .before .loop-test .taken) (c .before .before .before .before .loop .inv .1)
     (found-in (c .before .before .before .before .before .before .args .input .now) _ _ _ _ _ _ (c .before .before .read-at .ensures .0) (c .before .right-byte .ensures) (not-true _ (c .if1 .taken)))
 
--- src/lib.rt:95:9
 add-column : tie.Need-add-column Inv-loop μ-loop
 add-column c = search needs
 
--- src/lib.rt:90:5
 loop-less : tie.Need-loop-less Inv-loop μ-loop
 loop-less c = search needs
 
--- src/lib.rt:90:5
 loop-again : tie.Need-loop-again Inv-loop μ-loop
 loop-again c = (
   search needs,
@@ -56,7 +50,6 @@ loop-again c = (
       (found-in (c .before .before .before .before .before .before .args .input .now) _ _ _ _ _ _ (c .before .before .read-at .ensures .0) (c .before .right-byte .ensures) (not-false _ (c .if1 .left))),
 )
 
--- src/lib.rt:85:1
 returns-2 : tie.Need-returns-2 Inv-loop μ-loop
 returns-2 c = all-right (c .before .before .before .args .input .now) _ _ _ (omega (arith, c .loop-test .left, c .before .loop .inv .0)) (c .before .loop .inv .1)
 

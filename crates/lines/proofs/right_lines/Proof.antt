@@ -1,3 +1,5 @@
+-- `right_lines` meets its contract: all lines before the one in hand are right.
+-- Assumes nothing.
 use Prim.Native.Nat.{ℕ, _+_, _-_, _≤_}
 use mathlib.Core.Path.{sym, _∙_}
 use native.Mathlib.Omega.{arith}
@@ -18,35 +20,28 @@ Inv-loop input nx rows j₀ j = (j ≤ rows + 1) × HoldsTo (lineThere input nx 
 abbrev μ-loop : tie.MeasureT-loop
 μ-loop input nx rows j₀ j = rows + 1 - j
 
--- src/lib.rt:119:5
 loop-holds : tie.Need-loop-holds Inv-loop μ-loop
 loop-holds c = (search needs, holds-none _)
 
--- src/lib.rt:120:13
 line-there-requires : tie.Need-line-there-requires Inv-loop μ-loop
 line-there-requires c κs = (c .before .before .before .pre .0, omega (arith, c .loop-test .taken, c .before .before .before .pre .1))
 
--- src/lib.rt:121:13
 returns : tie.Need-returns Inv-loop μ-loop
 returns c = (
   wrong-line (c .before .before .before .before .before .args .input .now) (c .before .before .before .before .before .args .nx) _ _ (c .before .before .loop-test .taken) (c .before .before .before .loop .inv .1) (sym (c .before .line-there .ensures) ∙ not-true _ (c .if1 .taken)),
   omega (arith, c .before .before .loop-test .taken, c .before .before .before .before .before .pre .1),
 )
 
--- src/lib.rt:123:9
 add-j : tie.Need-add-j Inv-loop μ-loop
 add-j c = search needs
 
--- src/lib.rt:119:5
 loop-less : tie.Need-loop-less Inv-loop μ-loop
 loop-less c = search needs
 
--- src/lib.rt:119:5
 loop-again : tie.Need-loop-again Inv-loop μ-loop
 loop-again c =
     (search needs, holds-more (lineThere (c .before .before .before .before .before .args .input .now) (c .before .before .before .before .before .args .nx) (c .before .before .before .before .before .args .rows)) _ (c .before .before .before .loop .inv .1) (sym (c .before .line-there .ensures) ∙ not-false _ (c .if1 .left)))
 
--- src/lib.rt:113:1
 returns-2 : tie.Need-returns-2 Inv-loop μ-loop
 returns-2 c = (
   all-lines (c .before .before .before .args .input .now) (c .before .before .before .args .nx) _ _ (omega (arith, c .loop-test .left, c .before .loop .inv .0)) (c .before .loop .inv .1),

@@ -1,3 +1,5 @@
+-- `run` meets its promise: a row before row 4 refuses, or the block is answered.
+-- Assumes nothing.
 use mathlib.Core.Path.{_≡_, sym, _∙_}
 use Rattle.lines.proofs.Outputs.{output-refused, output-block, readable, ran}
 use borrow.Author.Needs.{needs}
@@ -10,64 +12,50 @@ use Rattle.lines.proofs.check.Reads as check-reads
 use Rattle.lines.proofs.number.Reads as number-reads
 use Rattle.lines.proofs.put_refusal.Reads as put-refusal-reads
 
--- src/lib.rt:457:14
 number-requires : tie.Need-number-requires
 number-requires c κs = search needs
 
--- src/lib.rt:457:14
 cast-nx : tie.Need-cast-nx
 cast-nx c = search needs
 
--- src/lib.rt:458:14
 number-requires-2 : tie.Need-number-requires-2
 number-requires-2 c κs = search needs
 
--- src/lib.rt:458:14
 cast-ny : tie.Need-cast-ny
 cast-ny c = search needs
 
--- src/lib.rt:459:14
 number-requires-3 : tie.Need-number-requires-3
 number-requires-3 c κs = search needs
 
--- src/lib.rt:459:14
 cast-nz : tie.Need-cast-nz
 cast-nz c = search needs
 
--- src/lib.rt:460:9
 number-requires-4 : tie.Need-number-requires-4
 number-requires-4 c κs = search needs
 
--- src/lib.rt:461:11
 check-requires : tie.Need-check-requires
 check-requires c κs = search needs
 
--- src/lib.rt:462:26
 enum-known-r : tie.Need-enum-known-r
 enum-known-r c = search needs
 
--- src/lib.rt:462:32
 put-refusal-requires : tie.Need-put-refusal-requires
 put-refusal-requires c κs = search needs
 
--- src/lib.rt:463:57
 enum-told : tie.Need-enum-told
 enum-told c = search needs
 
--- src/lib.rt:463:28
 answer-requires : tie.Need-answer-requires
 answer-requires c κs = (
   readable (c .before .before .before .before .before .before .before .before .before .args .input .now) _ _ _ _ (c .before .before .before .before .before .before .before .number .ensures) (c .before .before .before .before .before .before .number2 .ensures) (c .before .before .before .before .before .number3 .ensures) (c .before .before .before .before .number4 .ensures) (sym (c .before .before .before .check .ensures) ∙ c .before .enum-told .given .1),
   search needs,
 )
 
--- src/lib.rt:453:1
 returns : tie.Need-returns
 returns c =
     ran (search needs) (c .put-refusal .ensures)
     (output-refused (c .before .before .before .before .before .before .before .before .before .before .before .args .input .now) _ _ _ _ (c .before .before .before .before .before .before .before .before .before .number .ensures) (c .before .before .before .before .before .before .before .before .number2 .ensures) (c .before .before .before .before .before .before .before .number3 .ensures) (c .before .before .before .before .before .before .number4 .ensures) _ (sym (c .before .before .before .before .before .check .ensures) ∙ c .before .before .before .r .given .1))
 
--- src/lib.rt:453:1
 returns-2 : tie.Need-returns-2
 returns-2 c =
     ran (search needs) (c .answer .ensures)
