@@ -10,7 +10,7 @@ use native.Mathlib.Numerals.{add-one}
 use native.Mathlib.Omega.{arith}
 use lib.ListN.{length, getD}
 use Rattle.laws.specs.Bits.{bit}
-use Rattle.laws.proofs.Counting.{count}
+use Rattle.laws.specs.Counting.{count}
 use Rattle.laws.proofs.Tests.{lt-or-ge}
 use Rattle.block.specs.Grey.{isCeiling}
 use Rattle.block.specs.Steps.{ClearBefore}

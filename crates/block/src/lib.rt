@@ -4,7 +4,7 @@ ghost use mathlib.Core.Path.{_≡_};
 ghost use Prim.Native.Nat.{ℕ, _+_, _≤_};
 ghost use lib.ListN.{length, getD};
 ghost use Rattle.laws.specs.Bits.{bit};
-ghost use Rattle.laws.proofs.Counting.{count};
+ghost use Rattle.laws.specs.Counting.{count};
 ghost use Rattle.block.specs.Grey.{isCeiling};
 ghost use Rattle.block.specs.Numbering.{sampleCount, cubeCount};
 ghost use Rattle.block.specs.Rows.{countRow, thresholdRow, ceilingRow, lowest};

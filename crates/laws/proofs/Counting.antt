@@ -8,13 +8,9 @@ use native.Mathlib.Nat.{add-zero, add-suc, add-comm, zero-mul, mul-zero, mul-suc
 use native.Mathlib.Omega.{arith}
 use lib.ListN.{length, length-append}
 use Rattle.laws.specs.Bits.{bit}
+use Rattle.laws.specs.Counting.{count}
 use Rattle.laws.specs.Below.{below}
 use Rattle.laws.proofs.Index.{pair-mod, pair-div}
-
--- how many numbers below n pass the test
-unfoldable pub count : (ℕ → Bool) → ℕ → ℕ
-count f zero = 0
-count f (suc n) = count f n + bit (f n)
 
 pub count-same : (f g : ℕ → Bool) (n : ℕ) → ((m : ℕ) → m < n → f m ≡ g m) → count f n ≡ count g n
 unfolding count

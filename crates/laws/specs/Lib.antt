@@ -5,3 +5,4 @@ pub mod Filled
 pub mod Below
 pub mod Pack
 pub mod Leading
+pub mod Counting

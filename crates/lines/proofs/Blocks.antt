@@ -9,7 +9,7 @@ use native.Mathlib.Nat.{mul-le-mul}
 use native.Mathlib.Omega.{arith}
 use lib.Dec.{T}
 use lib.Ieee.{Float, isNan, nan}
-use lib.ListN.{length, getD, take}
+use lib.ListN.{length, getD, take, List·getD-eq-default}
 use lib.Seq.{take-at}
 use Rattle.laws.specs.Below.{below, over}
 use Rattle.laws.proofs.Over.{each, each-length, each-at, over-length}
@@ -26,7 +26,8 @@ use Rattle.block.specs.Size.{Limits}
 use Rattle.block.proofs.Order.{order-passes}
 use Rattle.block.proofs.Rows.{count-passes}
 use Rattle.mesh_rule.specs.Buffers.{meshWords, meshOffsets, meshQuads}
-use Rattle.mesh_rule.proofs.Offsets.{Greys, offsets-in-unit, mesh-offsets-length}
+use Rattle.mesh_rule.specs.Grid.{Greys}
+use Rattle.mesh_rule.proofs.Offsets.{offsets-in-unit, mesh-offsets-length}
 use Rattle.mesh_rule.proofs.Words.{mesh-words-length}
 use Rattle.mesh_rule.proofs.Small.{few-vertices, few-quads}
 use Rattle.mesh.specs.declared.Totals.{Totals}
@@ -40,7 +41,7 @@ use Rattle.lines.specs.Input.{sampleRead, samplesRead}
 use Rattle.lines.specs.Output.{refusalLine, meshText, blockText, printed}
 use Rattle.lines.specs.Steps.{Numbers, Readable}
 use Rattle.lines.proofs.Axes.{AtMostEight, at-most-eight}
-use Rattle.lines.proofs.Reading.{getD-past, number-small}
+use Rattle.lines.proofs.Reading.{number-small}
 
 -- ---- the front of a buffer
 
@@ -66,7 +67,7 @@ module _ (bytes : List ℕ) (n : Size) where
       go : (i < sampleCount n) ⊎ (sampleCount n ≤ i) → getD (each (sampleRead bytes (n .nx)) (sampleCount n)) i 0 < 65536
       go (inl l) = rw (each-at (sampleRead bytes (n .nx)) (sampleCount n) i 0 l) (number-small bytes _)
       go (inr g) =
-          rw (getD-past (each (sampleRead bytes (n .nx)) (sampleCount n)) i 0 (rw (each-length (sampleRead bytes (n .nx)) (sampleCount n)) g)) (omega arith)
+          rw (List·getD-eq-default (each (sampleRead bytes (n .nx)) (sampleCount n)) 0 {n = i} (rw (each-length (sampleRead bytes (n .nx)) (sampleCount n)) g)) (omega arith)
 
   -- as `fill` leaves them at the front of a buffer
   pub samples-front : (b c : List ℕ) → c ≡ over (below (λ (i : ℕ). sampleRead bytes (n .nx) i ∷ []) (sampleCount n)) b → take (sampleCount n) c ≡ samplesRead bytes n

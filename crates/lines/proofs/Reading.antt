@@ -19,17 +19,11 @@ use Rattle.lines.specs.Input.{rowPlace, lineThere, rightLines, firstLine
 
 -- ---- a place
 
--- before the end, and behind it
+-- before the end, whatever is read behind it
 pub getD-other : {A : Type 0} (xs : List A) (i : ℕ) (d e : A) → i < length xs → getD xs i d ≡ getD xs i e
 getD-other [] i d e h = absurd (not-suc-le-zero h)
 getD-other (x ∷ xs) zero d e h = refl
 getD-other (x ∷ xs) (suc i) d e h = getD-other xs i d e (le-of-suc-le-suc h)
-
-pub getD-past : {A : Type 0} (xs : List A) (i : ℕ) (d : A) → length xs ≤ i → getD xs i d ≡ d
-getD-past [] zero d h = refl
-getD-past [] (suc i) d h = refl
-getD-past (x ∷ xs) zero d h = absurd (not-suc-le-zero h)
-getD-past (x ∷ xs) (suc i) d h = getD-past xs i d (le-of-suc-le-suc h)
 
 -- a number of four digits
 pub four-digits : (bytes : List ℕ) (p : ℕ)

@@ -18,17 +18,15 @@ ghost use lib.Ieee.{Float, isNan};
 ghost use Rattle.laws.specs.Below.{below, over};
 ghost use Rattle.block.specs.declared.Checked.the-variants.{Refuses};
 ghost use Rattle.block.specs.Answer.{inOrder};
-ghost use Rattle.block.specs.Rows.{axisRow, thresholdRow};
+ghost use Rattle.block.specs.Rows.{axisRow, thresholdRow, ceilingRow};
 ghost use Rattle.lines.specs.Text.{readAt, digitOf, rightByte, rightBytes, numberAt, hexOf, LF};
 ghost use Rattle.lines.specs.Text.{glyph as glyphOf};
-ghost use Rattle.lines.specs.Input.{lineThere, rightLines, firstLineRow, linesRow, largeRow, sampleRead};
-ghost use Rattle.block.specs.Rows.{ceilingRow};
+ghost use Rattle.lines.specs.Input.{lineThere, rightLines, firstLineRow, linesRow, largeRow, sampleRead, samplesRead};
 ghost use Rattle.closed.specs.Closed.{findingOf};
 ghost use Rattle.mesh.specs.Answer.{sizeOf};
-ghost use Rattle.mesh_rule.proofs.Offsets.{Greys};
+ghost use Rattle.mesh_rule.specs.Grid.{Greys};
 ghost use Rattle.lines.specs.Output.{refusalLine, headLine, vertexLine, quadLine, vertexLineOf, quadLineOf, closedField, meshText, blockText, printed, Ran};
 ghost use Rattle.lines.specs.Steps.{Put, Numbers, Readable};
-ghost use Rattle.lines.specs.Input.{samplesRead};
 
 // The longest output: a head line, four vertices in each of 7·7·7 cubes, and a quad for each of 3·7·6·6 inner edges.
 pub const ROOM: usize = 112917;

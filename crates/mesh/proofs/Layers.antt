@@ -17,8 +17,8 @@ use Rattle.place.specs.declared.Offset.{Offset}
 use Rattle.place.specs.Place.{placeOf}
 use Rattle.cell.specs.Answer.{wordOf}
 use Rattle.mesh_rule.specs.Grid.{cornersOf}
-use Rattle.mesh_rule.specs.Mesh.{verticesOf, verticesBefore, vertices}
-use Rattle.mesh_rule.specs.Buffers.{pairs, triples, layerSize, masksOf, cubeWords, cubeOffsets, layerWords, layerOffsets, layerCount, layerFirst, meshWords, meshOffsets}
+use Rattle.mesh_rule.specs.Mesh.{verticesOf, verticesBefore, vertices, cubeLoops}
+use Rattle.mesh_rule.specs.Buffers.{pairs, triples, layerSize, cubeWords, cubeOffsets, layerWords, layerOffsets, layerCount, layerFirst, meshWords, meshOffsets}
 use Rattle.mesh_rule.proofs.Numbers.{one-for-each-loop}
 
 -- one layer of l more
@@ -51,11 +51,11 @@ layers-all n k e = ap (λ (x : ℕ). layerSize n * x) (last (n .nz) k e) ∙ mul
 module _ (n : Size) (s : List ℕ) (cut : Cut) where
   -- as many vertices as masks
   abbrev masksBefore : ℕ → List ℕ
-  masksBefore c = below (masksOf n s cut) c
+  masksBefore c = below (cubeLoops loopsOf n s cut) c
 
   pub vertices-masks : (c : ℕ) → length (verticesBefore loopsOf n s cut c) ≡ length (masksBefore c)
   unfolding verticesBefore
-  vertices-masks c = length-scaled (verticesOf loopsOf n s cut) (masksOf n s cut) 1 c (λ x. one-for-each-loop loopsOf n s cut x ∙ one (length (masksOf n s cut x))) ∙ sym (one (length (masksBefore c)))
+  vertices-masks c = length-scaled (verticesOf loopsOf n s cut) (cubeLoops loopsOf n s cut) 1 c (λ x. one-for-each-loop loopsOf n s cut x ∙ one (length (cubeLoops loopsOf n s cut x))) ∙ sym (one (length (masksBefore c)))
     where
       one : (x : ℕ) → x ≡ 1 * x
       one x = omega arith
@@ -63,8 +63,8 @@ module _ (n : Size) (s : List ℕ) (cut : Cut) where
   pub layer-first-next : (k : ℕ) → layerFirst n s cut (k + 1) ≡ layerFirst n s cut k + layerCount n s cut k
   layer-first-next k =
       vertices-masks (layerSize n * (k + 1))
-      ∙ ap length (layer-next (masksOf n s cut) (layerSize n) k)
-      ∙ length-append (masksBefore (layerSize n * k)) (below (λ (x : ℕ). masksOf n s cut (layerSize n * k + x)) (layerSize n))
+      ∙ ap length (layer-next (cubeLoops loopsOf n s cut) (layerSize n) k)
+      ∙ length-append (masksBefore (layerSize n * k)) (below (λ (x : ℕ). cubeLoops loopsOf n s cut (layerSize n * k + x)) (layerSize n))
       ∙ ap (λ (x : ℕ). x + layerCount n s cut k) (sym (vertices-masks (layerSize n * k)))
 
   pub layer-first-none : layerFirst n s cut 0 ≡ 0
@@ -78,20 +78,20 @@ module _ (n : Size) (s : List ℕ) (cut : Cut) where
   unfolding vertices
   layer-first-last k e = ap (λ (x : ℕ). length (verticesBefore loopsOf n s cut x)) (layers-all n k e)
 
-  words-of-cube : (c : ℕ) → length (cubeWords n s cut c) ≡ 2 * length (masksOf n s cut c)
+  words-of-cube : (c : ℕ) → length (cubeWords n s cut c) ≡ 2 * length (cubeLoops loopsOf n s cut c)
   unfolding cubeWords
-  words-of-cube c = pairs-length c (map (wordOf (cornersOf n s c)) (masksOf n s cut c)) ∙ ap (λ (x : ℕ). 2 * x) (length-map (masksOf n s cut c) (wordOf (cornersOf n s c)))
+  words-of-cube c = pairs-length c (map (wordOf (cornersOf n s c)) (cubeLoops loopsOf n s cut c)) ∙ ap (λ (x : ℕ). 2 * x) (length-map (cubeLoops loopsOf n s cut c) (wordOf (cornersOf n s c)))
 
-  offsets-of-cube : (c : ℕ) → length (cubeOffsets n s cut c) ≡ 3 * length (masksOf n s cut c)
+  offsets-of-cube : (c : ℕ) → length (cubeOffsets n s cut c) ≡ 3 * length (cubeLoops loopsOf n s cut c)
   unfolding cubeOffsets
-  offsets-of-cube c = triples-length (map (placeOf cut (cornersOf n s c)) (masksOf n s cut c)) ∙ ap (λ (x : ℕ). 3 * x) (length-map (masksOf n s cut c) (placeOf cut (cornersOf n s c)))
+  offsets-of-cube c = triples-length (map (placeOf cut (cornersOf n s c)) (cubeLoops loopsOf n s cut c)) ∙ ap (λ (x : ℕ). 3 * x) (length-map (cubeLoops loopsOf n s cut c) (placeOf cut (cornersOf n s c)))
 
   -- two words and three floats a vertex
   pub words-length : (c : ℕ) → length (below (cubeWords n s cut) c) ≡ 2 * length (verticesBefore loopsOf n s cut c)
-  words-length c = length-scaled (cubeWords n s cut) (masksOf n s cut) 2 c words-of-cube ∙ ap (λ (x : ℕ). 2 * x) (sym (vertices-masks c))
+  words-length c = length-scaled (cubeWords n s cut) (cubeLoops loopsOf n s cut) 2 c words-of-cube ∙ ap (λ (x : ℕ). 2 * x) (sym (vertices-masks c))
 
   pub offsets-length : (c : ℕ) → length (below (cubeOffsets n s cut) c) ≡ 3 * length (verticesBefore loopsOf n s cut c)
-  offsets-length c = length-scaled (cubeOffsets n s cut) (masksOf n s cut) 3 c offsets-of-cube ∙ ap (λ (x : ℕ). 3 * x) (sym (vertices-masks c))
+  offsets-length c = length-scaled (cubeOffsets n s cut) (cubeLoops loopsOf n s cut) 3 c offsets-of-cube ∙ ap (λ (x : ℕ). 3 * x) (sym (vertices-masks c))
 
   pub layer-words-length : (k : ℕ) → length (layerWords n s cut k) ≡ 2 * layerCount n s cut k
-  layer-words-length k = length-scaled (λ (x : ℕ). cubeWords n s cut (layerSize n * k + x)) (λ (x : ℕ). masksOf n s cut (layerSize n * k + x)) 2 (layerSize n) (λ x. words-of-cube (layerSize n * k + x))
+  layer-words-length k = length-scaled (λ (x : ℕ). cubeWords n s cut (layerSize n * k + x)) (λ (x : ℕ). cubeLoops loopsOf n s cut (layerSize n * k + x)) 2 (layerSize n) (λ x. words-of-cube (layerSize n * k + x))

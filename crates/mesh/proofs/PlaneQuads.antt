@@ -8,15 +8,15 @@ use native.Mathlib.Nat.{mul-assoc}
 use native.Mathlib.Omega.{arith}
 use lib.ListN.{length, length-append}
 use Rattle.laws.specs.Below.{below}
-use Rattle.laws.proofs.Counting.{count}
+use Rattle.laws.specs.Counting.{count}
 use Rattle.block.specs.declared.Cut.{Cut}
 use Rattle.block.specs.declared.Size.{Size}
 use Rattle.block.specs.Numbering.{Axis, X, Y, Z, sampleCount}
 use Rattle.cube_rule.specs.Decider.{loopsOf}
-use Rattle.mesh_rule.specs.Grid.{metal, inner, crossedFrom}
+use Rattle.mesh_rule.specs.Grid.{metal, inner, crossedFrom, crossedInner}
 use Rattle.mesh_rule.specs.Mesh.{Quad, turned, flat, around, quadAt, quadsBefore, quads}
 use Rattle.mesh_rule.specs.Buffers.{planeSize, quadsFrom, planeQuads, meshQuads}
-use Rattle.mesh_rule.proofs.Quads.{crossedInner, quads-along, quad-count}
+use Rattle.mesh_rule.proofs.Quads.{quads-along, quad-count}
 use Rattle.mesh.specs.Writes.{quadsUpTo}
 use Rattle.mesh.proofs.Layers.{layer-next, length-scaled}
 use Rattle.mesh.proofs.Planes.{Outer, outer-inner, outer-last, plane-z}

@@ -9,14 +9,14 @@ use native.Mathlib.Nat.{mul-add, mul-one, mul-assoc, add-comm, div-div-eq-div-mu
 use native.Mathlib.Omega.{arith}
 use lib.Dec.{ltb}
 use borrow.Author.Tests.{le-ltb}
-use Rattle.laws.proofs.Counting.{count, count-same, count-add}
+use Rattle.laws.specs.Counting.{count}
+use Rattle.laws.proofs.Counting.{count-same, count-add}
 use Rattle.laws.proofs.Index.{pair-div}
 use Rattle.block.specs.declared.Cut.{Cut}
 use Rattle.block.specs.declared.Size.{Size}
 use Rattle.block.specs.Numbering.{Axis, X, Y, Z, sampleCount}
-use Rattle.mesh_rule.specs.Grid.{inner, crossedFrom, between}
+use Rattle.mesh_rule.specs.Grid.{inner, crossedFrom, between, crossedInner}
 use Rattle.mesh_rule.specs.Buffers.{planeSize}
-use Rattle.mesh_rule.proofs.Quads.{crossedInner}
 
 -- the plane of a sample, by its index
 pub plane-of : (w h k p : ℕ) → p < w * h → (w * h * k + p) / w / h ≡ k

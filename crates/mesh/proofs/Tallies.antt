@@ -5,7 +5,7 @@ use mathlib.Core.Path.{_≡_, refl, ap, ap₂, sym, _∙_, subst}
 use mathlib.Core.List.{List}
 use native.Mathlib.Omega.{arith}
 use lib.ListN.{length}
-use Rattle.laws.proofs.Counting.{count}
+use Rattle.laws.specs.Counting.{count}
 use Rattle.block.specs.declared.Cut.{Cut}
 use Rattle.block.specs.declared.Size.{Size}
 use Rattle.block.specs.Numbering.{Axis, X, Y, Z, sampleCount}
@@ -14,7 +14,8 @@ use Rattle.cube_rule.specs.Decider.{joined, loopsOf}
 use Rattle.cube_rule.proofs.Laws.{cube-laws}
 use Rattle.mesh_rule.specs.Buffers.{planeSize, layerCount, layerFirst}
 use Rattle.mesh_rule.proofs.Counts.{most-vertices, most-quads}
-use Rattle.mesh_rule.proofs.Quads.{crossedInner, quads-along, quad-count}
+use Rattle.mesh_rule.specs.Grid.{crossedInner}
+use Rattle.mesh_rule.proofs.Quads.{quads-along, quad-count}
 use Rattle.mesh.specs.declared.Tally.{Tally}
 use Rattle.mesh.specs.declared.Totals.{Totals}
 use Rattle.mesh.specs.Answer.{vertexCount, quadCount, countsOf}

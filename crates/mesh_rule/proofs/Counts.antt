@@ -10,7 +10,8 @@ use lib.ListN.{length}
 use borrow.Author.Tests.{lt-ltb, le-ltb}
 use Rattle.laws.specs.Bits.{bit}
 use Rattle.laws.proofs.Below.{at-most}
-use Rattle.laws.proofs.Counting.{count, count-le, count-all, count-but-first, count-box}
+use Rattle.laws.specs.Counting.{count}
+use Rattle.laws.proofs.Counting.{count-le, count-all, count-but-first, count-box}
 use Rattle.block.specs.declared.Cut.{Cut}
 use Rattle.block.specs.declared.Size.{Size}
 use Rattle.block.specs.Numbering.{Axis, X, Y, Z, sampleCount, cubeCount}
@@ -18,11 +19,11 @@ use Rattle.block.specs.Size.{Limits}
 use Rattle.block.proofs.Products.{product-le}
 use Rattle.cube_rule.specs.Laws.{CubeLaws}
 use Rattle.cube_rule.specs.Links.{Decider}
-use Rattle.mesh_rule.specs.Grid.{cornersOf, between}
+use Rattle.mesh_rule.specs.Grid.{cornersOf, between, crossedInner, innerFrom}
 use Rattle.mesh_rule.specs.Mesh.{verticesOf, verticesBefore, vertices, quads}
 use Rattle.mesh_rule.proofs.Inner.{mid-between}
 use Rattle.mesh_rule.proofs.Numbers.{one-for-each-loop}
-use Rattle.mesh_rule.proofs.Quads.{innerFrom, crossedInner, quad-count}
+use Rattle.mesh_rule.proofs.Quads.{quad-count}
 
 -- ---- inner edges
 

@@ -3,9 +3,11 @@ pub mod Holders
 pub mod Numbers
 pub mod Quads
 pub mod Counts
+pub mod Checkerboard
 pub mod Reading
 pub mod Joined
 pub mod StandIn
+pub mod Orientation
 pub mod Example
 pub mod Words
 pub mod Offsets

@@ -19,14 +19,10 @@ use Rattle.place.specs.Place.{placeOf}
 use Rattle.place.specs.Unit.{InUnit, Inside, Grey}
 use Rattle.place.proofs.Bounds.{place-in-unit}
 use Rattle.cell.proofs.Answers.{loop-crossed}
-use Rattle.mesh_rule.specs.Grid.{cornersAt, cornersOf}
-use Rattle.mesh_rule.specs.Mesh.{verticesOf, verticesBefore, vertices}
-use Rattle.mesh_rule.specs.Buffers.{triples, masksOf, cubeOffsets, meshOffsets}
+use Rattle.mesh_rule.specs.Grid.{Greys, cornersAt, cornersOf}
+use Rattle.mesh_rule.specs.Mesh.{verticesOf, verticesBefore, vertices, cubeLoops}
+use Rattle.mesh_rule.specs.Buffers.{triples, cubeOffsets, meshOffsets}
 use Rattle.mesh_rule.proofs.Numbers.{one-for-each-loop}
-
--- "Samples are 16-bit"
-abbrev pub Greys : List ℕ → Type 0
-Greys s = (i : ℕ) → getD s i 0 < 65536
 
 -- ---- the corners of a cube are samples
 
@@ -61,7 +57,7 @@ module _ (n : Size) (s : List ℕ) (cut : Cut) where
   cube-in-unit : Greys s → (c k : ℕ) → k < length (cubeOffsets n s cut c) → InUnit (getD (cubeOffsets n s cut c) k nan)
   unfolding cubeOffsets
   cube-in-unit g c =
-      triples-in-unit (placeOf cut (cornersOf n s c)) (masksOf n s cut c)
+      triples-in-unit (placeOf cut (cornersOf n s c)) (cubeLoops loopsOf n s cut c)
       (λ m d. place-in-unit cut (cornersOf n s c) m (corners-grey n s g c) (loop-crossed cut (cornersOf n s c) m d))
 
   -- of the whole mesh
@@ -86,8 +82,8 @@ module _ (n : Size) (s : List ℕ) (cut : Cut) where
   cube-three c =
       omega (
         arith,
-        triples-length (map (placeOf cut (cornersOf n s c)) (masksOf n s cut c)),
-        length-map (masksOf n s cut c) (placeOf cut (cornersOf n s c)),
+        triples-length (map (placeOf cut (cornersOf n s c)) (cubeLoops loopsOf n s cut c)),
+        length-map (cubeLoops loopsOf n s cut c) (placeOf cut (cornersOf n s c)),
         one-for-each-loop loopsOf n s cut c,
       )
 

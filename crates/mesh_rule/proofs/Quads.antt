@@ -10,14 +10,15 @@ use native.Mathlib.Omega.{arith}
 use lib.ListN.{length, length-append}
 use Rattle.laws.specs.Bits.{bit}
 use Rattle.laws.proofs.Below.{mem-below, mem-of-below}
-use Rattle.laws.proofs.Counting.{count, length-counted}
+use Rattle.laws.specs.Counting.{count}
+use Rattle.laws.proofs.Counting.{length-counted}
 use Rattle.laws.proofs.Index.{index-lt, index-x, index-y, index-z}
 use Rattle.block.specs.declared.Cut.{Cut}
 use Rattle.block.specs.declared.Size.{Size}
 use Rattle.block.specs.Numbering.{Axis, X, Y, Z, sampleIndex, sampleCount, cubeNumber}
 use Rattle.cube_rule.specs.Laws.{CubeLaws}
 use Rattle.cube_rule.specs.Links.{Decider}
-use Rattle.mesh_rule.specs.Grid.{metal, inner, crossedFrom}
+use Rattle.mesh_rule.specs.Grid.{innerFrom, crossedInner, metal, inner, crossedFrom}
 use Rattle.mesh_rule.specs.Mesh.{Quad, turned, flat, vertices, vertexAt, around, quadAt, quadsBefore, quads}
 use Rattle.mesh_rule.proofs.Inner.{both, inner-facts, inner-sample, Round, map-round, crossed-round}
 use Rattle.mesh_rule.proofs.Numbers.{Holder, vertex-at}
@@ -47,13 +48,6 @@ below-turned v false q h = omega arith
 one-or-none : {A : Type 0} (b : Bool) (x : A) → length (cond b (x ∷ []) []) ≡ bit b
 one-or-none true x = refl
 one-or-none false x = refl
-
--- the edge along the axis from the sample with the index p is inner, and crossed
-abbrev pub innerFrom : Size → Axis → ℕ → Bool
-innerFrom n a p = inner n a (p % n .nx) (p / n .nx % n .ny) (p / n .nx / n .ny)
-
-abbrev pub crossedInner : Size → List ℕ → Cut → Axis → ℕ → Bool
-crossedInner n s cut a p = innerFrom n a p && crossedFrom n s cut a (p % n .nx) (p / n .nx % n .ny) (p / n .nx / n .ny)
 
 module _ (loopsOf : Cut → List ℕ → List ℕ) (n : Size) (s : List ℕ) (cut : Cut) where
   -- the quad of the edge along the axis a from (i,j,k)

@@ -56,10 +56,10 @@ module _ (n : Size) (cs : List ℕ) where
   read q = told (axisFor q) (cx (q .v2)) (cy (q .v2)) (cz (q .v2)) (signFor (axisFor q) q)
 
   -- vertex v is in the cube (x,y,z)
-  record In (v x y z : ℕ) : Type 0 where
-    at-x : cx v ≡ x
-    at-y : cy v ≡ y
-    at-z : cz v ≡ z
+  pub record In (v x y z : ℕ) : Type 0 where
+    pub at-x : cx v ≡ x
+    pub at-y : cy v ≡ y
+    pub at-z : cz v ≡ z
 
 same : (a : ℕ) → eqb a a ≡ true
 same a = eq-eqb a a refl
@@ -81,7 +81,7 @@ module _ (loopsOf : Cut → List ℕ → List ℕ) (n : Size) (s : List ℕ) (cu
   read-turned Z i j k true h r = simp (r .0 .at-x, r .0 .at-y, r .2 .at-x, r .2 .at-y, r .2 .at-z, r .1 .at-x, same, less i (h .0), less j (h .1))
   read-turned Z i j k false h r = simp (r .0 .at-x, r .0 .at-y, r .2 .at-x, r .2 .at-y, r .2 .at-z, r .3 .at-x, less i (h .0), less j (h .1))
 
-  in-cube : (v x y z e : ℕ) → CubeIn n x y z → Holder loopsOf n s cut v (cubeNumber n x y z) e → In n cubes v x y z
+  pub in-cube : (v x y z e : ℕ) → CubeIn n x y z → Holder loopsOf n s cut v (cubeNumber n x y z) e → In n cubes v x y z
   in-cube v x y z e c h =
       let is : getD cubes v 0 ≡ cubeNumber n x y z = List·getD-map (λ (v : Vertex). v .cube) (vertices loopsOf n s cut) v noVertex ∙ h .in-cube in
       record {

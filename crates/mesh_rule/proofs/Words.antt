@@ -12,13 +12,8 @@ use Rattle.block.specs.Numbering.{cubeCount}
 use Rattle.cube_rule.specs.Decider.{loopsOf}
 use Rattle.cell.specs.Answer.{wordOf}
 use Rattle.mesh_rule.specs.Grid.{cornersOf}
-use Rattle.mesh_rule.specs.Mesh.{Vertex, vertices, verticesBefore, verticesOf}
+use Rattle.mesh_rule.specs.Mesh.{Vertex, flatVertices, vertices, verticesBefore, verticesOf}
 use Rattle.mesh_rule.specs.Buffers.{pairs, cubeWords, meshWords}
-
--- vertices as the words buffer holds them
-abbrev pub flatVertices : List Vertex → List ℕ
-flatVertices [] = []
-flatVertices (v ∷ vs) = v .cube ∷ v .mask ∷ flatVertices vs
 
 flat-append : (p q : List Vertex) → flatVertices (p ++ q) ≡ flatVertices p ++ flatVertices q
 flat-append [] q = refl

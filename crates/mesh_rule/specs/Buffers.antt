@@ -13,7 +13,7 @@ use Rattle.place.specs.declared.Offset.{Offset}
 use Rattle.place.specs.Place.{placeOf}
 use Rattle.cell.specs.Answer.{wordOf}
 use Rattle.mesh_rule.specs.Grid.{cornersOf}
-use Rattle.mesh_rule.specs.Mesh.{verticesBefore, quadAt, quads, flat}
+use Rattle.mesh_rule.specs.Mesh.{cubeLoops, verticesBefore, quadAt, quads, flat}
 
 -- a cube number before each word, and the three coordinates of each offset
 abbrev pub pairs : ℕ → List ℕ → List ℕ
@@ -31,21 +31,24 @@ layerSize n = (n .nx - 1) * (n .ny - 1)
 abbrev pub planeSize : Size → ℕ
 planeSize n = n .nx * n .ny
 
-module _ (n : Size) (s : List ℕ) (cut : Cut) where
-  -- the masks of the loops of the cube c
-  abbrev pub masksOf : ℕ → List ℕ
-  masksOf c = loopsOf cut (cornersOf n s c)
+-- the number of the cube (0,y,z), and the index of the sample (0,y,z)
+abbrev pub rowCube : ℕ → ℕ → ℕ → ℕ → ℕ
+rowCube nx ny y z = (nx - 1) * (y + (ny - 1) * z)
 
+abbrev pub rowSample : ℕ → ℕ → ℕ → ℕ → ℕ
+rowSample nx ny y z = nx * (y + ny * z)
+
+module _ (n : Size) (s : List ℕ) (cut : Cut) where
   -- what the vertex buffers hold of the cube c
   unfoldable pub cubeWords : ℕ → List ℕ
-  cubeWords c = pairs c (map (wordOf (cornersOf n s c)) (masksOf c))
+  cubeWords c = pairs c (map (wordOf (cornersOf n s c)) (cubeLoops loopsOf n s cut c))
 
   unfoldable pub cubeOffsets : ℕ → List Float
-  cubeOffsets c = triples (map (placeOf cut (cornersOf n s c)) (masksOf c))
+  cubeOffsets c = triples (map (placeOf cut (cornersOf n s c)) (cubeLoops loopsOf n s cut c))
 
   -- of the m cubes from c on
   abbrev pub runMasks : ℕ → ℕ → List ℕ
-  runMasks c m = below (λ (x : ℕ). masksOf (c + x)) m
+  runMasks c m = below (λ (x : ℕ). cubeLoops loopsOf n s cut (c + x)) m
 
   abbrev pub runWords : ℕ → ℕ → List ℕ
   runWords c m = below (λ (x : ℕ). cubeWords (c + x)) m

@@ -12,6 +12,10 @@ use Rattle.block.specs.declared.Size.{Size}
 use Rattle.block.specs.Grey.{positive}
 use Rattle.block.specs.Numbering.{Axis, X, Y, Z, sampleIndex}
 
+-- "Samples are 16-bit"
+abbrev pub Greys : List ℕ → Type 0
+Greys s = (i : ℕ) → getD s i 0 < 65536
+
 -- the sample (i,j,k), and whether it is positive (metal)
 abbrev pub sampleAt : Size → List ℕ → ℕ → ℕ → ℕ → ℕ
 sampleAt n s i j k = getD s (sampleIndex n i j k) 0
@@ -44,6 +48,13 @@ abbrev pub crossedFrom : Size → List ℕ → Cut → Axis → ℕ → ℕ → 
 crossedFrom n s cut X i j k = differ (metal n s cut i j k) (metal n s cut (i + 1) j k)
 crossedFrom n s cut Y i j k = differ (metal n s cut i j k) (metal n s cut i (j + 1) k)
 crossedFrom n s cut Z i j k = differ (metal n s cut i j k) (metal n s cut i j (k + 1))
+
+-- the edge along the axis from the sample with the index p is inner, and crossed
+abbrev pub innerFrom : Size → Axis → ℕ → Bool
+innerFrom n a p = inner n a (p % n .nx) (p / n .nx % n .ny) (p / n .nx / n .ny)
+
+abbrev pub crossedInner : Size → List ℕ → Cut → Axis → ℕ → Bool
+crossedInner n s cut a p = innerFrom n a p && crossedFrom n s cut a (p % n .nx) (p / n .nx % n .ny) (p / n .nx / n .ny)
 
 -- (i,j,k) lies on one of the twelve edges of the box: two of its coordinates are at an end
 abbrev pub atEnd : ℕ → ℕ → Bool

@@ -7,13 +7,14 @@ use Prim.Native.Nat.{ℕ, _+_, _*_, _-_, _≤_, _<_}
 use native.Mathlib.Nat.{mul-zero, mul-assoc}
 use native.Mathlib.Omega.{arith}
 use lib.Count.{ones}
-use Rattle.laws.proofs.Counting.{count, count-add, count-same}
+use Rattle.laws.specs.Counting.{count}
+use Rattle.laws.proofs.Counting.{count-add, count-same}
 use Rattle.laws.proofs.Index.{index-x, index-y, index-z}
 use Rattle.block.specs.declared.Cut.{Cut}
 use Rattle.block.specs.declared.Size.{Size}
 use Rattle.block.specs.Numbering.{Axis}
 use Rattle.mesh_rule.specs.Buffers.{planeSize}
-use Rattle.mesh_rule.proofs.Quads.{crossedInner}
+use Rattle.mesh_rule.specs.Grid.{crossedInner}
 use Rattle.quads.specs.declared.Along.{Along}
 use Rattle.quads.specs.declared.Along.the-variants.{AxisX, AxisY, AxisZ}
 use Rattle.quads.specs.Edges.{axisOf, crossedOn, firstRow, RowIn, Planes, edgesOf, PlaneCount}

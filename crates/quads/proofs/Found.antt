@@ -17,15 +17,15 @@ use Rattle.block.proofs.Products.{product-le}
 use Rattle.cube_rule.specs.Decider.{joined, loopsOf}
 use Rattle.cube_rule.specs.Rule.{holders, firstHolder}
 use Rattle.cube_rule.proofs.Laws.{cube-laws}
-use Rattle.mesh_rule.specs.Buffers.{masksOf, runMasks, layerSize, layerWords, layerFirst}
+use Rattle.mesh_rule.specs.Buffers.{runMasks, layerSize, layerWords, layerFirst, rowCube, rowSample}
+use Rattle.mesh_rule.specs.Mesh.{cubeLoops, verticesOf, verticesBefore, vertexNumber, vertexAt}
 use Rattle.mesh_rule.specs.Grid.{cornersAt, cornersOf}
-use Rattle.mesh_rule.specs.Mesh.{verticesOf, verticesBefore, vertexNumber, vertexAt}
 use Rattle.mesh_rule.proofs.Holders.{first-lt}
 use Rattle.mesh_rule.proofs.Inner.{CrossedIn}
 use Rattle.mesh_rule.proofs.Numbers.{one-for-each-loop, corners-of-number}
 use Rattle.vertices.proofs.CubeCorners.{corners-at}
 use Rattle.quads.specs.Parts.{leadCube}
-use Rattle.quads.specs.Rings.{rowCube, rowSample, foundOn, WantedOn, Fits32}
+use Rattle.quads.specs.Rings.{foundOn, WantedOn, Fits32}
 use Rattle.quads.specs.Steps.{loopsFrom, OneLoop, FirstOf, foundAt}
 use Rattle.quads.specs.Writing.{Accepted}
 use Rattle.quads.proofs.Counts.{plane-index}
@@ -66,7 +66,7 @@ module _ (n : Size) (s : List ℕ) (cut : Cut) (ok : Accepted n s cut) (x y z e 
   abbrev corner : ℕ
   corner = sampleIndex n x y z
 
-  loops-are : loopsFrom s cut corner (n .nx) (n .nx * n .ny) ≡ masksOf n s cut cube
+  loops-are : loopsFrom s cut corner (n .nx) (n .nx * n .ny) ≡ cubeLoops loopsOf n s cut cube
   loops-are = ap (loopsOf cut) (corners-at n s (sampleIndex n x y z) x y z refl ∙ sym (corners-of-number n s x y z (h .cube-in .0) (h .cube-in .1)))
 
   one-holder : holders e (loopsFrom s cut corner (n .nx) (n .nx * n .ny)) ≡ 1
@@ -83,7 +83,7 @@ module _ (n : Size) (s : List ℕ) (cut : Cut) (ok : Accepted n s cut) (x y z e 
   one-loop : OneLoop s cut e corner (n .nx) (n .nx * n .ny)
   one-loop = record { edge-lt = h .edge-lt; room = inside; one = one-holder; threshold = ok .threshold; ceiling = ok .ceiling }
 
-  holder-lt : firstHolder e (loopsFrom s cut corner (n .nx) (n .nx * n .ny)) < length (masksOf n s cut cube)
+  holder-lt : firstHolder e (loopsFrom s cut corner (n .nx) (n .nx * n .ny)) < length (cubeLoops loopsOf n s cut cube)
   holder-lt = omega (arith, first-lt e (loopsFrom s cut corner (n .nx) (n .nx * n .ny)) (omega (arith, one-holder)), ap length loops-are)
 
   -- ---- in its layer
@@ -104,18 +104,18 @@ module _ (n : Size) (s : List ℕ) (cut : Cut) (ok : Accepted n s cut) (x y z e 
     lead-is : leadCube cube part ≡ length (runMasks n s cut base place)
     lead-is = rw (is, ← cube-is) (lead-run n s cut base place (layerSize n) (omega (arith, place-lt)))
 
-    lead-next : leadCube (cube + 1) part ≡ length (runMasks n s cut base place) + length (masksOf n s cut cube)
+    lead-next : leadCube (cube + 1) part ≡ length (runMasks n s cut base place) + length (cubeLoops loopsOf n s cut cube)
     lead-next =
         rw is
         (ap (λ (c : ℕ). leadCube c (layerWords n s cut z)) one-more
         ∙ lead-run n s cut base (place + 1) (layerSize n) (omega (arith, place-lt))
         ∙ run-more n s cut base place
-        ∙ ap (λ (c : ℕ). length (runMasks n s cut base place) + length (masksOf n s cut c)) cube-is)
+        ∙ ap (λ (c : ℕ). length (runMasks n s cut base place) + length (cubeLoops loopsOf n s cut c)) cube-is)
       where
         one-more : cube + 1 ≡ base + (place + 1)
         one-more = omega (arith, cube-is)
 
-    some : 0 < length (masksOf n s cut (base + place))
+    some : 0 < length (cubeLoops loopsOf n s cut (base + place))
     some = rw cube-is (omega (arith, holder-lt))
 
     first-of : FirstOf part (leadCube cube part) s cut corner (n .nx) (n .nx * n .ny)
@@ -125,7 +125,7 @@ module _ (n : Size) (s : List ℕ) (cut : Cut) (ok : Accepted n s cut) (x y z e 
           ap (λ (v : ℕ). getD part (2 * v + 1) 0) lead-is
           ∙ ap (λ (ws : List ℕ). getD ws (2 * length (runMasks n s cut base place) + 1) 0) is
           ∙ first-word n s cut base place (layerSize n) place-lt some
-          ∙ ap (λ (c : ℕ). getD (masksOf n s cut c) 0 0) cube-is
+          ∙ ap (λ (c : ℕ). getD (cubeLoops loopsOf n s cut c) 0 0) cube-is
           ∙ ap (λ (ms : List ℕ). getD ms 0 0) (sym loops-are);
     }
 

@@ -15,9 +15,9 @@ use Rattle.block.specs.declared.Cut.{Cut}
 use Rattle.block.specs.declared.Size.{Size}
 use Rattle.cube_rule.specs.Decider.{loopsOf}
 use Rattle.cell.specs.Answer.{wordOf}
-use Rattle.mesh_rule.specs.Buffers.{pairs, masksOf, cubeWords, runMasks, runWords}
+use Rattle.mesh_rule.specs.Buffers.{pairs, cubeWords, runMasks, runWords}
+use Rattle.mesh_rule.specs.Mesh.{cubeLoops, verticesOf, verticesBefore}
 use Rattle.mesh_rule.specs.Grid.{cornersOf}
-use Rattle.mesh_rule.specs.Mesh.{verticesOf, verticesBefore}
 use Rattle.mesh_rule.proofs.Numbers.{one-for-each-loop}
 use Rattle.quads.specs.Parts.{leadCube}
 
@@ -51,12 +51,12 @@ same-lengths f g e (suc m) = rw (length-append (below f m) (f m), length-append 
 
 module _ (n : Size) (s : List ℕ) (cut : Cut) where
   abbrev words : ℕ → List ℕ
-  words c = map (wordOf (cornersOf n s c)) (masksOf n s cut c)
+  words c = map (wordOf (cornersOf n s c)) (cubeLoops loopsOf n s cut c)
 
-  words-count : (c : ℕ) → length (words c) ≡ length (masksOf n s cut c)
-  words-count c = length-map (masksOf n s cut c) (wordOf (cornersOf n s c))
+  words-count : (c : ℕ) → length (words c) ≡ length (cubeLoops loopsOf n s cut c)
+  words-count c = length-map (cubeLoops loopsOf n s cut c) (wordOf (cornersOf n s c))
 
-  cube-length : (c : ℕ) → length (cubeWords n s cut c) ≡ 2 * length (masksOf n s cut c)
+  cube-length : (c : ℕ) → length (cubeWords n s cut c) ≡ 2 * length (cubeLoops loopsOf n s cut c)
   unfolding cubeWords
   cube-length c = pairs-length c (words c) ∙ ap (λ (m : ℕ). 2 * m) (words-count c)
 
@@ -70,7 +70,7 @@ module _ (n : Size) (s : List ℕ) (cut : Cut) where
   run-length c₀ (suc m) =
       length-append (runWords n s cut c₀ m) (cubeWords n s cut (c₀ + m))
       ∙ ap₂ (λ (x y : ℕ). x + y) (run-length c₀ m) (cube-length (c₀ + m))
-      ∙ sym (ap (λ (x : ℕ). 2 * x) (length-append (runMasks n s cut c₀ m) (masksOf n s cut (c₀ + m))) ∙ twice (length (runMasks n s cut c₀ m)) (length (masksOf n s cut (c₀ + m))))
+      ∙ sym (ap (λ (x : ℕ). 2 * x) (length-append (runMasks n s cut c₀ m) (cubeLoops loopsOf n s cut (c₀ + m))) ∙ twice (length (runMasks n s cut c₀ m)) (length (cubeLoops loopsOf n s cut (c₀ + m))))
     where
       twice : (x y : ℕ) → 2 * (x + y) ≡ 2 * x + 2 * y
       twice x y = omega arith
@@ -84,7 +84,7 @@ module _ (n : Size) (s : List ℕ) (cut : Cut) where
       ap (leadCube c) (append-assoc (runWords n s cut c₀ m) (cubeWords n s cut (c₀ + m)) ys)
       ∙ passed c c₀ m (omega arith) (cubeWords n s cut (c₀ + m) ++ ys)
       ∙ ap (λ (x : ℕ). length (runMasks n s cut c₀ m) + x) (pairs-passed c (c₀ + m) (omega arith) (words (c₀ + m)) ys)
-      ∙ sums (length (runMasks n s cut c₀ m)) _ _ _ (words-count (c₀ + m)) (length-append (runMasks n s cut c₀ m) (masksOf n s cut (c₀ + m)))
+      ∙ sums (length (runMasks n s cut c₀ m)) _ _ _ (words-count (c₀ + m)) (length-append (runMasks n s cut c₀ m) (cubeLoops loopsOf n s cut (c₀ + m)))
     where
       sums : (a b c d : ℕ) {e : ℕ} → b ≡ d → e ≡ a + d → a + (b + c) ≡ e + c
       sums a b c d p q = omega arith
@@ -125,21 +125,21 @@ module _ (n : Size) (s : List ℕ) (cut : Cut) where
 
   -- ---- its word
 
-  pub first-there : (c₀ m all : ℕ) → m < all → 0 < length (masksOf n s cut (c₀ + m)) → 2 * length (runMasks n s cut c₀ m) + 1 < length (runWords n s cut c₀ all)
+  pub first-there : (c₀ m all : ℕ) → m < all → 0 < length (cubeLoops loopsOf n s cut (c₀ + m)) → 2 * length (runMasks n s cut c₀ m) + 1 < length (runWords n s cut c₀ all)
   first-there c₀ m all h some =
       omega (arith, run-length c₀ m, cube-length (c₀ + m), length-below (λ (x : ℕ). cubeWords n s cut (c₀ + x)) all m h)
 
-  word-inside : (c : ℕ) → 0 < length (masksOf n s cut c) → getD (cubeWords n s cut c) 1 0 ≡ getD (words c) 0 0
+  word-inside : (c : ℕ) → 0 < length (cubeLoops loopsOf n s cut c) → getD (cubeWords n s cut c) 1 0 ≡ getD (words c) 0 0
   unfolding cubeWords
   word-inside c some = pairs-first c (words c) (omega (arith, words-count c))
 
-  pub first-word : (c₀ m all : ℕ) → m < all → 0 < length (masksOf n s cut (c₀ + m))
-      → getD (runWords n s cut c₀ all) (2 * length (runMasks n s cut c₀ m) + 1) 0 ≡ getD (masksOf n s cut (c₀ + m)) 0 0
+  pub first-word : (c₀ m all : ℕ) → m < all → 0 < length (cubeLoops loopsOf n s cut (c₀ + m))
+      → getD (runWords n s cut c₀ all) (2 * length (runMasks n s cut c₀ m) + 1) 0 ≡ getD (cubeLoops loopsOf n s cut (c₀ + m)) 0 0
   first-word c₀ m all h some =
       ap (λ (x : ℕ). getD (runWords n s cut c₀ all) (x + 1) 0) (sym (run-length c₀ m))
       ∙ getD-below (λ (x : ℕ). cubeWords n s cut (c₀ + x)) 0 all m 1 h (omega (arith, cube-length (c₀ + m)))
       ∙ word-inside (c₀ + m) some
-      ∙ word-first (cornersOf n s (c₀ + m)) (masksOf n s cut (c₀ + m))
+      ∙ word-first (cornersOf n s (c₀ + m)) (cubeLoops loopsOf n s cut (c₀ + m))
 
   -- ---- its number
 
@@ -149,9 +149,9 @@ module _ (n : Size) (s : List ℕ) (cut : Cut) where
       ap length (below-add (verticesOf loopsOf n s cut) c₀ m)
       ∙ length-append (below (verticesOf loopsOf n s cut) c₀) (below (λ (x : ℕ). verticesOf loopsOf n s cut (c₀ + x)) m)
       ∙ ap (λ (x : ℕ). length (below (verticesOf loopsOf n s cut) c₀) + x)
-      (same-lengths (λ (x : ℕ). verticesOf loopsOf n s cut (c₀ + x)) (λ (x : ℕ). masksOf n s cut (c₀ + x)) (λ x. one-for-each-loop loopsOf n s cut (c₀ + x)) m)
+      (same-lengths (λ (x : ℕ). verticesOf loopsOf n s cut (c₀ + x)) (λ (x : ℕ). cubeLoops loopsOf n s cut (c₀ + x)) (λ x. one-for-each-loop loopsOf n s cut (c₀ + x)) m)
 
   -- the next cube's vertices come behind it
-  pub run-more : (c₀ m : ℕ) → length (runMasks n s cut c₀ (m + 1)) ≡ length (runMasks n s cut c₀ m) + length (masksOf n s cut (c₀ + m))
+  pub run-more : (c₀ m : ℕ) → length (runMasks n s cut c₀ (m + 1)) ≡ length (runMasks n s cut c₀ m) + length (cubeLoops loopsOf n s cut (c₀ + m))
   unfolding below
-  run-more c₀ m = ap (λ (x : ℕ). length (runMasks n s cut c₀ x)) (add-one m) ∙ length-append (runMasks n s cut c₀ m) (masksOf n s cut (c₀ + m))
+  run-more c₀ m = ap (λ (x : ℕ). length (runMasks n s cut c₀ x)) (add-one m) ∙ length-append (runMasks n s cut c₀ m) (cubeLoops loopsOf n s cut (c₀ + m))

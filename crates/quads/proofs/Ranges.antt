@@ -11,7 +11,7 @@ use Rattle.laws.specs.Below.{below}
 use Rattle.laws.specs.Bits.{bit}
 use Rattle.laws.specs.Pack.{total}
 use Rattle.laws.proofs.Bits.{bit-le}
-use Rattle.laws.proofs.Counting.{count}
+use Rattle.laws.specs.Counting.{count}
 use Rattle.laws.proofs.Visit.{below-skip}
 use Rattle.laws.proofs.Words.{Word, word-ones}
 

@@ -16,7 +16,7 @@ use Rattle.laws.proofs.Words.{Word}
 use Rattle.block.specs.declared.Cut.{Cut}
 use Rattle.block.specs.declared.Size.{Size}
 use Rattle.block.specs.Numbering.{Axis, X, Y}
-use Rattle.mesh_rule.specs.Buffers.{quadsFrom, planeSize, planeQuads}
+use Rattle.mesh_rule.specs.Buffers.{quadsFrom, planeSize, planeQuads, rowCube}
 use Rattle.signs.proofs.Planes.{sign-bit}
 use Rattle.quads.specs.declared.Along.{Along}
 use Rattle.quads.specs.declared.Along.the-variants.{AxisX, AxisY, AxisZ}
@@ -24,7 +24,7 @@ use Rattle.quads.specs.declared.Cursors.{Cursors}
 use Rattle.quads.specs.declared.Four.{Four}
 use Rattle.quads.specs.Edges.{axisOf, crossedOn, firstRow, RowIn, Planes, edgesOf}
 use Rattle.quads.specs.Parts.{leadCube}
-use Rattle.quads.specs.Rings.{rowCube, row0, row1, row3, fourOf, Behind}
+use Rattle.quads.specs.Rings.{row0, row1, row3, fourOf, Behind}
 use Rattle.quads.specs.Writing.{Ready, edgeQuads, rowQuads, InRow, RunOf, RowLeft, TwoLayers, Wrote}
 use Rattle.quads.proofs.Counts.{plane-index}
 use Rattle.quads.proofs.Crossed.{crossed-past, crossed-first, crossed-last, planes-x, planes-y, edges-word}

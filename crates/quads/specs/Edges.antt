@@ -6,14 +6,13 @@ use mathlib.Core.Bool.{Bool, _&&_}
 use mathlib.Core.List.{List}
 use lib.Bits.{bitAnd}
 use lib.ListN.{length}
-use Rattle.laws.proofs.Counting.{count}
+use Rattle.laws.specs.Counting.{count}
 use Rattle.block.specs.declared.Cut.{Cut}
 use Rattle.block.specs.declared.Size.{Size}
 use Rattle.block.specs.Numbering.{Axis, X, Y, Z}
 use Rattle.block.specs.Size.{Limits}
-use Rattle.mesh_rule.specs.Grid.{inner, crossedFrom}
+use Rattle.mesh_rule.specs.Grid.{inner, crossedFrom, crossedInner}
 use Rattle.mesh_rule.specs.Buffers.{planeSize}
-use Rattle.mesh_rule.proofs.Quads.{crossedInner}
 use Rattle.signs.specs.Signs.{Plane, alongX, alongY, alongZ, limitOf, innerOf}
 use Rattle.quads.specs.declared.Along.{Along}
 use Rattle.quads.specs.declared.Along.the-variants.{AxisX, AxisY, AxisZ}

@@ -7,19 +7,13 @@ use mathlib.Core.List.{List, [], _∷_}
 use Rattle.block.specs.declared.Cut.{Cut}
 use Rattle.block.specs.declared.Size.{Size}
 use Rattle.mesh_rule.specs.Mesh.{quad, turned, flat}
+use Rattle.mesh_rule.specs.Buffers.{rowCube, rowSample}
 use Rattle.quads.specs.declared.Along.{Along}
 use Rattle.quads.specs.declared.Along.the-variants.{AxisX, AxisY, AxisZ}
 use Rattle.quads.specs.declared.Cursors.{Cursors}
 use Rattle.quads.specs.declared.Four.{Four}
 use Rattle.quads.specs.Parts.{leadCube}
 use Rattle.quads.specs.Steps.{Wanted, foundAt}
-
--- the number of the cube (0,y,z), and the index of the sample (0,y,z)
-abbrev pub rowCube : ℕ → ℕ → ℕ → ℕ → ℕ
-rowCube nx ny y z = (nx - 1) * (y + (ny - 1) * z)
-
-abbrev pub rowSample : ℕ → ℕ → ℕ → ℕ → ℕ
-rowSample nx ny y z = nx * (y + ny * z)
 
 -- the rows of the first, the second and the fourth cube; the third is in row j of layer k
 abbrev pub row0 : Along → ℕ → ℕ

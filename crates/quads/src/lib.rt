@@ -14,12 +14,12 @@ ghost use Rattle.block.specs.Numbering.{X, Y, Z};
 ghost use Rattle.block.specs.Size.{Limits};
 ghost use Rattle.cube_rule.specs.Rule.{firstHolder};
 ghost use Rattle.mesh_rule.specs.Mesh.{quad, turned, flat};
-ghost use Rattle.mesh_rule.specs.Buffers.{planeQuads};
+ghost use Rattle.mesh_rule.specs.Buffers.{planeQuads, rowCube, rowSample};
 ghost use Rattle.signs.specs.Signs.{Plane};
 ghost use Rattle.quads.specs.Edges.{axisOf, edgesOf, firstRow, RowIn, PlaneIn, Planes, PlaneCounted, RowCount, PlaneCount};
 ghost use Rattle.quads.specs.Parts.{leadCube};
 ghost use Rattle.quads.specs.Steps.{loopsFrom, OneLoop, FirstOf, foundAt, Wanted};
-ghost use Rattle.quads.specs.Rings.{rowCube, rowSample, ringOf, fourOf, foundOn, WantedOn, Sought, cursorsAt, FourFit, quadFound, Behind};
+ghost use Rattle.quads.specs.Rings.{ringOf, fourOf, foundOn, WantedOn, Sought, cursorsAt, FourFit, quadFound, Behind};
 ghost use Rattle.quads.specs.Writing.{Ready, edgeQuads, rowQuads, InRow, RunOf, RowLeft, TwoLayers, OneLayer, Wrote};
 
 // The axis along which edges run.

@@ -11,9 +11,11 @@ use Rattle.laws.specs.Below.{below}
 use Rattle.laws.proofs.Below.{below-add, below-same}
 use Rattle.block.specs.declared.Cut.{Cut}
 use Rattle.block.specs.declared.Size.{Size}
-use Rattle.mesh_rule.specs.Buffers.{masksOf, cubeWords, cubeOffsets, runMasks, runWords, runOffsets, layerSize, layerCount}
+use Rattle.mesh_rule.specs.Buffers.{cubeWords, cubeOffsets, runMasks, runWords, runOffsets, layerSize, layerCount, rowCube}
+use Rattle.cube_rule.specs.Decider.{loopsOf}
+use Rattle.mesh_rule.specs.Mesh.{cubeLoops}
 use Rattle.vertices.specs.Cubes.{Stored}
-use Rattle.vertices.specs.Layers.{Room, rowCube, rowCount, RowWritten, LayerWritten}
+use Rattle.vertices.specs.Layers.{Room, rowCount, RowWritten, LayerWritten}
 use Rattle.vertices.proofs.Stored.{stored-none, stored-join, stored-words, stored-offsets}
 
 -- rows of m in layers of h: one row more
@@ -48,13 +50,13 @@ module _ (n : Size) (s : List ℕ) (cut : Cut) (k : ℕ) where
   abbrev pub offsetsIn : ℕ → List Float
   offsetsIn j = runOffsets n s cut (layerSize n * k) ((n .nx - 1) * j)
 
-  masks-row : (j : ℕ) → masksIn (j + 1) ≡ masksIn j ++ runMasks n s cut (rowCube n j k) (n .nx - 1)
-  masks-row j = rows-next (masksOf n s cut) (n .nx - 1) (n .ny - 1) j k
+  masks-row : (j : ℕ) → masksIn (j + 1) ≡ masksIn j ++ runMasks n s cut (rowCube (n .nx) (n .ny) j k) (n .nx - 1)
+  masks-row j = rows-next (cubeLoops loopsOf n s cut) (n .nx - 1) (n .ny - 1) j k
 
-  words-row : (j : ℕ) → wordsIn (j + 1) ≡ wordsIn j ++ runWords n s cut (rowCube n j k) (n .nx - 1)
+  words-row : (j : ℕ) → wordsIn (j + 1) ≡ wordsIn j ++ runWords n s cut (rowCube (n .nx) (n .ny) j k) (n .nx - 1)
   words-row j = rows-next (cubeWords n s cut) (n .nx - 1) (n .ny - 1) j k
 
-  offsets-row : (j : ℕ) → offsetsIn (j + 1) ≡ offsetsIn j ++ runOffsets n s cut (rowCube n j k) (n .nx - 1)
+  offsets-row : (j : ℕ) → offsetsIn (j + 1) ≡ offsetsIn j ++ runOffsets n s cut (rowCube (n .nx) (n .ny) j k) (n .nx - 1)
   offsets-row j = rows-next (cubeOffsets n s cut) (n .nx - 1) (n .ny - 1) j k
 
   -- ---- counting
@@ -86,8 +88,8 @@ module _ (n : Size) (s : List ℕ) (cut : Cut) (k : ℕ) where
     -- for which there is room, if there is for the layer's
     pub layer-room : j < n .ny - 1 → Room s cut v (layerCount n s cut k) w₀ o₀ → Room s cut m (rowCount n s cut j k) ws os
     layer-room h room =
-        let more = ap length (masks-row j) ∙ length-append (masksIn j) (runMasks n s cut (rowCube n j k) (n .nx - 1)) in
-        let all = fewer (λ (x : ℕ). masksOf n s cut (layerSize n * k + x)) ((n .nx - 1) * (j + 1)) ((n .nx - 1) * (n .ny - 1)) (mul-le-mul-left (n .nx - 1) (up h)) in
+        let more = ap length (masks-row j) ∙ length-append (masksIn j) (runMasks n s cut (rowCube (n .nx) (n .ny) j k) (n .nx - 1)) in
+        let all = fewer (λ (x : ℕ). cubeLoops loopsOf n s cut (layerSize n * k + x)) ((n .nx - 1) * (j + 1)) ((n .nx - 1) * (n .ny - 1)) (mul-le-mul-left (n .nx - 1) (up h)) in
         record {
           threshold = room .threshold;
           ceiling = room .ceiling;

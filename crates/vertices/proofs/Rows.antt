@@ -13,13 +13,14 @@ use Rattle.laws.proofs.Below.{below-add, at-most}
 use Rattle.block.specs.declared.Cut.{Cut}
 use Rattle.block.specs.declared.Size.{Size}
 use Rattle.block.specs.Size.{Limits}
-use Rattle.cube_rule.specs.Decider.{joined}
+use Rattle.cube_rule.specs.Decider.{joined, loopsOf}
 use Rattle.cube_rule.proofs.Laws.{cube-laws}
 use Rattle.mesh_rule.specs.Grid.{cornersOf}
-use Rattle.mesh_rule.specs.Buffers.{masksOf, cubeWords, cubeOffsets}
+use Rattle.mesh_rule.specs.Buffers.{cubeWords, cubeOffsets, rowCube}
+use Rattle.mesh_rule.specs.Mesh.{cubeLoops}
 use Rattle.signs.specs.Signs.{eightOf, activeOf, limitOf}
 use Rattle.vertices.specs.Cubes.{Stored}
-use Rattle.vertices.specs.Layers.{wordLoops, wordWords, wordOffsets, WordReady, WordRoom, WordWritten, Ready, Room, rowCube, rowCount, RowWritten}
+use Rattle.vertices.specs.Layers.{wordLoops, wordWords, wordOffsets, WordReady, WordRoom, WordWritten, Ready, Room, rowCount, RowWritten}
 use Rattle.vertices.proofs.Stored.{stored-none, stored-join, stored-words, stored-offsets}
 use Rattle.vertices.proofs.Words.{upTo, upTo-all, upTo-word, word-ready, loops-word, words-word, offsets-word}
 
@@ -35,13 +36,13 @@ pub record WordTold (n : Size) (a b : List ℕ) (j w nx ny mx : ℕ) (eight : Li
 module _ (n : Size) (s : List ℕ) (cut : Cut) (j k : ℕ) where
   -- the masks, words and offsets of the row's cubes before x
   abbrev pub masksTo : ℕ → List ℕ
-  masksTo x = below (upTo (n .nx - 1) (λ (y : ℕ). masksOf n s cut (rowCube n j k + y))) x
+  masksTo x = below (upTo (n .nx - 1) (λ (y : ℕ). cubeLoops loopsOf n s cut (rowCube (n .nx) (n .ny) j k + y))) x
 
   abbrev pub wordsTo : ℕ → List ℕ
-  wordsTo x = below (upTo (n .nx - 1) (λ (y : ℕ). cubeWords n s cut (rowCube n j k + y))) x
+  wordsTo x = below (upTo (n .nx - 1) (λ (y : ℕ). cubeWords n s cut (rowCube (n .nx) (n .ny) j k + y))) x
 
   abbrev pub offsetsTo : ℕ → List Float
-  offsetsTo x = below (upTo (n .nx - 1) (λ (y : ℕ). cubeOffsets n s cut (rowCube n j k + y))) x
+  offsetsTo x = below (upTo (n .nx - 1) (λ (y : ℕ). cubeOffsets n s cut (rowCube (n .nx) (n .ny) j k + y))) x
 
   -- no more than all
   pub masks-le : (x : ℕ) → length (masksTo x) ≤ rowCount n s cut j k
@@ -50,18 +51,18 @@ module _ (n : Size) (s : List ℕ) (cut : Cut) (j k : ℕ) where
         arith,
         ap length (below-add f x (n .nx - 1)),
         length-append (below f x) (below (λ (y : ℕ). f (x + y)) (n .nx - 1)),
-        ap length (upTo-all (n .nx - 1) (λ (y : ℕ). masksOf n s cut (rowCube n j k + y)) (x + (n .nx - 1)) (omega arith)),
+        ap length (upTo-all (n .nx - 1) (λ (y : ℕ). cubeLoops loopsOf n s cut (rowCube (n .nx) (n .ny) j k + y)) (x + (n .nx - 1)) (omega arith)),
       )
     where
       f : ℕ → List ℕ
-      f = upTo (n .nx - 1) (λ (y : ℕ). masksOf n s cut (rowCube n j k + y))
+      f = upTo (n .nx - 1) (λ (y : ℕ). cubeLoops loopsOf n s cut (rowCube (n .nx) (n .ny) j k + y))
 
   -- all of them
   pub count-end : (w : ℕ) → n .nx - 1 ≤ 64 * w → length (masksTo (64 * w)) ≡ rowCount n s cut j k
-  count-end w h = ap length (upTo-all (n .nx - 1) (λ (y : ℕ). masksOf n s cut (rowCube n j k + y)) (64 * w) h)
+  count-end w h = ap length (upTo-all (n .nx - 1) (λ (y : ℕ). cubeLoops loopsOf n s cut (rowCube (n .nx) (n .ny) j k + y)) (64 * w) h)
 
   pub row-count-le : rowCount n s cut j k ≤ 4 * (n .nx - 1)
-  row-count-le = at-most (λ (y : ℕ). masksOf n s cut (rowCube n j k + y)) 4 (n .nx - 1) (λ m l. cube-laws joined .four cut (cornersOf n s (rowCube n j k + m)))
+  row-count-le = at-most (λ (y : ℕ). cubeLoops loopsOf n s cut (rowCube (n .nx) (n .ny) j k + y)) 4 (n .nx - 1) (λ m l. cube-laws joined .four cut (cornersOf n s (rowCube (n .nx) (n .ny) j k + m)))
 
 -- the vertices of the cubes of the words before w were stored from the vertex v on
 pub record RowPart (n : Size) (s : List ℕ) (cut : Cut) (j k w v : ℕ) (w₀ ws : List ℕ) (o₀ os : List Float) (r : ℕ) : Type 0 where
@@ -75,9 +76,9 @@ pub row-end : {n : Size} {s : List ℕ} {cut : Cut} {j k w v : ℕ} {w₀ ws : L
     → RowPart n s cut j k w v w₀ ws o₀ os r → n .nx - 1 ≤ 64 * w → RowWritten n s cut j k v w₀ ws o₀ os r
 row-end {n} {s} {cut} {j} {k} {w} p h =
     rw (
-      ← upTo-all (n .nx - 1) (λ (y : ℕ). masksOf n s cut (rowCube n j k + y)) (64 * w) h,
-      ← upTo-all (n .nx - 1) (λ (y : ℕ). cubeWords n s cut (rowCube n j k + y)) (64 * w) h,
-      ← upTo-all (n .nx - 1) (λ (y : ℕ). cubeOffsets n s cut (rowCube n j k + y)) (64 * w) h,
+      ← upTo-all (n .nx - 1) (λ (y : ℕ). cubeLoops loopsOf n s cut (rowCube (n .nx) (n .ny) j k + y)) (64 * w) h,
+      ← upTo-all (n .nx - 1) (λ (y : ℕ). cubeWords n s cut (rowCube (n .nx) (n .ny) j k + y)) (64 * w) h,
+      ← upTo-all (n .nx - 1) (λ (y : ℕ). cubeOffsets n s cut (rowCube (n .nx) (n .ny) j k + y)) (64 * w) h,
     ) (p .stored)
 
 module _ {n : Size} {s : List ℕ} {cut : Cut} {table a b : List ℕ} {k : ℕ} (ready : Ready n s cut table a b k) (j : ℕ) (hj : j + 1 < n .ny) (w : ℕ) (hw : w < 4)
@@ -86,20 +87,20 @@ module _ {n : Size} {s : List ℕ} {cut : Cut} {table a b : List ℕ} {k : ℕ} 
   told-ready = rw (t .limit-is, t .active-is, t .eight-is, t .mx-is, t .nx-is, t .ny-is) (word-ready ready j hj w hw)
 
   told-loops : wordLoops s cut nx (nx * ny) (bitAnd active limit) (nx * (j + ny * k) + 64 * w)
-      ≡ below (λ (x : ℕ). upTo (n .nx - 1) (λ (y : ℕ). masksOf n s cut (rowCube n j k + y)) (64 * w + x)) 64
+      ≡ below (λ (x : ℕ). upTo (n .nx - 1) (λ (y : ℕ). cubeLoops loopsOf n s cut (rowCube (n .nx) (n .ny) j k + y)) (64 * w + x)) 64
   told-loops = rw (t .limit-is, t .active-is, t .eight-is, t .mx-is, t .nx-is, t .ny-is) (loops-word ready j hj w hw)
 
   told-words : wordWords s cut nx (nx * ny) (bitAnd active limit) (nx * (j + ny * k) + 64 * w) ((nx - 1) * (j + (ny - 1) * k) + 64 * w)
-      ≡ below (λ (x : ℕ). upTo (n .nx - 1) (λ (y : ℕ). cubeWords n s cut (rowCube n j k + y)) (64 * w + x)) 64
+      ≡ below (λ (x : ℕ). upTo (n .nx - 1) (λ (y : ℕ). cubeWords n s cut (rowCube (n .nx) (n .ny) j k + y)) (64 * w + x)) 64
   told-words = rw (t .limit-is, t .active-is, t .eight-is, t .mx-is, t .nx-is, t .ny-is) (words-word ready j hj w hw)
 
   told-offsets : wordOffsets s cut nx (nx * ny) (bitAnd active limit) (nx * (j + ny * k) + 64 * w)
-      ≡ below (λ (x : ℕ). upTo (n .nx - 1) (λ (y : ℕ). cubeOffsets n s cut (rowCube n j k + y)) (64 * w + x)) 64
+      ≡ below (λ (x : ℕ). upTo (n .nx - 1) (λ (y : ℕ). cubeOffsets n s cut (rowCube (n .nx) (n .ny) j k + y)) (64 * w + x)) 64
   told-offsets = rw (t .limit-is, t .active-is, t .eight-is, t .mx-is, t .nx-is, t .ny-is) (offsets-word ready j hj w hw)
 
   -- one word more: its loops
   word-more : masksTo n s cut j k (64 * (w + 1)) ≡ masksTo n s cut j k (64 * w) ++ wordLoops s cut nx (nx * ny) (bitAnd active limit) (nx * (j + ny * k) + 64 * w)
-  word-more = upTo-word (n .nx - 1) (λ (y : ℕ). masksOf n s cut (rowCube n j k + y)) w ∙ rw told-loops
+  word-more = upTo-word (n .nx - 1) (λ (y : ℕ). cubeLoops loopsOf n s cut (rowCube (n .nx) (n .ny) j k + y)) w ∙ rw told-loops
 
   pub counted-word : (m r : ℕ) → m ≡ length (masksTo n s cut j k (64 * w)) → r ≡ length (wordLoops s cut nx (nx * ny) (bitAnd active limit) (nx * (j + ny * k) + 64 * w))
       → m + r ≡ length (masksTo n s cut j k (64 * (w + 1)))
@@ -112,9 +113,9 @@ module _ {n : Size} {s : List ℕ} {cut : Cut} {table a b : List ℕ} {k : ℕ} 
   row-next p q = record {
     stored =
         rw (
-          upTo-word (n .nx - 1) (λ (y : ℕ). masksOf n s cut (rowCube n j k + y)) w,
-          upTo-word (n .nx - 1) (λ (y : ℕ). cubeWords n s cut (rowCube n j k + y)) w,
-          upTo-word (n .nx - 1) (λ (y : ℕ). cubeOffsets n s cut (rowCube n j k + y)) w,
+          upTo-word (n .nx - 1) (λ (y : ℕ). cubeLoops loopsOf n s cut (rowCube (n .nx) (n .ny) j k + y)) w,
+          upTo-word (n .nx - 1) (λ (y : ℕ). cubeWords n s cut (rowCube (n .nx) (n .ny) j k + y)) w,
+          upTo-word (n .nx - 1) (λ (y : ℕ). cubeOffsets n s cut (rowCube (n .nx) (n .ny) j k + y)) w,
         )
         (stored-join (p .stored) (rw (told-loops, told-words, told-offsets) at q));
   }

@@ -23,13 +23,14 @@ use Rattle.cube_rule.specs.Decider.{joined, loopsOf}
 use Rattle.cube_rule.specs.Edges.{patternOf}
 use Rattle.cube_rule.proofs.Laws.{cube-laws}
 use Rattle.mesh_rule.specs.Grid.{cornersAt, cornersOf, metal}
-use Rattle.mesh_rule.specs.Buffers.{masksOf, cubeWords, cubeOffsets}
+use Rattle.mesh_rule.specs.Buffers.{cubeWords, cubeOffsets, rowCube, rowSample}
+use Rattle.mesh_rule.specs.Mesh.{cubeLoops}
 use Rattle.mesh_rule.proofs.Numbers.{corners-of-number}
 use Rattle.signs.specs.Signs.{eightOf, activeOf, limitOf}
 use Rattle.signs.proofs.Cubes.{pattern-is, active-quiet}
 use Rattle.signs.proofs.Masks.{limit-keeps, limit-clears}
 use Rattle.vertices.specs.Cubes.{cornersFrom, wordsBy, offsetsBy}
-use Rattle.vertices.specs.Layers.{picked, wordLoops, wordWords, wordOffsets, WordReady, Ready, rowCube, rowSample}
+use Rattle.vertices.specs.Layers.{picked, wordLoops, wordWords, wordOffsets, WordReady, Ready}
 use Rattle.vertices.proofs.Visits.{bitsOf, picked-set, picked-unset}
 use Rattle.vertices.proofs.CubeCorners.{corners-at, corners-of, corners-inside}
 
@@ -80,26 +81,26 @@ module _ {n : Size} {s : List ℕ} {cut : Cut} {table a b : List ℕ} {k : ℕ} 
       go (inl l) = l
       go (inr g) = absurd (omega (arith, limit-clears (activeOf e) (n .nx - 1) w x h g, eqb-true (actOf / 2 ^ x % 2) 1 t))
 
-  index : (x : ℕ) → rowSample n j k + 64 * w + x ≡ sampleIndex n (64 * w + x) j k
+  index : (x : ℕ) → rowSample (n .nx) (n .ny) j k + 64 * w + x ≡ sampleIndex n (64 * w + x) j k
   index x = omega arith
 
-  number : (x : ℕ) → rowCube n j k + (64 * w + x) ≡ cubeNumber n (64 * w + x) j k
+  number : (x : ℕ) → rowCube (n .nx) (n .ny) j k + (64 * w + x) ≡ cubeNumber n (64 * w + x) j k
   number x = omega arith
 
-  pub word-ready : WordReady s cut table (n .nx) (n .nx * n .ny) (rowSample n j k + 64 * w) e actOf
+  pub word-ready : WordReady s cut table (n .nx) (n .nx * n .ny) (rowSample (n .nx) (n .ny) j k + 64 * w) e actOf
   word-ready = record {
     masks = ready .masks;
-    inside = λ x h t. rw (ready .samples) (corners-inside n (rowSample n j k + 64 * w + x) (64 * w + x) j k (index x) (more (set-in x h t)) hj (ready .inside));
+    inside = λ x h t. rw (ready .samples) (corners-inside n (rowSample (n .nx) (n .ny) j k + 64 * w + x) (64 * w + x) j k (index x) (more (set-in x h t)) hj (ready .inside));
     signs = λ x h t.
         pattern-is (ready .lower) (ready .upper) j w x hj hw h (more (set-in x h t))
-        ∙ ap (patternOf cut) (sym (corners-at n s (rowSample n j k + 64 * w + x) (64 * w + x) j k (index x)));
+        ∙ ap (patternOf cut) (sym (corners-at n s (rowSample (n .nx) (n .ny) j k + 64 * w + x) (64 * w + x) j k (index x)));
   }
     where
       more : {i m : ℕ} → i < m - 1 → i + 1 < m
       more h = omega arith
 
   -- a cube of the row whose bit is not set has no loop
-  quiet : (x : ℕ) → x < 64 → 64 * w + x < n .nx - 1 → bitsOf actOf x ≡ 0 → loopsOf cut (cornersOf n s (rowCube n j k + (64 * w + x))) ≡ []
+  quiet : (x : ℕ) → x < 64 → 64 * w + x < n .nx - 1 → bitsOf actOf x ≡ 0 → loopsOf cut (cornersOf n s (rowCube (n .nx) (n .ny) j k + (64 * w + x))) ≡ []
   quiet x h l z =
       rw (number x, corners-of-number n s (64 * w + x) j k l (less hj))
       (cube-laws joined .quiet cut (cornersAt n s (64 * w + x) j k) (metal n s cut (64 * w + x) j k)
@@ -114,15 +115,15 @@ module _ {n : Size} {s : List ℕ} {cut : Cut} {table a b : List ℕ} {k : ℕ} 
   -- What the picked cubes give, by their corners and numbers, is what the row's cubes give, where a cube without a loop gives nothing.
   module _ {A : Type 0} (give : List ℕ → ℕ → List A) (none : (cs : List ℕ) (c : ℕ) → loopsOf cut cs ≡ [] → give cs c ≡ []) where
     same : (x : ℕ) → x < 64
-        → picked actOf (λ (x : ℕ). give (cornersFrom s (n .nx) (n .nx * n .ny) (rowSample n j k + 64 * w + x)) (rowCube n j k + 64 * w + x)) x
-        ≡ upTo (n .nx - 1) (λ (y : ℕ). give (cornersOf n s (rowCube n j k + y)) (rowCube n j k + y)) (64 * w + x)
+        → picked actOf (λ (x : ℕ). give (cornersFrom s (n .nx) (n .nx * n .ny) (rowSample (n .nx) (n .ny) j k + 64 * w + x)) (rowCube (n .nx) (n .ny) j k + 64 * w + x)) x
+        ≡ upTo (n .nx - 1) (λ (y : ℕ). give (cornersOf n s (rowCube (n .nx) (n .ny) j k + y)) (rowCube (n .nx) (n .ny) j k + y)) (64 * w + x)
     same x h = go (lt-or-ge (64 * w + x) (n .nx - 1)) (eq-zero-or-pos (bitsOf actOf x))
       where
         by-index : ℕ → List A
-        by-index x = give (cornersFrom s (n .nx) (n .nx * n .ny) (rowSample n j k + 64 * w + x)) (rowCube n j k + 64 * w + x)
+        by-index x = give (cornersFrom s (n .nx) (n .nx * n .ny) (rowSample (n .nx) (n .ny) j k + 64 * w + x)) (rowCube (n .nx) (n .ny) j k + 64 * w + x)
 
         by-number : ℕ → List A
-        by-number y = give (cornersOf n s (rowCube n j k + y)) (rowCube n j k + y)
+        by-number y = give (cornersOf n s (rowCube (n .nx) (n .ny) j k + y)) (rowCube (n .nx) (n .ny) j k + y)
 
         one : (y : ℕ) → 0 < y % 2 → y % 2 ≡ 1
         one y p = omega arith
@@ -130,7 +131,7 @@ module _ {n : Size} {s : List ℕ} {cut : Cut} {table a b : List ℕ} {k : ℕ} 
         less : {i m : ℕ} → i + 1 < m → i < m - 1
         less h = omega arith
 
-        behind : rowCube n j k + 64 * w + x ≡ rowCube n j k + (64 * w + x)
+        behind : rowCube (n .nx) (n .ny) j k + 64 * w + x ≡ rowCube (n .nx) (n .ny) j k + (64 * w + x)
         behind = omega arith
 
         go : (64 * w + x < n .nx - 1) ⊎ (n .nx - 1 ≤ 64 * w + x) → (bitsOf actOf x ≡ 0) ⊎ (0 < bitsOf actOf x)
@@ -139,24 +140,24 @@ module _ {n : Size} {s : List ℕ} {cut : Cut} {table a b : List ℕ} {k : ℕ} 
         go (inl l) (inl z) = picked-unset actOf by-index x z ∙ sym (upTo-in (n .nx - 1) by-number (64 * w + x) l ∙ none _ _ (quiet x h l z))
         go (inl l) (inr o) =
             picked-set actOf by-index x (eq-eqb (bitsOf actOf x) 1 (one (actOf / 2 ^ x) o))
-            ∙ ap₂ give (corners-of n s (rowSample n j k + 64 * w + x) (64 * w + x) j k (index x) l (less hj) ∙ ap (cornersOf n s) (sym (number x))) behind
+            ∙ ap₂ give (corners-of n s (rowSample (n .nx) (n .ny) j k + 64 * w + x) (64 * w + x) j k (index x) l (less hj) ∙ ap (cornersOf n s) (sym (number x))) behind
             ∙ sym (upTo-in (n .nx - 1) by-number (64 * w + x) l)
 
-    row-word : below (picked actOf (λ (x : ℕ). give (cornersFrom s (n .nx) (n .nx * n .ny) (rowSample n j k + 64 * w + x)) (rowCube n j k + 64 * w + x))) 64
-        ≡ below (λ (x : ℕ). upTo (n .nx - 1) (λ (y : ℕ). give (cornersOf n s (rowCube n j k + y)) (rowCube n j k + y)) (64 * w + x)) 64
+    row-word : below (picked actOf (λ (x : ℕ). give (cornersFrom s (n .nx) (n .nx * n .ny) (rowSample (n .nx) (n .ny) j k + 64 * w + x)) (rowCube (n .nx) (n .ny) j k + 64 * w + x))) 64
+        ≡ below (λ (x : ℕ). upTo (n .nx - 1) (λ (y : ℕ). give (cornersOf n s (rowCube (n .nx) (n .ny) j k + y)) (rowCube (n .nx) (n .ny) j k + y)) (64 * w + x)) 64
     row-word = below-same _ _ 64 same
 
   -- of their loops, words and offsets
-  pub loops-word : wordLoops s cut (n .nx) (n .nx * n .ny) actOf (rowSample n j k + 64 * w)
-      ≡ below (λ (x : ℕ). upTo (n .nx - 1) (λ (y : ℕ). masksOf n s cut (rowCube n j k + y)) (64 * w + x)) 64
+  pub loops-word : wordLoops s cut (n .nx) (n .nx * n .ny) actOf (rowSample (n .nx) (n .ny) j k + 64 * w)
+      ≡ below (λ (x : ℕ). upTo (n .nx - 1) (λ (y : ℕ). cubeLoops loopsOf n s cut (rowCube (n .nx) (n .ny) j k + y)) (64 * w + x)) 64
   loops-word = row-word (λ cs c. loopsOf cut cs) (λ cs c q. q)
 
-  pub words-word : wordWords s cut (n .nx) (n .nx * n .ny) actOf (rowSample n j k + 64 * w) (rowCube n j k + 64 * w)
-      ≡ below (λ (x : ℕ). upTo (n .nx - 1) (λ (y : ℕ). cubeWords n s cut (rowCube n j k + y)) (64 * w + x)) 64
+  pub words-word : wordWords s cut (n .nx) (n .nx * n .ny) actOf (rowSample (n .nx) (n .ny) j k + 64 * w) (rowCube (n .nx) (n .ny) j k + 64 * w)
+      ≡ below (λ (x : ℕ). upTo (n .nx - 1) (λ (y : ℕ). cubeWords n s cut (rowCube (n .nx) (n .ny) j k + y)) (64 * w + x)) 64
   unfolding cubeWords
   words-word = row-word (λ cs c. wordsBy cut cs c) (λ cs c q. rw q)
 
-  pub offsets-word : wordOffsets s cut (n .nx) (n .nx * n .ny) actOf (rowSample n j k + 64 * w)
-      ≡ below (λ (x : ℕ). upTo (n .nx - 1) (λ (y : ℕ). cubeOffsets n s cut (rowCube n j k + y)) (64 * w + x)) 64
+  pub offsets-word : wordOffsets s cut (n .nx) (n .nx * n .ny) actOf (rowSample (n .nx) (n .ny) j k + 64 * w)
+      ≡ below (λ (x : ℕ). upTo (n .nx - 1) (λ (y : ℕ). cubeOffsets n s cut (rowCube (n .nx) (n .ny) j k + y)) (64 * w + x)) 64
   unfolding cubeOffsets
   offsets-word = row-word (λ cs c. offsetsBy cut cs) (λ cs c q. rw q)

@@ -18,7 +18,7 @@ use Rattle.block.specs.Rows.{thresholdRow, ceilingRow}
 use Rattle.block.specs.Size.{Limits}
 use Rattle.cube.specs.Table.{maskTable}
 use Rattle.cube_rule.specs.Edges.{patternOf}
-use Rattle.mesh_rule.specs.Buffers.{layerWords, layerOffsets, layerCount, runMasks, runWords, runOffsets}
+use Rattle.mesh_rule.specs.Buffers.{rowCube, layerWords, layerOffsets, layerCount, runMasks, runWords, runOffsets}
 use Rattle.signs.specs.Signs.{Plane, patternAt}
 use Rattle.vertices.specs.Cubes.{cornersFrom, loopsAt, wordsAt, offsetsAt, Stored}
 
@@ -58,13 +58,6 @@ WordWritten s cut nx nxy p act c v = Stored v (wordLoops s cut nx nxy act p) (wo
 
 -- ---- rows and layers
 
--- the number of the first cube of the row j of layer k, and the index of its corner 0
-abbrev pub rowCube : Size → ℕ → ℕ → ℕ
-rowCube n j k = (n .nx - 1) * (j + (n .ny - 1) * k)
-
-abbrev pub rowSample : Size → ℕ → ℕ → ℕ
-rowSample n j k = n .nx * (j + n .ny * k)
-
 -- What a pass over layer k requires: a size within its limits and as many samples as it has, the table of 256 masks, and the sign words of the
 -- planes k and k + 1, which are planes of the block.
 pub record Ready (n : Size) (s : List ℕ) (cut : Cut) (table a b : List ℕ) (k : ℕ) : Type 0 where
@@ -84,11 +77,11 @@ pub record Room (s : List ℕ) (cut : Cut) (v m : ℕ) (words : List ℕ) (offse
 
 -- of a row of cubes: how many vertices it has, and that they were written
 abbrev pub rowCount : Size → List ℕ → Cut → ℕ → ℕ → ℕ
-rowCount n s cut j k = length (runMasks n s cut (rowCube n j k) (n .nx - 1))
+rowCount n s cut j k = length (runMasks n s cut (rowCube (n .nx) (n .ny) j k) (n .nx - 1))
 
 abbrev pub RowWritten : Size → List ℕ → Cut → ℕ → ℕ → ℕ → List ℕ → List ℕ → List Float → List Float → ℕ → Type 0
 RowWritten n s cut j k v =
-    Stored v (runMasks n s cut (rowCube n j k) (n .nx - 1)) (runWords n s cut (rowCube n j k) (n .nx - 1)) (runOffsets n s cut (rowCube n j k) (n .nx - 1))
+    Stored v (runMasks n s cut (rowCube (n .nx) (n .ny) j k) (n .nx - 1)) (runWords n s cut (rowCube (n .nx) (n .ny) j k) (n .nx - 1)) (runOffsets n s cut (rowCube (n .nx) (n .ny) j k) (n .nx - 1))
 
 -- the promise of `count_layer`
 abbrev pub LayerCounted : Size → List ℕ → Cut → ℕ → ℕ → Type 0

@@ -5,7 +5,7 @@ use mathlib.Core.Path.{_≡_, sym, ap, ap₂, _∙_}
 use native.Mathlib.Omega.{arith}
 use lib.ListN.{getD}
 use borrow.Author.Needs.{needs}
-use Rattle.laws.proofs.Counting.{count}
+use Rattle.laws.specs.Counting.{count}
 use Rattle.block.specs.Grey.{isCeiling}
 use Rattle.block.proofs.ClearRuns.{count-none, count-next}
 use Rattle.block.proofs.ceilings.Statement.{statement}

@@ -6,7 +6,7 @@ use Prim.Native.Nat.{ℕ}
 use mathlib.Core.List.{List}
 use lib.Seq.{length-take-le}
 use Rattle.mesh.specs.Answer.{sizeOf}
-use Rattle.mesh_rule.proofs.Offsets.{Greys}
+use Rattle.mesh_rule.specs.Grid.{Greys}
 use Rattle.block.proofs.Sizes.{axes-within}
 use Rattle.block.specs.Rows.{ceilingRow}
 use Rattle.lines.specs.Output.{printed, blockText}

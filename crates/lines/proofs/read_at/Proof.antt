@@ -2,7 +2,8 @@
 -- Assumes nothing.
 use mathlib.Core.Path.{sym, _∙_}
 use native.Mathlib.Omega.{arith}
-use Rattle.lines.proofs.Reading.{getD-other, getD-past}
+use lib.ListN.{List·getD-eq-default}
+use Rattle.lines.proofs.Reading.{getD-other}
 use borrow.Author.Needs.{needs}
 use Rattle.lines.proofs.read_at.Statement.{statement}
 use Rattle.lines.proofs.read_at.Tie as tie
@@ -20,7 +21,7 @@ returns : tie.Need-returns
 returns c = (c .wide .ensures .0 ∙ getD-other (c .before .before .before .before .args .input .now) _ _ _ (c .before .before .if1 .taken), omega (arith, c .wide .ensures .1))
 
 returns-2 : tie.Need-returns-2
-returns-2 c = (sym (getD-past (c .before .before .args .input .now) _ _ (c .if1 .left)), search needs)
+returns-2 c = (sym (List·getD-eq-default (c .before .before .args .input .now) 256 (c .if1 .left)), search needs)
 
 pub read-at-spec : {M : Type 1} → statement M
 read-at-spec = tie.close (tie.spec shared-slice-read-wide wide-requires returns returns-2)

@@ -1,0 +1,9 @@
+pub mod Order
+pub mod Table
+pub mod Numbers
+pub mod RefusalText
+pub mod Refusals
+pub mod Ceiling
+pub mod TheMesh
+pub mod StandIn
+pub mod Idle

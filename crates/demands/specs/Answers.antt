@@ -1,0 +1,44 @@
+-- Words for what an entry point answered, and for what its lent buffers hold of a mesh.
+-- Assumes nothing.
+use Prim.Native.Nat.{ℕ, _*_, _<_}
+use mathlib.Core.Path.{_≡_}
+use mathlib.Core.List.{List}
+use lib.Ieee.{Float}
+use lib.ListN.{length, getD}
+use Rattle.block.specs.declared.Refusal.{Refusal}
+use Rattle.block.specs.Answer.{Answer, accepted, refused}
+use Rattle.mesh_rule.specs.Grid.{Greys}
+use Rattle.mesh.specs.declared.Totals.{Totals}
+use Rattle.mesh.specs.declared.Counted.{Counted}
+use Rattle.mesh.specs.Answer.{saidCounts, Meshed}
+
+-- anything but a refusal
+abbrev pub NotRefused : {A : Type 0} → Answer A → Type 0
+NotRefused a = (x : Refusal) → a ≡ refused x → ⊥
+
+-- every sample is below 65,535, the detector's ceiling
+abbrev pub BelowCeiling : List ℕ → Type 0
+BelowCeiling s = (k : ℕ) → k < length s → getD s k 0 < 65535
+
+-- any call of `mesh` that its promise allows and that answers counts: the buffers before it and after it
+pub record MeshCall (nx ny nz : ℕ) (s : List ℕ) (t : ℕ) : Type 0 where
+  pub words : List ℕ
+  pub offsets : List Float
+  pub quads : List ℕ
+  pub answer : Counted
+  pub words-after : List ℕ
+  pub offsets-after : List Float
+  pub quads-after : List ℕ
+  pub promise : Meshed nx ny nz s t words offsets quads answer words-after offsets-after quads-after
+  pub counts : Totals
+  pub accepts : saidCounts answer ≡ accepted counts
+  pub greys : Greys s
+
+-- two meshes as the buffers hold them: the same cube for every vertex, and the same quads
+pub record SameCubes {nx ny nz : ℕ} {s : List ℕ} {t : ℕ} {s′ : List ℕ} {t′ : ℕ} (a : MeshCall nx ny nz s t) (b : MeshCall nx ny nz s′ t′) : Type 0 where
+  pub count : a .counts .vertices ≡ b .counts .vertices
+  pub cubes : (v : ℕ) → v < a .counts .vertices → getD (a .words-after) (2 * v) 0 ≡ getD (b .words-after) (2 * v) 0
+
+pub record SameQuads {nx ny nz : ℕ} {s : List ℕ} {t : ℕ} {s′ : List ℕ} {t′ : ℕ} (a : MeshCall nx ny nz s t) (b : MeshCall nx ny nz s′ t′) : Type 0 where
+  pub count : a .counts .quads ≡ b .counts .quads
+  pub numbers : (k : ℕ) → k < 4 * a .counts .quads → getD (a .quads-after) k 0 ≡ getD (b .quads-after) k 0
