@@ -1,9 +1,15 @@
 -- Grey values and the threshold (document 01, "The block and its numbering").
 -- Assumes nothing.
-use Prim.Native.Nat.{ℕ}
+use Prim.Native.Nat.{ℕ, _<_}
 use mathlib.Core.Bool.{Bool, _||_}
+use mathlib.Core.List.{List}
 use lib.Dec.{leb, eqb}
+use lib.ListN.{getD}
 use Rattle.block.specs.declared.Cut.{Cut}
+
+-- "Samples are 16-bit"
+abbrev pub SixteenBit : List ℕ → Type 0
+SixteenBit samples = (k : ℕ) → getD samples k 0 < 65536
 
 -- the detector's ceiling: "no grey value"
 abbrev pub ceiling : ℕ

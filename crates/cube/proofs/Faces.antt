@@ -13,7 +13,7 @@ use Rattle.laws.specs.Bits.{differ, holds}
 use Rattle.laws.proofs.Tests.{both, left, right, same-eq, below, below-at}
 use Rattle.block.specs.declared.Cut.{Cut}
 use Rattle.block.specs.Grey.{positive}
-use Rattle.cube_rule.specs.Edges.{sampleAt, patternOf, crossedMask}
+use Rattle.cube_rule.specs.Edges.{cornerSample, patternOf, crossedMask}
 use Rattle.cube_rule.specs.Faces.{ringCorner}
 use Rattle.cube_rule.specs.Links.{decisions}
 use Rattle.cube_rule.specs.Decider.{joined}
@@ -91,7 +91,7 @@ differ-not false false = refl
 -- what is found on the face f, where m are the cube's crossed edges
 abbrev foundOn : Cut → List ℕ → ℕ → ℕ → Links
 foundOn cut corners m f =
-    cutFace (faceOf f) (bitAnd m (placed f 15)) (differ (positive cut (sampleAt corners (ringCorner f 0))) (decisions joined cut corners f))
+    cutFace (faceOf f) (bitAnd m (placed f 15)) (differ (positive cut (cornerSample corners (ringCorner f 0))) (decisions joined cut corners f))
 
 module _ (cut : Cut) (corners : List ℕ) (m : ℕ) (m-is : m ≡ crossedMask (patternOf cut corners)) where
   -- is what the rule says of it
@@ -105,7 +105,7 @@ module _ (cut : Cut) (corners : List ℕ) (m : ℕ) (m-is : m ≡ crossedMask (p
       let first = Bool·beq (holds p (ringCorner f 0)) (not (decisions joined cut corners f)) in
       let edges : placed f x ≡ n = rw m-is (same-edges p f (pattern-lt cut corners) f-lt) in
       let four : eqb n (placed f 15) ≡ eqb x 15 = rw m-is (sym (same-four p f (pattern-lt cut corners) f-lt)) in
-      let sign : differ (positive cut (sampleAt corners (ringCorner f 0))) (decisions joined cut corners f) ≡ first =
+      let sign : differ (positive cut (cornerSample corners (ringCorner f 0))) (decisions joined cut corners f) ≡ first =
       ap (λ (a : Bool). differ a (decisions joined cut corners f)) (sym (pattern-sign cut corners (ringCorner f 0) (ring-corner-lt f 0 f-lt (lit< tt))))
       ∙ differ-not (holds p (ringCorner f 0)) (decisions joined cut corners f) in
       let told : (u v w : ℕ) → _ = λ (u v w : ℕ). ap₂ (λ (b c : Bool). cond b (cond c u v) w) four sign in (

@@ -8,7 +8,7 @@ use Rattle.laws.proofs.Fixed.{equation-fixes}
 use Rattle.block.specs.declared.Cut.{Cut}
 use Rattle.cube_rule.specs.Edges.{patternOf, crossedMask}
 use Rattle.cube.specs.declared.Loops.{Loops}
-use Rattle.cube.specs.Answer.{cubeLoops}
+use Rattle.cube.specs.Answer.{loopsGiven}
 use Rattle.cube.specs.Table.{maskTable}
 
 -- of `pattern`
@@ -24,5 +24,5 @@ pub crossed-edges-fixed : (p : ℕ) → p < 256 → Fixes (λ (r : ℕ). (r ≡ 
 crossed-edges-fixed p h a b x y = equation-fixes (crossedMask p) a b (x .0) (y .0)
 
 -- of `loops_of`
-pub loops-fixed : (corners : List ℕ) (cut : Cut) → Fixes (λ (r : Loops). (r ≡ cubeLoops cut corners) × (r .count ≤ 4))
-loops-fixed corners cut a b p q = equation-fixes (cubeLoops cut corners) a b (p .0) (q .0)
+pub loops-fixed : (corners : List ℕ) (cut : Cut) → Fixes (λ (r : Loops). (r ≡ loopsGiven cut corners) × (r .count ≤ 4))
+loops-fixed corners cut a b p q = equation-fixes (loopsGiven cut corners) a b (p .0) (q .0)

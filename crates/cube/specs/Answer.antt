@@ -12,5 +12,5 @@ use Rattle.cube.specs.declared.Loops.{Loops}
 abbrev pub answered : List ℕ → Loops
 answered masks = record { count = length masks; masks = filled 4 0 masks }
 
-abbrev pub cubeLoops : Cut → List ℕ → Loops
-cubeLoops cut corners = answered (loopsOf cut corners)
+abbrev pub loopsGiven : Cut → List ℕ → Loops
+loopsGiven cut corners = answered (loopsOf cut corners)

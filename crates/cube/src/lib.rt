@@ -9,11 +9,11 @@ ghost use Rattle.laws.specs.Bits.{differ};
 ghost use Rattle.block.specs.Grey.{positive};
 ghost use Rattle.cube_rule.specs.Edges.{patternOf, crossedMask};
 ghost use Rattle.cube_rule.specs.Links.{decisions};
-ghost use Rattle.cube_rule.specs.Decider.{over, joined};
+ghost use Rattle.cube_rule.specs.Decider.{differenceOf, joined};
 ghost use Rattle.cube_rule.specs.Loops.{linksOf, join, grow, loopFrom};
 ghost use Rattle.cube_rule.specs.Rule.{lowestEdge};
 ghost use Rattle.cube.specs.Faces.{cutFace};
-ghost use Rattle.cube.specs.Answer.{cubeLoops};
+ghost use Rattle.cube.specs.Answer.{loopsGiven};
 ghost use Rattle.cube.specs.Table.{maskTable};
 
 // The loops of a cube: how many, and their masks by their lowest edge, 0 where there is none.
@@ -364,7 +364,7 @@ pub fn crossed_edges(table: &[u32; 256], p: usize) -> u32
 
 // Sample minus t, signed.
 fn difference(cut: Cut, s: u16) -> i32
-    ensures { λ r. ⌜ r ≡ over cut s ⌝ }
+    ensures { λ r. ⌜ r ≡ differenceOf cut s ⌝ }
 {
     (s as i32) - (cut.t as i32)
 }
@@ -517,7 +517,7 @@ fn loop_from(links: [u32; 12], m: u32) -> u32
 
 // The loops of a cube of samples: the loop of the lowest crossed edge, then that of the lowest edge left, until none is left.
 pub fn loops_of(corners: [u16; 8], cut: Cut) -> Loops
-    ensures { λ r. ⌜ r ≡ cubeLoops cut corners ⌝ }
+    ensures { λ r. ⌜ r ≡ loopsGiven cut corners ⌝ }
     ensures { λ r. ⌜ r .count ≤ 4 ⌝ }
 {
     let table = masks();

@@ -10,7 +10,7 @@ use lib.Signed.{leZ}
 use borrow.Author.Tests.{lt-ltb, le-ltb, le-leb, lt-leb}
 use Rattle.block.specs.declared.Cut.{Cut}
 use Rattle.block.specs.Grey.{positive}
-use Rattle.cube_rule.specs.Decider.{over, joined}
+use Rattle.cube_rule.specs.Decider.{differenceOf, joined}
 
 pick : {A : Type 0} (b c : Bool) (x y : A) → b ≡ c → cond b x y ≡ cond c x y
 pick b c x y e = rw e
@@ -32,10 +32,10 @@ difference-neg (suc t) s h = pick (ltb s (suc t)) true (negsuc (suc t - suc s)) 
 
 module _ (cut : Cut) where
   -- the product of two differences of one sign is the product of their sizes
-  product-pos : (a c : ℕ) → cut .t ≤ a → cut .t ≤ c → over cut a *ℤ over cut c ≡ pos ((a - cut .t) * (c - cut .t))
+  product-pos : (a c : ℕ) → cut .t ≤ a → cut .t ≤ c → differenceOf cut a *ℤ differenceOf cut c ≡ pos ((a - cut .t) * (c - cut .t))
   product-pos a c a-pos c-pos = ap₂ (λ (x y : ℤ). x *ℤ y) (difference-pos (cut .t) a a-pos) (difference-pos (cut .t) c c-pos)
 
-  product-neg : (b d : ℕ) → b < cut .t → d < cut .t → over cut b *ℤ over cut d ≡ pos ((cut .t - b) * (cut .t - d))
+  product-neg : (b d : ℕ) → b < cut .t → d < cut .t → differenceOf cut b *ℤ differenceOf cut d ≡ pos ((cut .t - b) * (cut .t - d))
   product-neg b d b-neg d-neg =
       ap₂ (λ (x y : ℤ). x *ℤ y) (difference-neg (cut .t) b b-neg) (difference-neg (cut .t) d d-neg)
       ∙ ap₂ (λ (x y : ℕ). pos (x * y)) (size (cut .t) b b-neg) (size (cut .t) d d-neg)

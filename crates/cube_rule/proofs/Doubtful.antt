@@ -14,7 +14,7 @@ use Rattle.block.specs.declared.Cut.{Cut}
 use Rattle.block.specs.Grey.{positive}
 use Rattle.cube_rule.specs.Decider.{joined}
 use Rattle.cube_rule.specs.Links.{ringCount}
-use Rattle.cube_rule.specs.Saddle.{Point, Inside, form, Saddle}
+use Rattle.cube_rule.specs.Saddle.{Point, InsideFace, form, Saddle}
 use Rattle.cube_rule.proofs.Saddle.{decider-is-saddle, saddle-exists}
 
 -- ---- the signs alternate, by a test that antt computes at each of the sixteen
@@ -64,7 +64,7 @@ module _ (cut : Cut) (p q r s : ℕ) (four : ringCount (positive cut p) (positiv
   doubtful-saddle = decider-is-saddle cut p q r s p-as-r q-as-s p-not-q
 
   -- there is a saddle, inside the face
-  pub doubtful-has-saddle : (point : Point) × Saddle p q r s point × Inside point
+  pub doubtful-has-saddle : (point : Point) × Saddle p q r s point × InsideFace point
   doubtful-has-saddle = saddle-exists cut p q r s p-as-r q-as-s p-not-q
 
   -- "The divisor of the decider's saddle, A+C−B−D, is positive": the positive corners outweigh the negative ones

@@ -12,7 +12,7 @@ use Rattle.laws.specs.Bits.{bit, differ, holds, maskOf}
 use Rattle.laws.proofs.Bits.{mask-lt, mask-none, holds-mask, some-ones}
 use Rattle.block.specs.declared.Cut.{Cut}
 use Rattle.block.specs.Grey.{positive}
-use Rattle.cube_rule.specs.Edges.{sampleAt, lower, upper, patternOf, crossed, crossedMask, crossedAt}
+use Rattle.cube_rule.specs.Edges.{cornerSample, lower, upper, patternOf, crossed, crossedMask, crossedAt}
 use Rattle.cube_rule.specs.Faces.{ringEdge, ringCorner}
 use Rattle.cube_rule.specs.Links.{linkedIf, linkedAt, Decider, decisions}
 use Rattle.cube_rule.specs.Loops.{linksOf, loopsFrom, loopsIn, loopsBy}
@@ -27,12 +27,12 @@ use Rattle.cube_rule.proofs.Unique.{rule-unique}
 module _ (cut : Cut) (cs : List ℕ) where
   pub pattern-lt : patternOf cut cs < 256
   unfolding patternOf
-  pattern-lt = mask-lt (λ (c : ℕ). positive cut (sampleAt cs c)) 8
+  pattern-lt = mask-lt (λ (c : ℕ). positive cut (cornerSample cs c)) 8
 
   -- the pattern has the samples' signs
-  pub pattern-sign : (c : ℕ) → c < 8 → holds (patternOf cut cs) c ≡ positive cut (sampleAt cs c)
+  pub pattern-sign : (c : ℕ) → c < 8 → holds (patternOf cut cs) c ≡ positive cut (cornerSample cs c)
   unfolding patternOf
-  pattern-sign c h = holds-mask (λ (c : ℕ). positive cut (sampleAt cs c)) 8 c h
+  pattern-sign c h = holds-mask (λ (c : ℕ). positive cut (cornerSample cs c)) 8 c h
 
   pub pattern-crossed : (e : ℕ) → e < 12 → crossed (patternOf cut cs) e ≡ crossedAt cut cs e
   pattern-crossed e h = ap₂ differ (pattern-sign (lower e) (lower-lt e h)) (pattern-sign (upper e) (upper-lt e h))
@@ -59,7 +59,7 @@ module _ (D : Decider) (cut : Cut) (cs : List ℕ) where
   -- its links are those of its faces' samples
   pub linked-is : (f i k : ℕ) → f < 6 → linkedOn (patternOf cut cs) (decisions D cut cs) f i k ≡ linkedAt D cut cs f i k
   linked-is f i k hf =
-      let s : (c : ℕ) → c < 4 → holds (patternOf cut cs) (ringCorner f c) ≡ positive cut (sampleAt cs (ringCorner f c)) = λ c h. pattern-sign cut cs (ringCorner f c) (ring-corner-lt f c hf h) in
+      let s : (c : ℕ) → c < 4 → holds (patternOf cut cs) (ringCorner f c) ≡ positive cut (cornerSample cs (ringCorner f c)) = λ c h. pattern-sign cut cs (ringCorner f c) (ring-corner-lt f c hf h) in
       rw (s 0 (omega arith), s 1 (omega arith), s 2 (omega arith), s 3 (omega arith))
 
 -- two edges that each mask holds alike have the same first holder
@@ -77,7 +77,7 @@ unfolding loopsFrom
 no-loops ls m e = rw e
 
 module _ (D : Decider) where
-  quiet : (cut : Cut) (cs : List ℕ) (s : Bool) → ((c : ℕ) → c < 8 → positive cut (sampleAt cs c) ≡ s) → loopsBy D cut cs ≡ []
+  quiet : (cut : Cut) (cs : List ℕ) (s : Bool) → ((c : ℕ) → c < 8 → positive cut (cornerSample cs c) ≡ s) → loopsBy D cut cs ≡ []
   unfolding loopsBy crossedMask
   quiet cut cs s h =
       no-loops (linksOf (patternOf cut cs) (decisions D cut cs)) (crossedMask (patternOf cut cs))

@@ -15,7 +15,7 @@ use Rattle.laws.proofs.Bits.{mask-lt, holds-mask, both-or-none, holds-past}
 use Rattle.laws.proofs.Tests.{both, one-of, left, right, cases, is-true, was-true, some, some-at, lt-or-ge}
 use Rattle.block.specs.declared.Cut.{Cut}
 use Rattle.block.specs.Grey.{positive}
-use Rattle.cube_rule.specs.Edges.{sampleAt, lower, upper, patternOf, crossed, crossedMask, crossedAt}
+use Rattle.cube_rule.specs.Edges.{cornerSample, lower, upper, patternOf, crossed, crossedMask, crossedAt}
 use Rattle.cube_rule.specs.Faces.{ringEdge, ringCorner}
 use Rattle.cube_rule.specs.Links.{next, ringCrossed, linkedIf, Decider, decisions}
 use Rattle.cube_rule.specs.Loops.{firstLink, secondLink, placed, faceLink, linksOf, loopsFrom, loopsIn, loopsBy}

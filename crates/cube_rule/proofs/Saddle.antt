@@ -14,7 +14,7 @@ use borrow.Author.Tests.{leb-true, leb-false, le-leb}
 use Rattle.block.specs.declared.Cut.{Cut}
 use Rattle.block.specs.Grey.{positive}
 use Rattle.cube_rule.specs.Decider.{joined}
-use Rattle.cube_rule.specs.Saddle.{Point, Inside, form, Saddle}
+use Rattle.cube_rule.specs.Saddle.{Point, InsideFace, form, Saddle}
 use Rattle.cube_rule.proofs.Decider.{joined-pos, joined-neg}
 
 -- b - a and d - c have one sign where a positive multiple of the one is a positive multiple of the other
@@ -90,7 +90,7 @@ module _ (t p q r s A B C D : ℕ) (sizes : Sizes t p q r s A B C D) where
 behind : {t p q r s A B C D : ℕ} → Sizes t p q r s A B C D → Sizes t p s r q A D C B
 behind sizes = record { at-p = sizes .at-p; at-q = sizes .at-s; at-r = sizes .at-r; at-s = sizes .at-q }
 
-found : (t p q r s A B C D : ℕ) → Sizes t p q r s A B C D → 0 < B → 0 < D → (point : Point) × Saddle p q r s point × Inside point
+found : (t p q r s A B C D : ℕ) → Sizes t p q r s A B C D → 0 < B → 0 < D → (point : Point) × Saddle p q r s point × InsideFace point
 found t p q r s A B C D sizes B-some D-some = (point, saddle, inside)
   where
     point : Point
@@ -111,7 +111,7 @@ found t p q r s A B C D sizes B-some D-some = (point, saddle, inside)
       second = ratio t p s r q A D C B (behind sizes) (A + D) (C + B) .1 (mul-comm (C + B) (A + D));
     }
 
-    inside : Inside point
+    inside : InsideFace point
     inside = record { u-some = omega arith; w-some = omega arith; v-some = omega arith; x-some = omega arith }
 
 -- p and r are positive, q and s negative
@@ -123,7 +123,7 @@ module _ (t p q r s : ℕ) (p-pos : t ≤ p) (q-neg : q < t) (r-pos : t ≤ r) (
       ((t - q) * (t - s) ≤ (p - t) * (r - t)) ↔ (t * (point .n * point .n) ≤ form p q r s point)
   decider-pos = decides t p q r s (p - t) (t - q) (r - t) (t - s) sized (omega arith)
 
-  pub saddle-exists-pos : (point : Point) × Saddle p q r s point × Inside point
+  pub saddle-exists-pos : (point : Point) × Saddle p q r s point × InsideFace point
   saddle-exists-pos = found t p q r s (p - t) (t - q) (r - t) (t - s) sized (omega arith) (omega arith)
 
 -- the same point where the ring begins one corner later
@@ -147,7 +147,7 @@ turn-saddle : (p q r s : ℕ) (point : Point) → Saddle p q r s point → Saddl
 unfolding turn
 turn-saddle p q r s point saddle = record { first = omega arith; second = omega arith }
 
-turn-inside : (point : Point) → Inside point → Inside (turn point)
+turn-inside : (point : Point) → InsideFace point → InsideFace (turn point)
 unfolding turn
 turn-inside point inside =
     record { u-some = inside .v-some; w-some = inside .x-some; v-some = inside .w-some; x-some = inside .u-some }
@@ -161,7 +161,7 @@ module _ (t p q r s : ℕ) (p-neg : p < t) (q-pos : t ≤ q) (r-neg : r < t) (s-
       let d = decider-pos t q r s p q-pos r-neg s-pos p-neg (turn point) (turn-saddle p q r s point saddle) in
       rw (mul-comm (t - p) (t - r), ← turn-form p q r s point) d
 
-  pub saddle-exists-neg : (point : Point) × Saddle p q r s point × Inside point
+  pub saddle-exists-neg : (point : Point) × Saddle p q r s point × InsideFace point
   saddle-exists-neg =
       let f = saddle-exists-pos t s p q r s-pos p-neg q-pos r-neg in
       (turn (f .0), turn-saddle s p q r (f .0) (f .1), turn-inside (f .0) (f .2))
@@ -199,7 +199,7 @@ module _ (cut : Cut) (p q r s : ℕ)
       decided _ _ _ (joined-neg cut p q r s (h .3) (h .0) (h .1) (h .2)) (decider-neg (cut .t) p q r s (h .3) (h .0) (h .1) (h .2) point saddle))
       alternate
 
-  pub saddle-exists : (point : Point) × Saddle p q r s point × Inside point
+  pub saddle-exists : (point : Point) × Saddle p q r s point × InsideFace point
   saddle-exists =
       ⊎-elim
       (λ (h : Alternate (cut .t) p q r s). saddle-exists-pos (cut .t) p q r s (h .0) (h .1) (h .2) (h .3))

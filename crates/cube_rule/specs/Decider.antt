@@ -11,16 +11,16 @@ use Rattle.cube_rule.specs.Links.{Decider}
 use Rattle.cube_rule.specs.Loops.{loopsBy}
 
 -- sample minus t
-abbrev pub over : Cut → ℕ → ℤ
-over cut s = pos s -ℤ pos (cut .t)
+abbrev pub differenceOf : Cut → ℕ → ℤ
+differenceOf cut s = pos s -ℤ pos (cut .t)
 
 -- p, q, r, s are the samples round a face with four crossed edges, so p and r have one sign, q and s the other.
 -- "The positive corners are joined if A·C is at least B·D", A and C at the positive corners, B and D at the negative ones.
 unfoldable pub joined : Decider
 joined cut p q r s =
     cond (positive cut p)
-    (leZ (over cut q *ℤ over cut s) (over cut p *ℤ over cut r))
-    (leZ (over cut p *ℤ over cut r) (over cut q *ℤ over cut s))
+    (leZ (differenceOf cut q *ℤ differenceOf cut s) (differenceOf cut p *ℤ differenceOf cut r))
+    (leZ (differenceOf cut p *ℤ differenceOf cut r) (differenceOf cut q *ℤ differenceOf cut s))
 
 -- the loops of a cube, as 01 has them: by this decider
 abbrev pub loopsOf : Cut → List ℕ → List ℕ

@@ -37,13 +37,13 @@ abbrev pub axisOf : ℕ → ℕ
 axisOf e = e / 4
 
 -- the sample at a corner
-abbrev pub sampleAt : List ℕ → ℕ → ℕ
-sampleAt corners c = getD corners c 0
+abbrev pub cornerSample : List ℕ → ℕ → ℕ
+cornerSample corners c = getD corners c 0
 
 -- the sign pattern of a cube: bit c is set if corner c is positive
 unfoldable pub patternOf : Cut → List ℕ → ℕ
 unfolding maskOf
-patternOf cut corners = maskOf (λ (c : ℕ). positive cut (sampleAt corners c)) 8
+patternOf cut corners = maskOf (λ (c : ℕ). positive cut (cornerSample corners c)) 8
 
 -- "An edge is crossed if its ends differ in sign", at a sign pattern
 abbrev pub crossed : ℕ → ℕ → Bool
@@ -56,4 +56,4 @@ crossedMask pattern = maskOf (crossed pattern) 12
 
 -- the same of a cube's samples
 abbrev pub crossedAt : Cut → List ℕ → ℕ → Bool
-crossedAt cut corners e = differ (positive cut (sampleAt corners (lower e))) (positive cut (sampleAt corners (upper e)))
+crossedAt cut corners e = differ (positive cut (cornerSample corners (lower e))) (positive cut (cornerSample corners (upper e)))

@@ -9,7 +9,7 @@ use lib.ListN.{length}
 use Rattle.laws.specs.Bits.{bit}
 use Rattle.block.specs.declared.Cut.{Cut}
 use Rattle.block.specs.Grey.{positive}
-use Rattle.cube_rule.specs.Edges.{sampleAt, patternOf, crossedMask, crossedAt}
+use Rattle.cube_rule.specs.Edges.{cornerSample, patternOf, crossedMask, crossedAt}
 use Rattle.cube_rule.specs.Faces.{ringEdge}
 use Rattle.cube_rule.specs.Links.{Decider, linkedAt}
 use Rattle.cube_rule.specs.Rule.{holders, firstHolder}
@@ -25,7 +25,7 @@ pub record CubeLaws (D : Decider) (loopsOf : Cut → List ℕ → List ℕ) : Ty
   -- at most four loops
   pub four : (cut : Cut) (cs : List ℕ) → length (loopsOf cut cs) ≤ 4
   -- equal signs: no loop
-  pub quiet : (cut : Cut) (cs : List ℕ) (s : Bool) → ((c : ℕ) → c < 8 → positive cut (sampleAt cs c) ≡ s) → loopsOf cut cs ≡ []
+  pub quiet : (cut : Cut) (cs : List ℕ) (s : Bool) → ((c : ℕ) → c < 8 → positive cut (cornerSample cs c) ≡ s) → loopsOf cut cs ≡ []
   -- one to five crossed edges: one loop, the mask itself
   pub single : (cut : Cut) (cs : List ℕ) → 1 ≤ ones (crossedMask (patternOf cut cs)) → ones (crossedMask (patternOf cut cs)) ≤ 5
       → loopsOf cut cs ≡ crossedMask (patternOf cut cs) ∷ []

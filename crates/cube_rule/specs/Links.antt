@@ -9,7 +9,7 @@ use lib.ListN.{getD}
 use Rattle.laws.specs.Bits.{bit, differ, holds}
 use Rattle.block.specs.declared.Cut.{Cut}
 use Rattle.block.specs.Grey.{positive}
-use Rattle.cube_rule.specs.Edges.{sampleAt}
+use Rattle.cube_rule.specs.Edges.{cornerSample}
 use Rattle.cube_rule.specs.Faces.{ringCorner}
 
 abbrev pub next : ℕ → ℕ
@@ -50,9 +50,9 @@ linkedBy D cut p q r s i k = linkedIf (positive cut p) (positive cut q) (positiv
 -- edges i and k of the face f of a cube
 abbrev pub linkedAt : Decider → Cut → List ℕ → ℕ → ℕ → ℕ → Bool
 linkedAt D cut corners f i k =
-    linkedBy D cut (sampleAt corners (ringCorner f 0)) (sampleAt corners (ringCorner f 1)) (sampleAt corners (ringCorner f 2)) (sampleAt corners (ringCorner f 3)) i k
+    linkedBy D cut (cornerSample corners (ringCorner f 0)) (cornerSample corners (ringCorner f 1)) (cornerSample corners (ringCorner f 2)) (cornerSample corners (ringCorner f 3)) i k
 
 -- how a cube's faces are decided
 abbrev pub decisions : Decider → Cut → List ℕ → ℕ → Bool
 decisions D cut corners f =
-    D cut (sampleAt corners (ringCorner f 0)) (sampleAt corners (ringCorner f 1)) (sampleAt corners (ringCorner f 2)) (sampleAt corners (ringCorner f 3))
+    D cut (cornerSample corners (ringCorner f 0)) (cornerSample corners (ringCorner f 1)) (cornerSample corners (ringCorner f 2)) (cornerSample corners (ringCorner f 3))

@@ -15,7 +15,7 @@ pub record Point : Type 0 where
   pub second : v + x ≡ n
 
 -- on none of the face's four edges
-pub record Inside (point : Point) : Type 0 where
+pub record InsideFace (point : Point) : Type 0 where
   pub u-some : 0 < point .u
   pub w-some : 0 < point .w
   pub v-some : 0 < point .v

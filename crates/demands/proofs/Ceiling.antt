@@ -1,30 +1,28 @@
 -- No ceiling passes: whatever answers anything but a refusal was given no sample of 65,535.
 -- Assumes nothing.
-use Prim.Native.Nat.{ℕ, _*_, _≤_, _<_}
-use mathlib.Core.Path.{_≡_, refl, sym, ap, subst, _∙_}
-use mathlib.Core.Bool.{Bool, true, false}
+use Prim.Native.Nat.{ℕ, _*_, _<_}
+use mathlib.Core.Path.{_≡_, refl, sym, ap, _∙_}
 use mathlib.Core.List.{List, [], _∷_}
 use native.Mathlib.Omega.{arith}
 use lib.Ieee.{Float}
-use lib.ListN.{length, getD, take}
+use lib.ListN.{getD, take}
 use lib.Seq.{take-at}
 use borrow.Author.Tests.{eqb-false}
 use Rattle.laws.specs.Below.{over}
 use Rattle.block.specs.declared.Refusal.{Refusal}
 use Rattle.block.specs.declared.Checked.{Checked}
 use Rattle.block.specs.declared.Checked.the-variants.{Passes, Refuses}
-use Rattle.block.specs.Answer.{Answer, accepted, refused, inOrder, judged}
-use Rattle.block.specs.Grey.{isCeiling}
-use Rattle.block.specs.Rows.{ceilingRow, thresholdRow, axisRow, countRow}
+use Rattle.block.specs.Answer.{Answer, inOrder, judged}
+use Rattle.block.specs.Grey.{isCeiling, SixteenBit}
+use Rattle.block.specs.Rows.{ceilingRow, thresholdRow, axisRow}
 use Rattle.block.proofs.Lowest.{row-clear}
 use Rattle.block.proofs.Order.{order-first, order-rest}
 use Rattle.place.specs.declared.Crossing.{Crossing}
 use Rattle.place.specs.Crossing.{saidEdge, edgeAnswer, crossing, EdgeAnswered}
 use Rattle.cell.specs.declared.CubeAnswer.{CubeAnswer}
 use Rattle.cell.specs.Answer.{saidCube, CubeAnswered}
-use Rattle.mesh_rule.specs.Grid.{Greys}
 use Rattle.mesh.specs.declared.Counted.{Counted}
-use Rattle.mesh.specs.Answer.{sizeOf, saidCounts, CountsAnswered, Meshed}
+use Rattle.mesh.specs.Answer.{saidCounts, CountsAnswered, Meshed}
 use Rattle.lines.specs.Input.{firstLineRow, linesRow, largeRow, sizeRead, cutRead, samplesRead, inputVerdict}
 use Rattle.lines.specs.Output.{refusalLine, blockText, printed, outputOf, Ran}
 use Rattle.lines.proofs.Blocks.{samples-grey}
@@ -33,7 +31,7 @@ use Rattle.demands.specs.Ceiling.{NoCeilingPasses}
 
 -- ---- row 4 passes, so no sample is at the ceiling
 
-below : (s : List ℕ) → Greys s → ceilingRow s ≡ Passes → BelowCeiling s
+below : (s : List ℕ) → SixteenBit s → ceilingRow s ≡ Passes → BelowCeiling s
 below s grey e k h = under (getD s k 0) (grey k) (eqb-false (getD s k 0) 65535 (row-clear isCeiling 4 s e k h))
   where
     under : (x : ℕ) → x < 65536 → (x ≡ 65535 → ⊥) → x < 65535
@@ -47,12 +45,12 @@ passed (Refuses r) a b e h = absurd (h r e)
 
 -- ---- the five entry points that are given samples
 
-pub edge-below : (p q t : ℕ) (r : Crossing) → EdgeAnswered p q t r → NotRefused (saidEdge r) → Greys (p ∷ q ∷ []) → BelowCeiling (p ∷ q ∷ [])
+pub edge-below : (p q t : ℕ) (r : Crossing) → EdgeAnswered p q t r → NotRefused (saidEdge r) → SixteenBit (p ∷ q ∷ []) → BelowCeiling (p ∷ q ∷ [])
 unfolding edgeAnswer
 edge-below p q t r e h grey =
     below (p ∷ q ∷ []) grey (order-first (ceilingRow (p ∷ q ∷ [])) _ (order-rest (thresholdRow (record { t = t })) _ (passed _ (crossing (record { t = t }) p q) (saidEdge r) e h)))
 
-pub cube-below : (corners : List ℕ) (t : ℕ) (r : CubeAnswer) → CubeAnswered corners t r → NotRefused (saidCube (r .found)) → Greys corners → BelowCeiling corners
+pub cube-below : (corners : List ℕ) (t : ℕ) (r : CubeAnswer) → CubeAnswered corners t r → NotRefused (saidCube (r .found)) → SixteenBit corners → BelowCeiling corners
 cube-below corners t r e h grey =
     below corners grey (order-first (ceilingRow corners) _ (order-rest (thresholdRow (record { t = t })) _ (passed _ _ (saidCube (r .found)) (e .found) h)))
 
@@ -60,11 +58,11 @@ cube-below corners t r e h grey =
 fourth : (a b c d : Checked) (ks : List Checked) → inOrder (a ∷ b ∷ c ∷ d ∷ ks) ≡ Passes → d ≡ Passes
 fourth a b c d ks e = order-first d ks (order-rest c _ (order-rest b _ (order-rest a _ e)))
 
-pub counts-below : (nx ny nz : ℕ) (s : List ℕ) (t : ℕ) (r : Counted) → CountsAnswered nx ny nz s t r → NotRefused (saidCounts r) → Greys s → BelowCeiling s
+pub counts-below : (nx ny nz : ℕ) (s : List ℕ) (t : ℕ) (r : Counted) → CountsAnswered nx ny nz s t r → NotRefused (saidCounts r) → SixteenBit s → BelowCeiling s
 counts-below nx ny nz s t r e h grey = below s grey (fourth _ _ _ (ceilingRow s) _ (passed _ _ (saidCounts r) e h))
 
 pub mesh-below : (nx ny nz : ℕ) (s : List ℕ) (t : ℕ) (w : List ℕ) (o : List Float) (q : List ℕ) (r : Counted) (w′ : List ℕ) (o′ : List Float) (q′ : List ℕ)
-    → Meshed nx ny nz s t w o q r w′ o′ q′ → NotRefused (saidCounts r) → Greys s → BelowCeiling s
+    → Meshed nx ny nz s t w o q r w′ o′ q′ → NotRefused (saidCounts r) → SixteenBit s → BelowCeiling s
 mesh-below nx ny nz s t w o q r w′ o′ q′ m h grey = below s grey (fourth _ _ _ (ceilingRow s) _ (passed _ _ (saidCounts r) (m .answer) h))
 
 -- what `run` wrote

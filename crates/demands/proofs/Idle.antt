@@ -1,7 +1,7 @@
 -- Idle versions, which the promises exclude for every block (document 01, "How much each promise says"): one that refuses all blocks, one that gives a
 -- single mesh for all blocks, one that answers and writes nothing, and one with an invented vertex or quad number. Assumes nothing.
-use Prim.Native.Nat.{ℕ, zero, suc, _+_, _*_, _-_, _≤_, _<_}
-use mathlib.Core.Path.{_≡_, refl, sym, ap, subst, _∙_}
+use Prim.Native.Nat.{ℕ, zero, suc, _*_, _<_}
+use mathlib.Core.Path.{_≡_, sym, ap, _∙_}
 use mathlib.Core.Logic.{inl, inr, ⊎-elim}
 use mathlib.Core.List.{List, [], _∷_}
 use native.Mathlib.Nat.{mul-pos}

@@ -1,11 +1,9 @@
 -- Demand 3, from two answers of `mesh`: what the buffers hold of two meshes of one size, the cube of every vertex and the quads, tells the sign of
 -- every sample off the box's twelve edges. Assumes nothing.
-use Prim.Native.Nat.{ℕ, zero, suc, _+_, _*_, _≤_, _<_}
-use mathlib.Core.Path.{_≡_, refl, sym, ap, ap₂, subst, _∙_}
+use Prim.Native.Nat.{ℕ, suc, _*_, _<_}
+use mathlib.Core.Path.{_≡_, refl, sym, ap₂, _∙_}
 use mathlib.Core.List.{List, [], _∷_}
-use native.Mathlib.Nat.{not-suc-le-zero, le-of-suc-le-suc, mul-suc, mul-zero}
 use native.Mathlib.Omega.{arith}
-use lib.Ieee.{Float}
 use lib.ListN.{length, getD}
 use lib.Seq.{ext-getD}
 use Rattle.block.specs.declared.Cut.{Cut}

@@ -1,39 +1,33 @@
 -- Demand 2, from the very promise of `mesh`: an answer that is no refusal has the counts of the mesh, and the buffers hold its vertices, offsets and
 -- quads at their front and what they held behind it. Assumes nothing.
-use Prim.Native.Nat.{ℕ, zero, suc, _+_, _*_, _≤_, _<_}
-use mathlib.Core.Path.{_≡_, refl, sym, ap, subst, _∙_}
-use mathlib.Core.List.{List, [], _∷_, _++_, List·Memᴰ, List·Memᴰ·head, List·Memᴰ·tail}
+use Prim.Native.Nat.{ℕ, zero, suc, _*_, _<_}
+use mathlib.Core.Path.{_≡_, refl, sym, ap, _∙_}
+use mathlib.Core.List.{List, [], _∷_, List·Memᴰ, List·Memᴰ·head, List·Memᴰ·tail}
 use native.Mathlib.Nat.{not-suc-le-zero, le-of-suc-le-suc}
 use native.Mathlib.Omega.{arith}
-use lib.Ieee.{Float, nan}
+use lib.Ieee.{nan}
 use lib.ListN.{length, getD, List·getD-append}
 use Rattle.laws.specs.Below.{over}
-use Rattle.laws.specs.Counting.{count}
 use Rattle.block.specs.declared.Cut.{Cut}
-use Rattle.block.specs.declared.Refusal.{Refusal}
 use Rattle.block.specs.declared.Size.{Size}
 use Rattle.block.specs.declared.Checked.{Checked}
 use Rattle.block.specs.declared.Checked.the-variants.{Passes, Refuses}
-use Rattle.block.specs.Answer.{Answer, accepted, refused, inOrder, judged}
-use Rattle.block.specs.Numbering.{Axis, X, Y, Z, sampleCount, cubeCount}
+use Rattle.block.specs.Answer.{accepted, judged}
 use Rattle.block.specs.Rows.{axisRow}
 use Rattle.block.specs.Size.{Limits}
 use Rattle.block.proofs.Order.{order-first}
 use Rattle.block.proofs.Sizes.{axes-within}
 use Rattle.cube_rule.specs.Decider.{joined, loopsOf}
 use Rattle.cube_rule.proofs.Laws.{cube-laws}
-use Rattle.place.specs.Unit.{InUnit}
 use Rattle.mesh_rule.specs.Buffers.{meshWords, meshOffsets, meshQuads}
 use Rattle.mesh_rule.specs.Mesh.{Quad, flat, vertices, quads, flatVertices}
 use Rattle.mesh_rule.proofs.Counts.{most-vertices, most-quads}
-use Rattle.mesh_rule.specs.Grid.{Greys, crossedInner}
 use Rattle.mesh_rule.proofs.Offsets.{offsets-in-unit, mesh-offsets-length}
 use Rattle.mesh_rule.proofs.Quads.{quad-count, quad-inside, Each, IsVertex}
 use Rattle.mesh_rule.proofs.Words.{words-are-vertices, mesh-words-length}
 use Rattle.mesh.specs.declared.Totals.{Totals}
-use Rattle.mesh.specs.declared.Counted.{Counted}
 use Rattle.mesh.specs.declared.Counted.the-variants as counted
-use Rattle.mesh.specs.Answer.{sizeOf, countsOf, saidCounts, meshVerdict, written, Meshed}
+use Rattle.mesh.specs.Answer.{sizeOf, countsOf, meshVerdict, written}
 use Rattle.mesh.proofs.PlaneQuads.{flat-length}
 use Rattle.demands.specs.Answers.{MeshCall}
 use Rattle.demands.specs.Given.{MeshGiven}

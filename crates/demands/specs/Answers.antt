@@ -7,7 +7,7 @@ use lib.Ieee.{Float}
 use lib.ListN.{length, getD}
 use Rattle.block.specs.declared.Refusal.{Refusal}
 use Rattle.block.specs.Answer.{Answer, accepted, refused}
-use Rattle.mesh_rule.specs.Grid.{Greys}
+use Rattle.block.specs.Grey.{SixteenBit}
 use Rattle.mesh.specs.declared.Totals.{Totals}
 use Rattle.mesh.specs.declared.Counted.{Counted}
 use Rattle.mesh.specs.Answer.{saidCounts, Meshed}
@@ -32,7 +32,7 @@ pub record MeshCall (nx ny nz : ℕ) (s : List ℕ) (t : ℕ) : Type 0 where
   pub promise : Meshed nx ny nz s t words offsets quads answer words-after offsets-after quads-after
   pub counts : Totals
   pub accepts : saidCounts answer ≡ accepted counts
-  pub greys : Greys s
+  pub greys : SixteenBit s
 
 -- two meshes as the buffers hold them: the same cube for every vertex, and the same quads
 pub record SameCubes {nx ny nz : ℕ} {s : List ℕ} {t : ℕ} {s′ : List ℕ} {t′ : ℕ} (a : MeshCall nx ny nz s t) (b : MeshCall nx ny nz s′ t′) : Type 0 where

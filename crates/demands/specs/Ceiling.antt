@@ -10,7 +10,7 @@ use Rattle.place.specs.declared.Crossing.{Crossing}
 use Rattle.place.specs.Crossing.{saidEdge, EdgeAnswered}
 use Rattle.cell.specs.declared.CubeAnswer.{CubeAnswer}
 use Rattle.cell.specs.Answer.{saidCube, CubeAnswered}
-use Rattle.mesh_rule.specs.Grid.{Greys}
+use Rattle.block.specs.Grey.{SixteenBit}
 use Rattle.mesh.specs.declared.Counted.{Counted}
 use Rattle.mesh.specs.Answer.{saidCounts, CountsAnswered, Meshed}
 use Rattle.lines.specs.Input.{sizeRead, samplesRead}
@@ -18,11 +18,11 @@ use Rattle.lines.specs.Output.{refusalLine, Ran}
 use Rattle.demands.specs.Answers.{NotRefused, BelowCeiling}
 
 pub record NoCeilingPasses : Type 0 where
-  pub edge : (p q t : ℕ) (r : Crossing) → EdgeAnswered p q t r → NotRefused (saidEdge r) → Greys (p ∷ q ∷ []) → BelowCeiling (p ∷ q ∷ [])
-  pub cube : (corners : List ℕ) (t : ℕ) (r : CubeAnswer) → CubeAnswered corners t r → NotRefused (saidCube (r .found)) → Greys corners → BelowCeiling corners
-  pub counts : (nx ny nz : ℕ) (s : List ℕ) (t : ℕ) (r : Counted) → CountsAnswered nx ny nz s t r → NotRefused (saidCounts r) → Greys s → BelowCeiling s
+  pub edge : (p q t : ℕ) (r : Crossing) → EdgeAnswered p q t r → NotRefused (saidEdge r) → SixteenBit (p ∷ q ∷ []) → BelowCeiling (p ∷ q ∷ [])
+  pub cube : (corners : List ℕ) (t : ℕ) (r : CubeAnswer) → CubeAnswered corners t r → NotRefused (saidCube (r .found)) → SixteenBit corners → BelowCeiling corners
+  pub counts : (nx ny nz : ℕ) (s : List ℕ) (t : ℕ) (r : Counted) → CountsAnswered nx ny nz s t r → NotRefused (saidCounts r) → SixteenBit s → BelowCeiling s
   pub mesh : (nx ny nz : ℕ) (s : List ℕ) (t : ℕ) (w : List ℕ) (o : List Float) (q : List ℕ) (r : Counted) (w′ : List ℕ) (o′ : List Float) (q′ : List ℕ)
-      → Meshed nx ny nz s t w o q r w′ o′ q′ → NotRefused (saidCounts r) → Greys s → BelowCeiling s
+      → Meshed nx ny nz s t w o q r w′ o′ q′ → NotRefused (saidCounts r) → SixteenBit s → BelowCeiling s
   -- the samples of the program are those that it reads; its answer is what it wrote
   pub run : (bytes out : List ℕ) (r : ℕ) (out′ : List ℕ) → Ran bytes out r out′ → ((x : Refusal) → take r out′ ≡ refusalLine x → ⊥)
       → BelowCeiling (samplesRead bytes (sizeRead bytes))

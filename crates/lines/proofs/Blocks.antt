@@ -1,42 +1,38 @@
 -- From what `mesh` answers of a block of at most 8 samples an axis to what the program prints: refusal 4, or the whole mesh.
 -- Assumes nothing.
-use Prim.Native.Nat.{ℕ, zero, suc, _+_, _*_, _/_, _%_, _≤_, _<_}
+use Prim.Native.Nat.{ℕ, _*_, _≤_, _<_}
 use mathlib.Core.Path.{_≡_, refl, sym, ap, subst, _∙_}
 use mathlib.Core.Logic.{_⊎_, inl, inr}
-use mathlib.Core.Bool.{not}
-use mathlib.Core.List.{List, [], _∷_, _++_}
+use mathlib.Core.List.{List, [], _∷_}
 use native.Mathlib.Nat.{mul-le-mul}
 use native.Mathlib.Omega.{arith}
-use lib.Dec.{T}
-use lib.Ieee.{Float, isNan, nan}
+use lib.Ieee.{Float}
 use lib.ListN.{length, getD, take, List·getD-eq-default}
 use lib.Seq.{take-at}
 use Rattle.laws.specs.Below.{below, over}
-use Rattle.laws.proofs.Over.{each, each-length, each-at, over-length}
+use Rattle.laws.proofs.Over.{each, each-length, each-at}
 use Rattle.laws.proofs.Tests.{lt-or-ge}
 use Rattle.block.specs.declared.Cut.{Cut}
 use Rattle.block.specs.declared.Size.{Size}
 use Rattle.block.specs.declared.Refusal.{Refusal}
 use Rattle.block.specs.declared.Checked.{Checked}
 use Rattle.block.specs.declared.Checked.the-variants.{Passes, Refuses}
-use Rattle.block.specs.Answer.{Answer, accepted, refused, inOrder, judged}
+use Rattle.block.specs.Answer.{accepted, refused, inOrder, judged}
 use Rattle.block.specs.Numbering.{sampleCount}
 use Rattle.block.specs.Rows.{axisRow, countRow, thresholdRow, ceilingRow}
-use Rattle.block.specs.Size.{Limits}
 use Rattle.block.proofs.Order.{order-passes}
 use Rattle.block.proofs.Rows.{count-passes}
 use Rattle.mesh_rule.specs.Buffers.{meshWords, meshOffsets, meshQuads}
-use Rattle.mesh_rule.specs.Grid.{Greys}
+use Rattle.block.specs.Grey.{SixteenBit}
 use Rattle.mesh_rule.proofs.Offsets.{offsets-in-unit, mesh-offsets-length}
 use Rattle.mesh_rule.proofs.Words.{mesh-words-length}
 use Rattle.mesh_rule.proofs.Small.{few-vertices, few-quads}
 use Rattle.mesh.specs.declared.Totals.{Totals}
 use Rattle.mesh.specs.declared.Counted.{Counted}
 use Rattle.mesh.specs.declared.Counted.the-variants as counted
-use Rattle.mesh.specs.Answer.{sizeOf, vertexCount, quadCount, countsOf, vertexRow, quadRow, meshVerdict, written, MeshedBy, Meshed}
+use Rattle.mesh.specs.Answer.{sizeOf, vertexCount, quadCount, countsOf, meshVerdict, written, Meshed}
 use Rattle.mesh.proofs.RoomRows.{roomy}
 use Rattle.mesh.proofs.Writings.{quads-all-length}
-use Rattle.lines.specs.Text.{numberAt}
 use Rattle.lines.specs.Input.{sampleRead, samplesRead}
 use Rattle.lines.specs.Output.{refusalLine, meshText, blockText, printed}
 use Rattle.lines.specs.Steps.{Numbers, Readable}
@@ -60,7 +56,7 @@ module _ (bytes : List ℕ) (n : Size) where
   unfolding samplesRead
   samples-length = each-length (sampleRead bytes (n .nx)) (sampleCount n)
 
-  pub samples-grey : Greys (samplesRead bytes n)
+  pub samples-grey : SixteenBit (samplesRead bytes n)
   unfolding samplesRead
   samples-grey i = go (lt-or-ge i (sampleCount n))
     where
@@ -161,7 +157,7 @@ module _ (nx ny nz t : ℕ) (s w : List ℕ) (o : List Float) (q : List ℕ) (r 
     unfolding printed
     accepted-text = rw (words-are, offsets-are, quad-numbers-are, vertices-are, quads-are, sym is-ceiling ∙ both .0)
 
-    pub accepted-front : Greys s → Front size s cut w′ o′ q′ c
+    pub accepted-front : SixteenBit s → Front size s cut w′ o′ q′ c
     accepted-front grey = record {
       few = (omega (arith, vertices-are, few-v), omega (arith, quads-are, few-q));
       numbers = subst Numbers (sym offsets-are) (λ (k : ℕ) h. offsets-in-unit size s cut grey k h .number);

@@ -7,11 +7,9 @@ use mathlib.Core.Bool.{Bool, cond}
 use mathlib.Core.List.{List, [], _∷_}
 use native.Mathlib.Nat.{mul-le-mul, div-lt-iff-lt-mul, mod-lt, zero-mul, not-suc-le-zero, mul-comm}
 use native.Mathlib.Omega.{arith}
-use lib.Dec.{ltb, eqb}
-use lib.ListN.{length, getD, take}
+use lib.Dec.{eqb}
+use lib.ListN.{take}
 use lib.Seq.{getD-take}
-use Rattle.laws.specs.Below.{below}
-use Rattle.laws.specs.Leading.{leading}
 use Rattle.laws.proofs.Below.{below-same}
 use Rattle.laws.proofs.Leading.{leading-same}
 use Rattle.laws.proofs.Tests.{lt-or-ge}
@@ -22,11 +20,11 @@ use Rattle.block.specs.declared.Checked.{Checked}
 use Rattle.block.specs.declared.Checked.the-variants.{Passes, Refuses}
 use Rattle.block.specs.Answer.{inOrder, refuses}
 use Rattle.block.specs.Numbering.{sampleCount}
-use Rattle.block.specs.Rows.{axisRow, thresholdRow, ceilingRow}
+use Rattle.block.specs.Rows.{axisRow}
 use Rattle.lines.specs.Text.{ended, readAt, digitOf, numberAt, rightByte, rightBytes, lineRight}
-use Rattle.lines.specs.Input.{rowPlace, lineThere, rightLines, firstLineRow, linesRow, largeRow, sampleRead, samplesRead, sizeRead, cutRead, verdictOn, inputVerdict}
-use Rattle.lines.specs.Output.{blockText, printed, outputOf, refusalLine}
-use Rattle.lines.proofs.Axes.{AtMostEight, at-most-eight}
+use Rattle.lines.specs.Input.{rowPlace, lineThere, rightLines, firstLineRow, linesRow, largeRow, sampleRead, samplesRead, sizeRead, cutRead, verdictOn}
+use Rattle.lines.specs.Output.{blockText, printed, outputOf}
+use Rattle.lines.proofs.Axes.{at-most-eight}
 use Rattle.lines.proofs.Reading.{rows-small, there-row, there-end}
 
 -- a row of at most 8 samples and its LF, of at most 64 rows

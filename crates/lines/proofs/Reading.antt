@@ -1,18 +1,16 @@
 -- Reading a place of the input, and the first wrong byte of a line and the first wrong line as loops find them.
 -- Assumes nothing.
 use Prim.Native.Nat.{ℕ, zero, suc, _+_, _*_, _/_, _%_, _≤_, _<_}
-use mathlib.Core.Path.{_≡_, refl, sym, ap, ap₂, _∙_}
-use mathlib.Core.Bool.{Bool, true, false, cond}
+use mathlib.Core.Path.{_≡_, refl, sym, ap, _∙_}
+use mathlib.Core.Bool.{Bool, false}
 use mathlib.Core.List.{List, [], _∷_}
 use native.Mathlib.Nat.{not-suc-le-zero, le-of-suc-le-suc, mul-le-mul, div-le-self, mod-lt}
 use native.Mathlib.Omega.{arith}
-use lib.Dec.{ltb, eqb}
+use lib.Dec.{eqb}
 use lib.ListN.{length, getD}
 use borrow.Author.Tests.{lt-ltb, le-ltb, eq-eqb, ne-eqb}
-use Rattle.laws.proofs.Leading.{HoldsTo, leading-le, leading-at, leading-all}
-use Rattle.block.specs.declared.Checked.{Checked}
+use Rattle.laws.proofs.Leading.{HoldsTo, leading-at, leading-all}
 use Rattle.block.specs.declared.Checked.the-variants.{Passes, Refuses}
-use Rattle.block.specs.Answer.{refuses}
 use Rattle.block.proofs.Rows.{given-small}
 use Rattle.lines.specs.Text.{LF, ended, readAt, digitOf, isDigit, numberAt, rightByte, rightBytes, lineRight}
 use Rattle.lines.specs.Input.{rowPlace, lineThere, rightLines, firstLineRow, linesRow}

@@ -3,20 +3,18 @@
 use Prim.Native.Nat.{ℕ, zero, suc, _+_, _*_, _/_, _%_, _^_, _≤_, _<_}
 use mathlib.Core.Path.{_≡_, refl, sym, ap, ap₂, _∙_}
 use mathlib.Core.Logic.{_↔_}
-use mathlib.Core.Bool.{Bool, true, false}
+use mathlib.Core.Bool.{true}
 use mathlib.Core.List.{List, [], _∷_, _++_}
 use native.Mathlib.Nat.{zero-add, mod-lt, div-lt-iff-lt-mul, pow-suc}
-use native.Mathlib.Numerals.{add-one}
 use native.Mathlib.Omega.{arith}
-use lib.Dec.{eqb}
-use lib.ListN.{length, getD, List·getD-append}
+use lib.ListN.{length, List·getD-append}
 use lib.Seq.{getD-at}
 use borrow.Author.Tests.{eqb-true, eq-eqb}
 use Rattle.laws.specs.Leading.{leading}
-use Rattle.laws.proofs.Leading.{leading-holds, leading-all, HoldsTo, holds-more}
+use Rattle.laws.proofs.Leading.{leading-holds, leading-all, holds-more}
 use Rattle.block.specs.Answer.{inOrder}
 use Rattle.block.specs.Rows.{lowest}
-use Rattle.lines.specs.Text.{digits, glyph, LF, ended, readAt, digitOf, isDigit, numberAt, rightByte, rightBytes, lineRight, hexOf}
+use Rattle.lines.specs.Text.{digits, glyph, LF, ended, readAt, digitOf, isDigit, numberAt, rightBytes, lineRight, hexOf}
 use Rattle.lines.specs.Output.{refusalLine, outputOf, printed}
 use Rattle.lines.proofs.Digits.{digit-back}
 use Rattle.lines.proofs.Reading.{rightAt, right-digit, right-end}

@@ -1,13 +1,12 @@
 -- Each kind of line, from the puts that write it, and its length; the lines of a whole mesh.
 -- Assumes nothing.
-use Prim.Native.Nat.{ℕ, zero, suc, _+_, _*_, _≤_, _<_}
-use mathlib.Core.Path.{_≡_, refl, sym, ap, _∙_}
+use Prim.Native.Nat.{ℕ, zero, suc, _+_, _*_}
+use mathlib.Core.Path.{_≡_, _∙_}
 use mathlib.Core.List.{List, [], _∷_, _++_}
 use native.Mathlib.Nat.{mul-zero, mul-suc}
 use native.Mathlib.Numerals.{add-one}
-use native.Mathlib.Omega.{arith}
-use lib.ListN.{length, getD, length-append}
-use lib.Ieee.{Float, nan, toBits, binary64}
+use lib.ListN.{length, length-append}
+use lib.Ieee.{Float, toBits, binary64}
 use Rattle.laws.specs.Below.{below}
 use Rattle.block.specs.declared.Refusal.{Refusal}
 use Rattle.closed.specs.Closed.{findingOf}

@@ -1,15 +1,14 @@
 -- Texts put one behind the other, and a number digit by digit.
 -- Assumes nothing.
-use Prim.Native.Nat.{ℕ, zero, suc, _+_, _*_, _-_, _/_, _%_, _^_, _≤_, _<_}
-use mathlib.Core.Path.{_≡_, refl, sym, ap, ap₂, _∙_}
+use Prim.Native.Nat.{ℕ, zero, suc, _+_, _-_, _/_, _%_, _^_, _≤_}
+use mathlib.Core.Path.{_≡_, refl, sym, ap, _∙_}
 use mathlib.Core.List.{List, [], _∷_, _++_}
 use native.Mathlib.Nat.{add-zero, sub-self, div-one}
 use native.Mathlib.Numerals.{add-one}
 use native.Mathlib.Omega.{arith}
 use lib.ListN.{length, set, length-append}
 use lib.Pow.{shr-shr}
-use lib.Seq.{sets}
-use Rattle.laws.proofs.Stores.{sets-append, sets-join, sets-length, sets-over}
+use Rattle.laws.proofs.Stores.{sets-join, sets-length, sets-over}
 use Rattle.laws.specs.Below.{over}
 use Rattle.lines.specs.Text.{glyph, hexOf}
 use Rattle.lines.specs.Steps.{Put}

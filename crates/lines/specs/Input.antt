@@ -9,7 +9,7 @@ use Rattle.laws.specs.Leading.{leading}
 use Rattle.block.specs.declared.Cut.{Cut}
 use Rattle.block.specs.declared.Size.{Size}
 use Rattle.block.specs.declared.Checked.{Checked}
-use Rattle.block.specs.declared.Checked.the-variants.{Passes, Refuses}
+use Rattle.block.specs.declared.Checked.the-variants.{Passes}
 use Rattle.block.specs.Answer.{refuses, inOrder}
 use Rattle.block.specs.Numbering.{sampleCount}
 use Rattle.block.specs.Rows.{lowestRow, axisRow, thresholdRow, ceilingRow}

@@ -24,7 +24,7 @@ ghost use Rattle.lines.specs.Text.{glyph as glyphOf};
 ghost use Rattle.lines.specs.Input.{lineThere, rightLines, firstLineRow, linesRow, largeRow, sampleRead, samplesRead};
 ghost use Rattle.closed.specs.Closed.{findingOf};
 ghost use Rattle.mesh.specs.Answer.{sizeOf};
-ghost use Rattle.mesh_rule.specs.Grid.{Greys};
+ghost use Rattle.block.specs.Grey.{SixteenBit};
 ghost use Rattle.lines.specs.Output.{refusalLine, headLine, vertexLine, quadLine, vertexLineOf, quadLineOf, closedField, meshText, blockText, printed, Ran};
 ghost use Rattle.lines.specs.Steps.{Put, Numbers, Readable};
 
@@ -422,7 +422,7 @@ fn put_front(out: &mut [u8], totals: Totals, words: &[u32], offsets: &[f64], qua
 
 // The mesh of a block of at most 8 samples an axis, or refusal 4.
 fn put_block(out: &mut [u8], nx: u32, ny: u32, nz: u32, samples: &[u16], t: u16) -> usize
-    requires { ⌜ Readable nx ny nz t × (length (now samples) ≡ nx * (ny * nz)) × Greys (now samples) ⌝ }
+    requires { ⌜ Readable nx ny nz t × (length (now samples) ≡ nx * (ny * nz)) × SixteenBit (now samples) ⌝ }
     requires { ⌜ 112917 ≤ length (now out) ⌝ }
     ensures { λ r. ⌜ Put (now (out .entry)) 0 (printed (ceilingRow (now (samples .entry))) (blockText (sizeOf nx ny nz) (now (samples .entry)) (record { t = t }))) (now (out .exit)) r ⌝ }
 {

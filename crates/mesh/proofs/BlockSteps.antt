@@ -11,7 +11,7 @@ use Rattle.block.specs.declared.Size.{Size}
 use Rattle.block.specs.Numbering.{Axis, X, Y, sampleCount}
 use Rattle.cube_rule.specs.Decider.{loopsOf}
 use Rattle.mesh_rule.specs.Mesh.{quadsBefore}
-use Rattle.mesh_rule.specs.Buffers.{layerCount}
+use Rattle.mesh_rule.specs.Layers.{layerCount}
 use Rattle.mesh.specs.declared.Marks.{Marks}
 use Rattle.mesh.specs.declared.Tally.{Tally}
 use Rattle.mesh.specs.Steps.{quadsTo, Tallied}

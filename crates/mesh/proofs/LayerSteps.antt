@@ -13,7 +13,8 @@ use Rattle.block.specs.declared.Cut.{Cut}
 use Rattle.block.specs.declared.Size.{Size}
 use Rattle.block.specs.Numbering.{X, Y, Z, sampleCount}
 use Rattle.laws.specs.Below.{below}
-use Rattle.mesh_rule.specs.Buffers.{layerSize, planeSize, cubeWords, cubeOffsets, layerWords, layerCount, layerFirst, planeQuads, meshQuads}
+use Rattle.mesh_rule.specs.Buffers.{cubeWords, cubeOffsets, meshQuads}
+use Rattle.mesh_rule.specs.Layers.{layerSize, planeSize, layerWords, layerCount, layerFirst, planeQuads}
 use Rattle.cube_rule.specs.Decider.{joined, loopsOf}
 use Rattle.cube_rule.proofs.Laws.{cube-laws}
 use Rattle.mesh_rule.proofs.Counts.{most-vertices}

@@ -18,7 +18,8 @@ use Rattle.place.specs.Place.{placeOf}
 use Rattle.cell.specs.Answer.{wordOf}
 use Rattle.mesh_rule.specs.Grid.{cornersOf}
 use Rattle.mesh_rule.specs.Mesh.{verticesOf, verticesBefore, vertices, cubeLoops}
-use Rattle.mesh_rule.specs.Buffers.{pairs, triples, layerSize, cubeWords, cubeOffsets, layerWords, layerOffsets, layerCount, layerFirst, meshWords, meshOffsets}
+use Rattle.mesh_rule.specs.Buffers.{pairs, triples, cubeWords, cubeOffsets, meshWords, meshOffsets}
+use Rattle.mesh_rule.specs.Layers.{layerSize, layerWords, layerOffsets, layerCount, layerFirst}
 use Rattle.mesh_rule.proofs.Numbers.{one-for-each-loop}
 
 -- one layer of l more

@@ -15,7 +15,8 @@ use Rattle.block.specs.Numbering.{Axis, X, Y, Z, sampleCount}
 use Rattle.cube_rule.specs.Decider.{loopsOf}
 use Rattle.mesh_rule.specs.Grid.{metal, inner, crossedFrom, crossedInner}
 use Rattle.mesh_rule.specs.Mesh.{Quad, turned, flat, around, quadAt, quadsBefore, quads}
-use Rattle.mesh_rule.specs.Buffers.{planeSize, quadsFrom, planeQuads, meshQuads}
+use Rattle.mesh_rule.specs.Buffers.{meshQuads}
+use Rattle.mesh_rule.specs.Layers.{planeSize, quadsFrom, planeQuads}
 use Rattle.mesh_rule.proofs.Quads.{quads-along, quad-count}
 use Rattle.mesh.specs.Writes.{quadsUpTo}
 use Rattle.mesh.proofs.Layers.{layer-next, length-scaled}

@@ -10,7 +10,7 @@ use lib.Seq.{sets}
 use Rattle.block.specs.declared.Cut.{Cut}
 use Rattle.block.specs.declared.Size.{Size}
 use Rattle.block.specs.Numbering.{X, Y, Z}
-use Rattle.mesh_rule.specs.Buffers.{planeQuads}
+use Rattle.mesh_rule.specs.Layers.{planeQuads}
 use Rattle.mesh_rule.specs.Grid.{between}
 use Rattle.quads.specs.Writing.{TwoLayers, OneLayer, Wrote}
 use Rattle.mesh.specs.declared.Marks.{Marks}

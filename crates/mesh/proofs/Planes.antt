@@ -16,7 +16,7 @@ use Rattle.block.specs.declared.Cut.{Cut}
 use Rattle.block.specs.declared.Size.{Size}
 use Rattle.block.specs.Numbering.{Axis, X, Y, Z, sampleCount}
 use Rattle.mesh_rule.specs.Grid.{inner, crossedFrom, between, crossedInner}
-use Rattle.mesh_rule.specs.Buffers.{planeSize}
+use Rattle.mesh_rule.specs.Layers.{planeSize}
 
 -- the plane of a sample, by its index
 pub plane-of : (w h k p : ℕ) → p < w * h → (w * h * k + p) / w / h ≡ k

@@ -12,7 +12,7 @@ use Rattle.block.specs.Numbering.{Axis, X, Y, Z, sampleCount}
 use Rattle.block.specs.Size.{Limits}
 use Rattle.cube_rule.specs.Decider.{joined, loopsOf}
 use Rattle.cube_rule.proofs.Laws.{cube-laws}
-use Rattle.mesh_rule.specs.Buffers.{planeSize, layerCount, layerFirst}
+use Rattle.mesh_rule.specs.Layers.{planeSize, layerCount, layerFirst}
 use Rattle.mesh_rule.proofs.Counts.{most-vertices, most-quads}
 use Rattle.mesh_rule.specs.Grid.{crossedInner}
 use Rattle.mesh_rule.proofs.Quads.{quads-along, quad-count}

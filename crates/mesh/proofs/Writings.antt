@@ -17,7 +17,8 @@ use Rattle.block.specs.declared.Size.{Size}
 use Rattle.block.specs.Numbering.{Axis, X, Y, Z, sampleCount, cubeCount}
 use Rattle.cube_rule.specs.Decider.{loopsOf}
 use Rattle.mesh_rule.specs.Mesh.{verticesBefore, vertices, quads}
-use Rattle.mesh_rule.specs.Buffers.{layerSize, planeSize, cubeWords, cubeOffsets, layerWords, layerOffsets, layerCount, layerFirst, quadsFrom, planeQuads, meshWords, meshOffsets, meshQuads}
+use Rattle.mesh_rule.specs.Buffers.{cubeWords, cubeOffsets, meshWords, meshOffsets, meshQuads}
+use Rattle.mesh_rule.specs.Layers.{layerSize, planeSize, layerWords, layerOffsets, layerCount, layerFirst, quadsFrom, planeQuads}
 use Rattle.mesh.specs.declared.Marks.{Marks}
 use Rattle.mesh.specs.Answer.{vertexCount, quadCount}
 use Rattle.mesh.specs.Writes.{quadsUpTo, startY, startZ, Writing, Roomy}

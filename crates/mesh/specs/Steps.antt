@@ -10,7 +10,7 @@ use Rattle.block.specs.Numbering.{Axis, X, Y, Z, sampleCount}
 use Rattle.block.specs.Size.{Limits}
 use Rattle.cube_rule.specs.Decider.{loopsOf}
 use Rattle.mesh_rule.specs.Mesh.{quadsBefore}
-use Rattle.mesh_rule.specs.Buffers.{planeSize, layerFirst}
+use Rattle.mesh_rule.specs.Layers.{planeSize, layerFirst}
 use Rattle.mesh.specs.declared.Tally.{Tally}
 use Rattle.mesh.specs.Answer.{vertexCount}
 

@@ -11,7 +11,8 @@ use Rattle.laws.specs.Below.{below, over}
 use Rattle.block.specs.declared.Cut.{Cut}
 use Rattle.block.specs.declared.Size.{Size}
 use Rattle.block.specs.Numbering.{Axis, X, Y, Z, sampleCount}
-use Rattle.mesh_rule.specs.Buffers.{layerSize, planeSize, cubeWords, cubeOffsets, layerWords, layerOffsets, layerCount, layerFirst, quadsFrom, planeQuads, meshWords, meshOffsets, meshQuads}
+use Rattle.mesh_rule.specs.Buffers.{cubeWords, cubeOffsets, meshWords, meshOffsets, meshQuads}
+use Rattle.mesh_rule.specs.Layers.{layerSize, planeSize, layerWords, layerOffsets, layerCount, layerFirst, quadsFrom, planeQuads}
 use Rattle.signs.specs.Signs.{Plane}
 use Rattle.quads.specs.Writing.{Accepted}
 use Rattle.mesh.specs.declared.Marks.{Marks}

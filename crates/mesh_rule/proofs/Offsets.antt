@@ -16,10 +16,11 @@ use Rattle.block.specs.Numbering.{sampleIndex, cubeCount}
 use Rattle.cube_rule.specs.Decider.{loopsOf}
 use Rattle.place.specs.declared.Offset.{Offset}
 use Rattle.place.specs.Place.{placeOf}
-use Rattle.place.specs.Unit.{InUnit, Inside, Grey}
+use Rattle.place.specs.Unit.{InUnit, Inside}
+use Rattle.block.specs.Grey.{SixteenBit}
 use Rattle.place.proofs.Bounds.{place-in-unit}
 use Rattle.cell.proofs.Answers.{loop-crossed}
-use Rattle.mesh_rule.specs.Grid.{Greys, cornersAt, cornersOf}
+use Rattle.mesh_rule.specs.Grid.{cornersAt, cornersOf}
 use Rattle.mesh_rule.specs.Mesh.{verticesOf, verticesBefore, vertices, cubeLoops}
 use Rattle.mesh_rule.specs.Buffers.{triples, cubeOffsets, meshOffsets}
 use Rattle.mesh_rule.proofs.Numbers.{one-for-each-loop}
@@ -27,18 +28,18 @@ use Rattle.mesh_rule.proofs.Numbers.{one-for-each-loop}
 -- ---- the corners of a cube are samples
 
 -- what is read from the samples at any places
-read-grey : (s : List ℕ) → Greys s → (ps : List ℕ) → Grey (map (λ (p : ℕ). getD s p 0) ps)
+read-grey : (s : List ℕ) → SixteenBit s → (ps : List ℕ) → SixteenBit (map (λ (p : ℕ). getD s p 0) ps)
 read-grey s g [] c = omega arith
 read-grey s g (p ∷ ps) zero = g p
 read-grey s g (p ∷ ps) (suc c) = read-grey s g ps c
 
-at-grey : (n : Size) (s : List ℕ) → Greys s → (i j k : ℕ) → Grey (cornersAt n s i j k)
+at-grey : (n : Size) (s : List ℕ) → SixteenBit s → (i j k : ℕ) → SixteenBit (cornersAt n s i j k)
 at-grey n s g i j k =
     read-grey s g
     (sampleIndex n i j k ∷ sampleIndex n (i + 1) j k ∷ sampleIndex n i (j + 1) k ∷ sampleIndex n (i + 1) (j + 1) k
     ∷ sampleIndex n i j (k + 1) ∷ sampleIndex n (i + 1) j (k + 1) ∷ sampleIndex n i (j + 1) (k + 1) ∷ sampleIndex n (i + 1) (j + 1) (k + 1) ∷ [])
 
-corners-grey : (n : Size) (s : List ℕ) → Greys s → (c : ℕ) → Grey (cornersOf n s c)
+corners-grey : (n : Size) (s : List ℕ) → SixteenBit s → (c : ℕ) → SixteenBit (cornersOf n s c)
 unfolding cornersOf
 corners-grey n s g c = at-grey n s g (c % (n .nx - 1)) (c / (n .nx - 1) % (n .ny - 1)) (c / (n .nx - 1) / (n .ny - 1))
 
@@ -54,14 +55,14 @@ triples-in-unit f (m ∷ ms) h (suc (suc (suc k))) l = triples-in-unit f ms (λ 
 
 module _ (n : Size) (s : List ℕ) (cut : Cut) where
   -- of one cube
-  cube-in-unit : Greys s → (c k : ℕ) → k < length (cubeOffsets n s cut c) → InUnit (getD (cubeOffsets n s cut c) k nan)
+  cube-in-unit : SixteenBit s → (c k : ℕ) → k < length (cubeOffsets n s cut c) → InUnit (getD (cubeOffsets n s cut c) k nan)
   unfolding cubeOffsets
   cube-in-unit g c =
       triples-in-unit (placeOf cut (cornersOf n s c)) (cubeLoops loopsOf n s cut c)
       (λ m d. place-in-unit cut (cornersOf n s c) m (corners-grey n s g c) (loop-crossed cut (cornersOf n s c) m d))
 
   -- of the whole mesh
-  pub offsets-in-unit : Greys s → (k : ℕ) → k < length (meshOffsets n s cut) → InUnit (getD (meshOffsets n s cut) k nan)
+  pub offsets-in-unit : SixteenBit s → (k : ℕ) → k < length (meshOffsets n s cut) → InUnit (getD (meshOffsets n s cut) k nan)
   unfolding meshOffsets
   offsets-in-unit g k h =
       let r = split (cubeOffsets n s cut) (cubeCount n) k h in

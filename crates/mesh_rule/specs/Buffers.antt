@@ -1,19 +1,18 @@
 -- What the lent buffers hold of a mesh, whole and layer by layer (document 01, "The mesh"): "A vertex takes two u32 (cube number, mask) in
 -- one buffer and three f64 in another", four u32 a quad. Layer k has the cubes (i,j,k), plane k the samples (i,j,k). Assumes nothing.
-use Prim.Native.Nat.{ℕ, _+_, _*_, _-_, _/_, _%_}
+use Prim.Native.Nat.{ℕ}
 use mathlib.Core.List.{List, [], _∷_, map}
-use lib.ListN.{length}
 use lib.Ieee.{Float}
 use Rattle.laws.specs.Below.{below}
 use Rattle.block.specs.declared.Cut.{Cut}
 use Rattle.block.specs.declared.Size.{Size}
-use Rattle.block.specs.Numbering.{Axis, cubeCount, sampleCount}
+use Rattle.block.specs.Numbering.{cubeCount}
 use Rattle.cube_rule.specs.Decider.{loopsOf}
 use Rattle.place.specs.declared.Offset.{Offset}
 use Rattle.place.specs.Place.{placeOf}
 use Rattle.cell.specs.Answer.{wordOf}
 use Rattle.mesh_rule.specs.Grid.{cornersOf}
-use Rattle.mesh_rule.specs.Mesh.{cubeLoops, verticesBefore, quadAt, quads, flat}
+use Rattle.mesh_rule.specs.Mesh.{cubeLoops, quads, flat}
 
 -- a cube number before each word, and the three coordinates of each offset
 abbrev pub pairs : ℕ → List ℕ → List ℕ
@@ -24,20 +23,6 @@ abbrev pub triples : List Offset → List Float
 triples [] = []
 triples (o ∷ os) = o .x ∷ o .y ∷ o .z ∷ triples os
 
--- how many cubes a layer has, and how many samples a plane
-abbrev pub layerSize : Size → ℕ
-layerSize n = (n .nx - 1) * (n .ny - 1)
-
-abbrev pub planeSize : Size → ℕ
-planeSize n = n .nx * n .ny
-
--- the number of the cube (0,y,z), and the index of the sample (0,y,z)
-abbrev pub rowCube : ℕ → ℕ → ℕ → ℕ → ℕ
-rowCube nx ny y z = (nx - 1) * (y + (ny - 1) * z)
-
-abbrev pub rowSample : ℕ → ℕ → ℕ → ℕ → ℕ
-rowSample nx ny y z = nx * (y + ny * z)
-
 module _ (n : Size) (s : List ℕ) (cut : Cut) where
   -- what the vertex buffers hold of the cube c
   unfoldable pub cubeWords : ℕ → List ℕ
@@ -45,39 +30,6 @@ module _ (n : Size) (s : List ℕ) (cut : Cut) where
 
   unfoldable pub cubeOffsets : ℕ → List Float
   cubeOffsets c = triples (map (placeOf cut (cornersOf n s c)) (cubeLoops loopsOf n s cut c))
-
-  -- of the m cubes from c on
-  abbrev pub runMasks : ℕ → ℕ → List ℕ
-  runMasks c m = below (λ (x : ℕ). cubeLoops loopsOf n s cut (c + x)) m
-
-  abbrev pub runWords : ℕ → ℕ → List ℕ
-  runWords c m = below (λ (x : ℕ). cubeWords (c + x)) m
-
-  abbrev pub runOffsets : ℕ → ℕ → List Float
-  runOffsets c m = below (λ (x : ℕ). cubeOffsets (c + x)) m
-
-  -- of the layer k: its words, its offsets, how many vertices it has, and the number of its first vertex
-  abbrev pub layerWords : ℕ → List ℕ
-  layerWords k = runWords (layerSize n * k) (layerSize n)
-
-  abbrev pub layerOffsets : ℕ → List Float
-  layerOffsets k = runOffsets (layerSize n * k) (layerSize n)
-
-  abbrev pub layerCount : ℕ → ℕ
-  layerCount k = length (runMasks (layerSize n * k) (layerSize n))
-
-  abbrev pub layerFirst : ℕ → ℕ
-  layerFirst k = length (verticesBefore loopsOf n s cut (layerSize n * k))
-
-  -- what the quad buffer holds of the edges along an axis whose lower samples are the m from index p on, and of those on the plane k
-  abbrev pub quadsFrom : Axis → ℕ → List ℕ
-  quadsFrom a p = flat (quadAt loopsOf n s cut a (p % n .nx) (p / n .nx % n .ny) (p / n .nx / n .ny))
-
-  abbrev pub runQuads : Axis → ℕ → ℕ → List ℕ
-  runQuads a p m = below (λ (x : ℕ). quadsFrom a (p + x)) m
-
-  abbrev pub planeQuads : Axis → ℕ → List ℕ
-  planeQuads a k = runQuads a (planeSize n * k) (planeSize n)
 
   -- the whole buffers
   unfoldable pub meshWords : List ℕ

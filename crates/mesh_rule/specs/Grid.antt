@@ -1,6 +1,6 @@
 -- A block of samples: signs, the corners of its cubes, its edges and which of them are inner and crossed (document 01, "The block and
 -- its numbering" and "The mesh"). `n` is the size, `s` the samples. Assumes nothing.
-use Prim.Native.Nat.{ℕ, _+_, _*_, _-_, _/_, _%_, _≤_, _<_}
+use Prim.Native.Nat.{ℕ, _+_, _-_, _/_, _%_, _≤_, _<_}
 use mathlib.Core.Path.{_≡_}
 use mathlib.Core.Bool.{Bool, false, _&&_, _||_}
 use mathlib.Core.List.{List, [], _∷_}
@@ -11,10 +11,6 @@ use Rattle.block.specs.declared.Cut.{Cut}
 use Rattle.block.specs.declared.Size.{Size}
 use Rattle.block.specs.Grey.{positive}
 use Rattle.block.specs.Numbering.{Axis, X, Y, Z, sampleIndex}
-
--- "Samples are 16-bit"
-abbrev pub Greys : List ℕ → Type 0
-Greys s = (i : ℕ) → getD s i 0 < 65536
 
 -- the sample (i,j,k), and whether it is positive (metal)
 abbrev pub sampleAt : Size → List ℕ → ℕ → ℕ → ℕ → ℕ

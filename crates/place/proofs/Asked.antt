@@ -18,7 +18,7 @@ use Rattle.block.specs.Answer.{refuses, inOrder}
 use Rattle.block.specs.Grey.{isCeiling, noThreshold}
 use Rattle.block.specs.Rows.{thresholdRow, ceilingRow}
 use Rattle.block.proofs.Lowest.{row-clear}
-use Rattle.cube_rule.specs.Edges.{lower, upper, sampleAt}
+use Rattle.cube_rule.specs.Edges.{lower, upper, cornerSample}
 use Rattle.place.specs.declared.Crossing.{Crossing}
 use Rattle.place.specs.declared.Crossing.the-variants.{Nothing, At, Refused}
 use Rattle.place.specs.Crossing.{edgeAnswer, EdgeAnswered}
@@ -49,24 +49,24 @@ module _ (cut : Cut) (corners : List ℕ) (passes : inOrder (thresholdRow cut �
       go false (Refuses r) h = let z : _≡_ {A = ℕ} 0 1 = cc in absurd (omega arith)
 
   -- row 4 passes the sample at each corner
-  pub passed-sample : (c : ℕ) → isCeiling (sampleAt corners c) ≡ false
+  pub passed-sample : (c : ℕ) → isCeiling (cornerSample corners c) ≡ false
   passed-sample c = go (lt-or-ge c (length corners))
     where
-      go : (c < length corners) ⊎ (length corners ≤ c) → isCeiling (sampleAt corners c) ≡ false
+      go : (c < length corners) ⊎ (length corners ≤ c) → isCeiling (cornerSample corners c) ≡ false
       go (inl l) = row-clear isCeiling 4 corners passed-row c l
       go (inr g) = ap isCeiling (List·getD-eq-default corners 0 g)
 
 module _ (cut : Cut) (corners : List ℕ) (e : ℕ) (asked : Fractional cut corners e) where
   -- the promise of `edge`, asked at the edge's ends, leaves one answer
-  pub edge-at : (l u : ℕ) → l ≡ lower e → u ≡ upper e → (r : Crossing) → EdgeAnswered (sampleAt corners l) (sampleAt corners u) (cut .t) r
+  pub edge-at : (l u : ℕ) → l ≡ lower e → u ≡ upper e → (r : Crossing) → EdgeAnswered (cornerSample corners l) (cornerSample corners u) (cut .t) r
       → r ≡ At (fractionAt cut corners e)
   unfolding fractionAt
   edge-at l u is-lower is-upper r said =
       said-edge-injective r (At (fractionAt cut corners e))
       (said
-      ∙ ap (λ (c : ℕ). edgeAnswer (sampleAt corners c) (sampleAt corners u) (cut .t)) is-lower
-      ∙ ap (λ (c : ℕ). edgeAnswer (sampleAt corners (lower e)) (sampleAt corners c) (cut .t)) is-upper
-      ∙ edge-answers-fraction (sampleAt corners (lower e)) (sampleAt corners (upper e)) (cut .t)
+      ∙ ap (λ (c : ℕ). edgeAnswer (cornerSample corners c) (cornerSample corners u) (cut .t)) is-lower
+      ∙ ap (λ (c : ℕ). edgeAnswer (cornerSample corners (lower e)) (cornerSample corners c) (cut .t)) is-upper
+      ∙ edge-answers-fraction (cornerSample corners (lower e)) (cornerSample corners (upper e)) (cut .t)
       (passed-threshold cut corners (asked .passes))
       (passed-sample cut corners (asked .passes) (lower e))
       (passed-sample cut corners (asked .passes) (upper e))

@@ -18,12 +18,12 @@ use Rattle.laws.proofs.Bits.{ones-pos}
 use Rattle.laws.proofs.Within.{plain, Within, wider, either, add-within, whole-within, div-within}
 use Rattle.block.specs.declared.Cut.{Cut}
 use Rattle.block.specs.Answer.{accepted}
-use Rattle.block.specs.Grey.{positive, isCeiling, noThreshold}
-use Rattle.cube_rule.specs.Edges.{lower, upper, axisOf, cornerOn, sampleAt}
+use Rattle.block.specs.Grey.{positive, isCeiling, noThreshold, SixteenBit}
+use Rattle.cube_rule.specs.Edges.{lower, upper, axisOf, cornerOn, cornerSample}
 use Rattle.place.specs.declared.Crossing.the-variants.{At}
 use Rattle.place.specs.Crossing.{gap, float, fraction, apartInSign, EdgeAnswered}
 use Rattle.place.specs.Place.{plusZero, one, local, fractionAt, sumOn, meanOn, placeOf, Placeable}
-use Rattle.place.specs.Unit.{InUnit, Inside, Grey, CrossedSet}
+use Rattle.place.specs.Unit.{InUnit, Inside, CrossedSet}
 use Rattle.place.proofs.Answers.{cutAt, refusedBy, edge-answers}
 use Rattle.place.proofs.Counts.{countBelow, count-le, count-small}
 
@@ -91,13 +91,13 @@ local-within : (a e : ℕ) (f : Float) → Within 1 f → Within 1 (local a e f)
 unfolding local
 local-within a e f w = either (eqb (axisOf e) a) 1 f _ w (either (eqb (cornerOn a (lower e)) 0) 1 plusZero one (tt, lit≤ tt) (tt, lit≤ tt))
 
-module _ (a m : ℕ) (cut : Cut) (corners : List ℕ) (grey : Grey corners) (set : CrossedSet cut corners m) where
+module _ (a m : ℕ) (cut : Cut) (corners : List ℕ) (grey : SixteenBit corners) (set : CrossedSet cut corners m) where
   -- the coordinate of a crossing that the mask holds
   held-within : (e : ℕ) → e < 12 → holds m e ≡ true → Within 1 (local a e (fractionAt cut corners e))
   unfolding fractionAt
   held-within e l h =
       local-within a e (fractionAt cut corners e)
-      (fraction-within cut (sampleAt corners (lower e)) (sampleAt corners (upper e)) (grey (lower e)) (grey (upper e)) (set .crossed e l h))
+      (fraction-within cut (cornerSample corners (lower e)) (cornerSample corners (upper e)) (grey (lower e)) (grey (upper e)) (set .crossed e l h))
 
   -- a sum is at most the number of edges summed
   sum-within : (n : ℕ) → n ≤ 12 → Within (countBelow m n) (sumOn a m cut corners n)
@@ -130,7 +130,7 @@ pub placeable-crossed : (cut : Cut) (corners : List ℕ) (m : ℕ) → Placeable
 placeable-crossed cut corners m ready some = record { some = some; small = ready .small; crossed = ready .crossed }
 
 -- every coordinate of the place of a set of crossed edges that is not empty, for 16-bit samples and every threshold
-pub place-in-unit : (cut : Cut) (corners : List ℕ) (m : ℕ) → Grey corners → CrossedSet cut corners m → Inside (placeOf cut corners m)
+pub place-in-unit : (cut : Cut) (corners : List ℕ) (m : ℕ) → SixteenBit corners → CrossedSet cut corners m → Inside (placeOf cut corners m)
 unfolding placeOf
 place-in-unit cut corners m grey set = record {
   xIn = in-unit (meanOn 0 m cut corners) (mean-within 0 m cut corners grey set);

@@ -14,7 +14,7 @@ use Rattle.block.specs.declared.Cut.{Cut}
 use Rattle.block.specs.declared.Checked.the-variants.{Passes}
 use Rattle.block.specs.Answer.{inOrder}
 use Rattle.block.specs.Rows.{thresholdRow, ceilingRow}
-use Rattle.cube_rule.specs.Edges.{lower, upper, axisOf, cornerOn, sampleAt, crossedAt}
+use Rattle.cube_rule.specs.Edges.{lower, upper, axisOf, cornerOn, cornerSample, crossedAt}
 use Rattle.place.specs.declared.Offset.{Offset}
 use Rattle.place.specs.Crossing.{float, fraction}
 
@@ -35,7 +35,7 @@ local a e f = cond (eqb (axisOf e) a) f (cond (eqb (cornerOn a (lower e)) 0) plu
 -- the fraction of an edge of a cube
 unfoldable pub fractionAt : Cut → List ℕ → ℕ → Float
 unfolding fraction
-fractionAt cut corners e = fraction cut (sampleAt corners (lower e)) (sampleAt corners (upper e))
+fractionAt cut corners e = fraction cut (cornerSample corners (lower e)) (cornerSample corners (upper e))
 
 -- "for each axis start at plus zero, add over the loop's edges by rising number .. each sum rounded once": the edges below n
 unfoldable pub sumOn : ℕ → ℕ → Cut → List ℕ → ℕ → Float

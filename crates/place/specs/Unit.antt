@@ -8,7 +8,7 @@ use lib.Dec.{T}
 use lib.Ieee.{Float, le, isNan}
 use Rattle.laws.specs.Bits.{holds}
 use Rattle.block.specs.declared.Cut.{Cut}
-use Rattle.cube_rule.specs.Edges.{sampleAt, crossedAt}
+use Rattle.cube_rule.specs.Edges.{crossedAt}
 use Rattle.place.specs.declared.Offset.{Offset}
 use Rattle.place.specs.Place.{plusZero, minusZero, one}
 
@@ -24,10 +24,6 @@ pub record Inside (o : Offset) : Type 0 where
   pub xIn : InUnit (o .x)
   pub yIn : InUnit (o .y)
   pub zIn : InUnit (o .z)
-
--- "Samples are 16-bit"
-abbrev pub Grey : List ℕ → Type 0
-Grey corners = (c : ℕ) → sampleAt corners c < 65536
 
 -- the mask m is a set of crossed edges of a cube, and not the empty one
 pub record CrossedSet (cut : Cut) (corners : List ℕ) (m : ℕ) : Type 0 where

@@ -13,7 +13,7 @@ use Rattle.laws.proofs.Index.{index-x, index-y, index-z}
 use Rattle.block.specs.declared.Cut.{Cut}
 use Rattle.block.specs.declared.Size.{Size}
 use Rattle.block.specs.Numbering.{Axis}
-use Rattle.mesh_rule.specs.Buffers.{planeSize}
+use Rattle.mesh_rule.specs.Layers.{planeSize}
 use Rattle.mesh_rule.specs.Grid.{crossedInner}
 use Rattle.quads.specs.declared.Along.{Along}
 use Rattle.quads.specs.declared.Along.the-variants.{AxisX, AxisY, AxisZ}

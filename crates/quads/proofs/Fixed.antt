@@ -9,7 +9,7 @@ use Rattle.laws.specs.Fixed.{Fixes}
 use Rattle.block.specs.declared.Cut.{Cut}
 use Rattle.block.specs.declared.Size.{Size}
 use Rattle.block.specs.Numbering.{Axis, X, Y, Z}
-use Rattle.mesh_rule.specs.Buffers.{planeQuads}
+use Rattle.mesh_rule.specs.Layers.{planeQuads}
 use Rattle.quads.specs.Edges.{PlaneCounted}
 
 -- ---- counting

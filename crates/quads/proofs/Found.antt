@@ -17,7 +17,7 @@ use Rattle.block.proofs.Products.{product-le}
 use Rattle.cube_rule.specs.Decider.{joined, loopsOf}
 use Rattle.cube_rule.specs.Rule.{holders, firstHolder}
 use Rattle.cube_rule.proofs.Laws.{cube-laws}
-use Rattle.mesh_rule.specs.Buffers.{runMasks, layerSize, layerWords, layerFirst, rowCube, rowSample}
+use Rattle.mesh_rule.specs.Layers.{runMasks, layerSize, layerWords, layerFirst, rowCube, rowSample}
 use Rattle.mesh_rule.specs.Mesh.{cubeLoops, verticesOf, verticesBefore, vertexNumber, vertexAt}
 use Rattle.mesh_rule.specs.Grid.{cornersAt, cornersOf}
 use Rattle.mesh_rule.proofs.Holders.{first-lt}

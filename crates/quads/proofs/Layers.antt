@@ -15,7 +15,8 @@ use Rattle.block.specs.declared.Cut.{Cut}
 use Rattle.block.specs.declared.Size.{Size}
 use Rattle.cube_rule.specs.Decider.{loopsOf}
 use Rattle.cell.specs.Answer.{wordOf}
-use Rattle.mesh_rule.specs.Buffers.{pairs, cubeWords, runMasks, runWords}
+use Rattle.mesh_rule.specs.Buffers.{pairs, cubeWords}
+use Rattle.mesh_rule.specs.Layers.{runMasks, runWords}
 use Rattle.mesh_rule.specs.Mesh.{cubeLoops, verticesOf, verticesBefore}
 use Rattle.mesh_rule.specs.Grid.{cornersOf}
 use Rattle.mesh_rule.proofs.Numbers.{one-for-each-loop}

@@ -16,7 +16,7 @@ use Rattle.laws.proofs.Words.{Word}
 use Rattle.block.specs.declared.Cut.{Cut}
 use Rattle.block.specs.declared.Size.{Size}
 use Rattle.block.specs.Numbering.{Axis, X, Y}
-use Rattle.mesh_rule.specs.Buffers.{quadsFrom, planeSize, planeQuads, rowCube}
+use Rattle.mesh_rule.specs.Layers.{quadsFrom, planeSize, planeQuads, rowCube}
 use Rattle.signs.proofs.Planes.{sign-bit}
 use Rattle.quads.specs.declared.Along.{Along}
 use Rattle.quads.specs.declared.Along.the-variants.{AxisX, AxisY, AxisZ}

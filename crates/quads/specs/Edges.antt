@@ -12,7 +12,7 @@ use Rattle.block.specs.declared.Size.{Size}
 use Rattle.block.specs.Numbering.{Axis, X, Y, Z}
 use Rattle.block.specs.Size.{Limits}
 use Rattle.mesh_rule.specs.Grid.{inner, crossedFrom, crossedInner}
-use Rattle.mesh_rule.specs.Buffers.{planeSize}
+use Rattle.mesh_rule.specs.Layers.{planeSize}
 use Rattle.signs.specs.Signs.{Plane, alongX, alongY, alongZ, limitOf, innerOf}
 use Rattle.quads.specs.declared.Along.{Along}
 use Rattle.quads.specs.declared.Along.the-variants.{AxisX, AxisY, AxisZ}

@@ -7,7 +7,7 @@ use mathlib.Core.List.{List, [], _∷_}
 use Rattle.block.specs.declared.Cut.{Cut}
 use Rattle.block.specs.declared.Size.{Size}
 use Rattle.mesh_rule.specs.Mesh.{quad, turned, flat}
-use Rattle.mesh_rule.specs.Buffers.{rowCube, rowSample}
+use Rattle.mesh_rule.specs.Layers.{rowCube, rowSample}
 use Rattle.quads.specs.declared.Along.{Along}
 use Rattle.quads.specs.declared.Along.the-variants.{AxisX, AxisY, AxisZ}
 use Rattle.quads.specs.declared.Cursors.{Cursors}

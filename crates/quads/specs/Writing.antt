@@ -15,7 +15,7 @@ use Rattle.block.specs.Numbering.{Axis, sampleCount}
 use Rattle.block.specs.Rows.{thresholdRow, ceilingRow}
 use Rattle.block.specs.Size.{Limits}
 use Rattle.cube_rule.specs.Decider.{loopsOf}
-use Rattle.mesh_rule.specs.Buffers.{layerWords, layerFirst}
+use Rattle.mesh_rule.specs.Layers.{layerWords, layerFirst}
 use Rattle.mesh_rule.specs.Grid.{metal}
 use Rattle.mesh_rule.specs.Mesh.{flat, quadAt}
 use Rattle.signs.specs.Signs.{Plane}

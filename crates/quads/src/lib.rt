@@ -14,7 +14,7 @@ ghost use Rattle.block.specs.Numbering.{X, Y, Z};
 ghost use Rattle.block.specs.Size.{Limits};
 ghost use Rattle.cube_rule.specs.Rule.{firstHolder};
 ghost use Rattle.mesh_rule.specs.Mesh.{quad, turned, flat};
-ghost use Rattle.mesh_rule.specs.Buffers.{planeQuads, rowCube, rowSample};
+ghost use Rattle.mesh_rule.specs.Layers.{planeQuads, rowCube, rowSample};
 ghost use Rattle.signs.specs.Signs.{Plane};
 ghost use Rattle.quads.specs.Edges.{axisOf, edgesOf, firstRow, RowIn, PlaneIn, Planes, PlaneCounted, RowCount, PlaneCount};
 ghost use Rattle.quads.specs.Parts.{leadCube};

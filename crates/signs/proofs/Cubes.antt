@@ -12,7 +12,7 @@ use Rattle.laws.proofs.Words.{or-quiet, xor-quiet, bit-same}
 use Rattle.block.specs.declared.Cut.{Cut}
 use Rattle.block.specs.declared.Size.{Size}
 use Rattle.block.specs.Grey.{positive}
-use Rattle.cube_rule.specs.Edges.{sampleAt, patternOf}
+use Rattle.cube_rule.specs.Edges.{cornerSample, patternOf}
 use Rattle.mesh_rule.specs.Grid.{metal, cornersAt}
 use Rattle.signs.specs.Signs.{Plane, furtherAt, eightOf, activeOf, patternAt, apart}
 use Rattle.signs.proofs.Planes.{sign-bit, further-bit}
@@ -60,10 +60,10 @@ module _ {n : Size} {s : List ℕ} {cut : Cut} {k : ℕ} {a b : List ℕ} (lower
     (j w i : ℕ) (hj : j + 1 < n .ny) (hw : w < 4) (hi : i < 64) (hx : 64 * w + i + 1 < n .nx) where
   -- bit i of word c is the sign of corner c of the cube
   pub corner-bit : (c : ℕ) → c < 8
-      → getD (eightOf a b (5 * j + w)) c 0 / 2 ^ i % 2 ≡ bit (positive cut (sampleAt (cornersAt n s (64 * w + i) j k) c))
+      → getD (eightOf a b (5 * j + w)) c 0 / 2 ^ i % 2 ≡ bit (positive cut (cornerSample (cornersAt n s (64 * w + i) j k) c))
   unfolding eightOf
   corner-bit =
-      corner-cases (λ c. getD (eightOf a b (5 * j + w)) c 0 / 2 ^ i % 2 ≡ bit (positive cut (sampleAt (cornersAt n s (64 * w + i) j k) c)))
+      corner-cases (λ c. getD (eightOf a b (5 * j + w)) c 0 / 2 ^ i % 2 ≡ bit (positive cut (cornerSample (cornersAt n s (64 * w + i) j k) c)))
       (sign-bit lower j w (omega arith) i (omega arith) hi (omega arith))
       (further-bit lower j w (omega arith) i hw hi hx)
       (row-sign-bit lower j w i hj hw hi (omega arith))
@@ -80,9 +80,9 @@ module _ {n : Size} {s : List ℕ} {cut : Cut} {k : ℕ} {a b : List ℕ} (lower
       pack-cong (λ c. getD (eightOf a b (5 * j + w)) c 0 / 2 ^ i % 2) (λ c. bit (sign c)) 8 corner-bit ∙ pack-mask sign 8
     where
       sign : ℕ → Bool
-      sign c = positive cut (sampleAt (cornersAt n s (64 * w + i) j k) c)
+      sign c = positive cut (cornerSample (cornersAt n s (64 * w + i) j k) c)
 
   -- a cube whose bit is 0 has the sign of corner 0 at all its corners
   pub active-quiet : activeOf (eightOf a b (5 * j + w)) / 2 ^ i % 2 ≡ 0
-      → (c : ℕ) → c < 8 → positive cut (sampleAt (cornersAt n s (64 * w + i) j k) c) ≡ metal n s cut (64 * w + i) j k
+      → (c : ℕ) → c < 8 → positive cut (cornerSample (cornersAt n s (64 * w + i) j k) c) ≡ metal n s cut (64 * w + i) j k
   active-quiet e c h = bit-same _ _ (sym (corner-bit c h) ∙ quiet-words (eightOf a b (5 * j + w)) i e c h ∙ corner-bit 0 (omega arith))

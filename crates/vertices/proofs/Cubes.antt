@@ -22,7 +22,7 @@ use Rattle.block.specs.Grey.{isCeiling}
 use Rattle.block.specs.Rows.{thresholdRow, ceilingRow, lowest, lowestRow}
 use Rattle.block.proofs.Lowest.{row-clear}
 use Rattle.cube.specs.declared.Loops.{Loops}
-use Rattle.cube.specs.Answer.{cubeLoops}
+use Rattle.cube.specs.Answer.{loopsGiven}
 use Rattle.cube_rule.specs.Decider.{joined, loopsOf}
 use Rattle.cube_rule.specs.Edges.{patternOf, crossedMask}
 use Rattle.cube_rule.specs.Rule.{holders}
@@ -105,7 +105,7 @@ module _ (cut : Cut) (cs : List ℕ) where
   pub count-single : (m : ℕ) → m ≡ crossedMask (patternOf cut cs) → (m ≡ 0 → ⊥) → ones m ≤ 5 → 1 ≡ length (loopsOf cut cs)
   count-single m e some five = rw (loops-single m e some five)
 
-  pub count-many : (l : Loops) → l ≡ cubeLoops cut cs → l .count ≡ length (loopsOf cut cs)
+  pub count-many : (l : Loops) → l ≡ loopsGiven cut cs → l .count ≡ length (loopsOf cut cs)
   count-many l e = ap (λ (l : Loops). l .count) e
 
   -- ---- its vertices

@@ -8,7 +8,7 @@ use Rattle.laws.specs.Fixed.{Fixes}
 use Rattle.laws.proofs.Fixed.{equation-fixes}
 use Rattle.block.specs.declared.Cut.{Cut}
 use Rattle.block.specs.declared.Size.{Size}
-use Rattle.mesh_rule.specs.Buffers.{layerCount}
+use Rattle.mesh_rule.specs.Layers.{layerCount}
 use Rattle.vertices.specs.Cubes.{cornersFrom}
 use Rattle.vertices.specs.Layers.{LayerCounted, LayerWritten}
 

@@ -11,7 +11,8 @@ use Rattle.laws.specs.Below.{below}
 use Rattle.laws.proofs.Below.{below-add, below-same}
 use Rattle.block.specs.declared.Cut.{Cut}
 use Rattle.block.specs.declared.Size.{Size}
-use Rattle.mesh_rule.specs.Buffers.{cubeWords, cubeOffsets, runMasks, runWords, runOffsets, layerSize, layerCount, rowCube}
+use Rattle.mesh_rule.specs.Buffers.{cubeWords, cubeOffsets}
+use Rattle.mesh_rule.specs.Layers.{runMasks, runWords, runOffsets, layerSize, layerCount, rowCube}
 use Rattle.cube_rule.specs.Decider.{loopsOf}
 use Rattle.mesh_rule.specs.Mesh.{cubeLoops}
 use Rattle.vertices.specs.Cubes.{Stored}

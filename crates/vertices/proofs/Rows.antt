@@ -16,7 +16,8 @@ use Rattle.block.specs.Size.{Limits}
 use Rattle.cube_rule.specs.Decider.{joined, loopsOf}
 use Rattle.cube_rule.proofs.Laws.{cube-laws}
 use Rattle.mesh_rule.specs.Grid.{cornersOf}
-use Rattle.mesh_rule.specs.Buffers.{cubeWords, cubeOffsets, rowCube}
+use Rattle.mesh_rule.specs.Buffers.{cubeWords, cubeOffsets}
+use Rattle.mesh_rule.specs.Layers.{rowCube}
 use Rattle.mesh_rule.specs.Mesh.{cubeLoops}
 use Rattle.signs.specs.Signs.{eightOf, activeOf, limitOf}
 use Rattle.vertices.specs.Cubes.{Stored}

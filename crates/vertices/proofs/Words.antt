@@ -23,7 +23,8 @@ use Rattle.cube_rule.specs.Decider.{joined, loopsOf}
 use Rattle.cube_rule.specs.Edges.{patternOf}
 use Rattle.cube_rule.proofs.Laws.{cube-laws}
 use Rattle.mesh_rule.specs.Grid.{cornersAt, cornersOf, metal}
-use Rattle.mesh_rule.specs.Buffers.{cubeWords, cubeOffsets, rowCube, rowSample}
+use Rattle.mesh_rule.specs.Buffers.{cubeWords, cubeOffsets}
+use Rattle.mesh_rule.specs.Layers.{rowCube, rowSample}
 use Rattle.mesh_rule.specs.Mesh.{cubeLoops}
 use Rattle.mesh_rule.proofs.Numbers.{corners-of-number}
 use Rattle.signs.specs.Signs.{eightOf, activeOf, limitOf}

@@ -18,7 +18,7 @@ use Rattle.block.specs.Rows.{thresholdRow, ceilingRow}
 use Rattle.block.specs.Size.{Limits}
 use Rattle.cube.specs.Table.{maskTable}
 use Rattle.cube_rule.specs.Edges.{patternOf}
-use Rattle.mesh_rule.specs.Buffers.{rowCube, layerWords, layerOffsets, layerCount, runMasks, runWords, runOffsets}
+use Rattle.mesh_rule.specs.Layers.{rowCube, layerWords, layerOffsets, layerCount, runMasks, runWords, runOffsets}
 use Rattle.signs.specs.Signs.{Plane, patternAt}
 use Rattle.vertices.specs.Cubes.{cornersFrom, loopsAt, wordsAt, offsetsAt, Stored}
 

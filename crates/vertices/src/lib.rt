@@ -9,7 +9,8 @@ ghost use mathlib.Core.List.{[], _∷_};
 ghost use Prim.Native.Nat.{_+_, _*_, _<_, _≤_};
 ghost use lib.ListN.{length, take};
 ghost use lib.Seq.{sets};
-ghost use Rattle.mesh_rule.specs.Buffers.{pairs, triples, layerCount};
+ghost use Rattle.mesh_rule.specs.Buffers.{pairs, triples};
+ghost use Rattle.mesh_rule.specs.Layers.{layerCount};
 ghost use Rattle.vertices.specs.Cubes.{cornersFrom, loopsAt, CubeReady, CubeRoom, CubeWritten};
 ghost use Rattle.vertices.specs.Layers.{wordLoops, WordReady, WordRoom, WordWritten, Ready, Room, rowCount, RowWritten, LayerCounted, LayerWritten};
 

@@ -10,7 +10,7 @@ use borrow.Author.Needs.{needs}
 use borrow.Author.Tests.{le-leb, lt-leb}
 use Rattle.laws.proofs.Signed.{back}
 use Rattle.block.specs.declared.Cut.{Cut}
-use Rattle.cube_rule.specs.Decider.{over, joined}
+use Rattle.cube_rule.specs.Decider.{differenceOf, joined}
 use Rattle.cube.proofs.decide.Statement.{statement}
 use Rattle.cube.proofs.decide.Tie as tie
 
@@ -20,7 +20,7 @@ product-is : (x y z a b : ℤ) → toZ w64 (ofZ w64 z) ≡ z → z ≡ toZ w32 (
 product-is x y z a b z-back z-is x-back x-is y-back y-is = z-back ∙ z-is ∙ ap₂ (λ (x y : ℤ). x *ℤ y) (x-back ∙ x-is) (y-back ∙ y-is)
 
 -- the decider by the two products
-module _ (cut : Cut) (p q r s : ℕ) (pr qs : ℤ) (pr-is : pr ≡ over cut p *ℤ over cut r) (qs-is : qs ≡ over cut q *ℤ over cut s) where
+module _ (cut : Cut) (p q r s : ℕ) (pr qs : ℤ) (pr-is : pr ≡ differenceOf cut p *ℤ differenceOf cut r) (qs-is : qs ≡ differenceOf cut q *ℤ differenceOf cut s) where
   first-positive : cut .t ≤ p → leZ qs pr ≡ joined cut p q r s
   unfolding joined
   first-positive h = ap₂ leZ qs-is pr-is ∙ simp (le-leb (cut .t) p h)
@@ -33,18 +33,18 @@ abbrev start : tie.After-product2 → tie.Start
 start c = c .before .before .before .before .before .before
 
 pr-is : (c : tie.After-product2) → toZ w64 (ofZ w64 (c .before .before .before .product .result))
-    ≡ over (start c .args .cut) (start c .args .p) *ℤ over (start c .args .cut) (start c .args .r)
+    ≡ differenceOf (start c .args .cut) (start c .args .p) *ℤ differenceOf (start c .args .cut) (start c .args .r)
 pr-is c =
     let d = c .before .before .before in
-    product-is _ _ _ (over (start c .args .cut) (start c .args .p)) (over (start c .args .cut) (start c .args .r))
+    product-is _ _ _ (differenceOf (start c .args .cut) (start c .args .p)) (differenceOf (start c .args .cut) (start c .args .r))
     (back w64 (d .product .ok)) (d .product .ensures)
     (back w32 (d .before .before .difference .ok)) (d .before .before .difference .ensures)
     (back w32 (d .before .difference2 .ok)) (d .before .difference2 .ensures)
 
 qs-is : (c : tie.After-product2) → toZ w64 (ofZ w64 (c .product2 .result))
-    ≡ over (start c .args .cut) (start c .args .q) *ℤ over (start c .args .cut) (start c .args .s)
+    ≡ differenceOf (start c .args .cut) (start c .args .q) *ℤ differenceOf (start c .args .cut) (start c .args .s)
 qs-is c =
-    product-is _ _ _ (over (start c .args .cut) (start c .args .q)) (over (start c .args .cut) (start c .args .s))
+    product-is _ _ _ (differenceOf (start c .args .cut) (start c .args .q)) (differenceOf (start c .args .cut) (start c .args .s))
     (back w64 (c .product2 .ok)) (c .product2 .ensures)
     (back w32 (c .before .before .difference3 .ok)) (c .before .before .difference3 .ensures)
     (back w32 (c .before .difference4 .ok)) (c .before .difference4 .ensures)

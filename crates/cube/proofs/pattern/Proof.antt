@@ -15,12 +15,12 @@ use Rattle.laws.specs.Bits.{maskOf}
 use Rattle.laws.proofs.Bits.{mask-lt, shift-one}
 use Rattle.block.specs.declared.Cut.{Cut}
 use Rattle.block.specs.Grey.{positive}
-use Rattle.cube_rule.specs.Edges.{sampleAt, patternOf}
+use Rattle.cube_rule.specs.Edges.{cornerSample, patternOf}
 use Rattle.cube.proofs.pattern.Statement.{statement}
 use Rattle.cube.proofs.pattern.Tie as tie
 
 abbrev signs : Cut → List ℕ → ℕ → Bool
-signs cut corners c = positive cut (sampleAt corners c)
+signs cut corners c = positive cut (cornerSample corners c)
 
 -- the mask before the first corner, and after a corner that is positive or negative
 mask-start : (f : ℕ → Bool) → _≡_ {A = ℕ} 0 (maskOf f 0)
@@ -57,7 +57,7 @@ loop-again : tie.Need-loop-again Inv-loop μ-loop
 loop-again c =
     let s = c .before .before .before in
     let t = s .before .args .cut .t in
-    let sample = sampleAt (s .before .args .t1) (s .loop .c) in
+    let sample = cornerSample (s .before .args .t1) (s .loop .c) in
     let f = signs (s .before .args .cut) (s .before .args .t1) in (
       search needs,
       ⊎-elim

@@ -6,7 +6,7 @@ use Prim.Native.Nat.{ℕ}
 use mathlib.Core.List.{List}
 use lib.Seq.{length-take-le}
 use Rattle.mesh.specs.Answer.{sizeOf}
-use Rattle.mesh_rule.specs.Grid.{Greys}
+use Rattle.block.specs.Grey.{SixteenBit}
 use Rattle.block.proofs.Sizes.{axes-within}
 use Rattle.block.specs.Rows.{ceilingRow}
 use Rattle.lines.specs.Output.{printed, blockText}
@@ -53,7 +53,7 @@ put-block-requires c κs =
       (
         a .pre .0,
         length-take-le _ (f .last .1 .1 .1 .0) (omega (arith, block-small _ _ _ (at-most-eight _ _ _ (a .pre .0 .small)), f .kept)),
-        subst Greys (sym (samples-front (a .args .input .now) (sizeOf (a .args .nx) (a .args .ny) (a .args .nz)) _ _ (f .ensures)))
+        subst SixteenBit (sym (samples-front (a .args .input .now) (sizeOf (a .args .nx) (a .args .ny) (a .args .nz)) _ _ (f .ensures)))
             (samples-grey (a .args .input .now) (sizeOf (a .args .nx) (a .args .ny) (a .args .nz))),
       ),
       a .pre .1,

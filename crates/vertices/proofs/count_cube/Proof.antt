@@ -4,7 +4,7 @@ use mathlib.Core.Path.{_≡_, ap, sym, _∙_}
 use native.Mathlib.Omega.{arith}
 use borrow.Author.Needs.{needs}
 use denote.Ref.{now}
-use Rattle.cube.specs.Answer.{cubeLoops}
+use Rattle.cube.specs.Answer.{loopsGiven}
 use Rattle.cube_rule.specs.Edges.{patternOf, crossedMask}
 use Rattle.cube_rule.proofs.Laws.{pattern-lt}
 use Rattle.vertices.specs.Cubes.{cornersFrom}
@@ -29,7 +29,7 @@ returns-2 c = (count-single _ _ _ (mask-is (c .before .before)) (c .before .if1 
 returns-3 : tie.Need-returns-3
 returns-3 c =
     let l = c .before .loops-of in
-    (count-many _ _ (l .result) (l .ensures .0 ∙ ap (cubeLoops _) (c .before .before .corners .ensures)), l .ensures .1)
+    (count-many _ _ (l .result) (l .ensures .0 ∙ ap (loopsGiven _) (c .before .before .corners .ensures)), l .ensures .1)
 
 pub count-cube-spec : {M : Type 1} → statement M
 count-cube-spec =
