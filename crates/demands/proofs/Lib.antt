@@ -4,6 +4,7 @@ pub mod Numbers
 pub mod RefusalText
 pub mod Refusals
 pub mod Ceiling
+pub mod Told
 pub mod TheMesh
 pub mod StandIn
 pub mod Idle

@@ -12,7 +12,7 @@ use Rattle.block.specs.declared.Size.{Size}
 use Rattle.block.specs.Answer.{given}
 use Rattle.lines.specs.Input.{sizeRead, cutRead, samplesRead}
 use Rattle.demands.specs.Table.{CeilingHolds, FirstRow}
-use Rattle.demands.specs.Entries.{sizeRows, edgeRows, cubeRows, countsRows, closedRows, rowsRead, runRows, Tellable}
+use Rattle.demands.specs.Entries.{sizeRows, edgeRows, cubeRows, countsRows, meshRows, closedRows, rowsRead, runRows, Tellable}
 use Rattle.demands.proofs.Order.{Each, first-has}
 
 -- ---- numbers
@@ -30,6 +30,22 @@ pub counts-numbers : (nx ny nz : ℕ) (s : List ℕ) (t : ℕ) (x : Refusal) →
 counts-numbers nx ny nz s t =
     first-has (λ (n v : ℕ). (1 ≤ n) × (n ≤ 4)) (countsRows nx ny nz s t)
     (λ v h. (omega arith, omega arith), (λ v h. (omega arith, omega arith), (λ v h. (omega arith, omega arith), (λ v h. (omega arith, omega arith), tt))))
+
+pub mesh-numbers : (nx ny nz : ℕ) (s : List ℕ) (t words offsets room : ℕ) (x : Refusal) → FirstRow (meshRows nx ny nz s t words offsets room) x → (1 ≤ x .number) × (x .number ≤ 6)
+mesh-numbers nx ny nz s t words offsets room =
+    first-has (λ (n v : ℕ). (1 ≤ n) × (n ≤ 6)) (meshRows nx ny nz s t words offsets room) (
+      λ v h. (omega arith, omega arith),
+      (
+        λ v h. (omega arith, omega arith),
+        (
+          λ v h. (omega arith, omega arith),
+          (
+            λ v h. (omega arith, omega arith),
+            (λ v h. (omega arith, omega arith), (λ v h. (omega arith, omega arith), tt)),
+          ),
+        ),
+      ),
+    )
 
 pub closed-numbers : (quads : List ℕ) (x : Refusal) → FirstRow (closedRows quads) x → x .number ≡ 7
 closed-numbers quads = first-has (λ (n v : ℕ). n ≡ 7) (closedRows quads) (λ v h. refl, tt)

@@ -1,41 +1,50 @@
--- Three numbers over the front of a place, by the place's length.
+-- Values over the front of a place, one after the other until the values or the place end; and the coordinates of four offsets.
 -- Assumes nothing.
-use Prim.Native.Nat.{ℕ, zero, suc, _<_}
-use mathlib.Core.Path.{_≡_, refl, ap}
-use mathlib.Core.List.{List, [], _∷_, _++_}
+use Prim.Native.Nat.{ℕ, suc, _+_, _≤_, _<_}
+use mathlib.Core.Path.{_≡_, refl, ap, sym, _∙_}
+use mathlib.Core.List.{List, [], _∷_, _++_, append-assoc}
+use native.Mathlib.Numerals.{add-one}
 use native.Mathlib.Omega.{arith}
-use lib.ListN.{length, take, set}
+use lib.ListN.{length, getD, set, take, drop}
+use lib.Seq.{length-take-le, take-all, take-suc, drop-cons, set-at}
 use Rattle.laws.specs.Below.{over}
+use Rattle.place.specs.declared.Offset.{Offset}
+use Rattle.mesh_rule.specs.Buffers.{triples}
+use Rattle.parsniprow_c.specs.Told.{tellOver}
 
-module _ (a b c : ℕ) where
-  abbrev put : List ℕ → List ℕ
-  put l = over (take (length l) (a ∷ b ∷ c ∷ [])) l
-
-  pub put-none : (l : List ℕ) → length l ≡ 0 → l ≡ put l
+module _ {A : Type 0} (values place : List A) where
+  pub put-none : place ≡ over (take 0 values) place
   unfolding over
-  put-none [] h = refl
-  put-none (x ∷ l) h = absurd (omega arith)
+  put-none = refl
 
-  pub put-one : (l : List ℕ) → length l ≡ 1 → set l 0 a ≡ put l
+  -- one value more
+  pub put-more : (l : List A) (i : ℕ) (x d : A) → l ≡ over (take i values) place → x ≡ getD values i d → i < length values → i < length place
+      → set l i x ≡ over (take (i + 1) values) place
   unfolding over
-  put-one [] h = absurd (omega arith)
-  put-one (x ∷ []) h = refl
-  put-one (x ∷ y ∷ l) h = absurd (omega arith)
+  put-more l i x d e ex h k =
+      let front : length (take i values) ≡ i = length-take-le i values (omega arith) in
+      rw (e, ex, add-one i, take-suc values i d h, front, drop-cons place i (getD values i d) k)
+      (set-at (take i values) (getD place i (getD values i d)) (drop (suc i) place) (getD values i d) i front
+      ∙ sym (append-assoc (take i values) (getD values i d ∷ []) (drop (suc i) place))
+      ∙ ap (λ (m : ℕ). (take i values ++ getD values i d ∷ []) ++ drop m place) (behind front))
+    where
+      behind : length (take i values) ≡ i → suc i ≡ length (take i values ++ getD values i d ∷ [])
+      behind front = sym (ap length (sym (take-suc values i d h)) ∙ length-take-le (suc i) values (omega arith))
 
-  pub put-two : (l : List ℕ) → length l ≡ 2 → set (set l 0 a) 1 b ≡ put l
-  unfolding over
-  put-two [] h = absurd (omega arith)
-  put-two (x ∷ []) h = absurd (omega arith)
-  put-two (x ∷ y ∷ []) h = refl
-  put-two (x ∷ y ∷ z ∷ l) h = absurd (omega arith)
+  -- the place is full
+  pub put-full : (l : List A) (i : ℕ) → l ≡ over (take i values) place → i ≡ length place → l ≡ tellOver values place
+  put-full l i e f = e ∙ ap (λ (k : ℕ). over (take k values) place) f
 
-  take-of-none : {A : Type 0} (n : ℕ) → take {A = A} n [] ≡ []
-  take-of-none zero = refl
-  take-of-none (suc n) = refl
+  -- the values are at their end
+  pub put-all : (l : List A) (i : ℕ) → l ≡ over (take i values) place → length values ≤ i → i ≤ length place → l ≡ tellOver values place
+  put-all l i e h k = e ∙ ap (λ (xs : List A). over xs place) (take-all i values h ∙ sym (take-all (length place) values (omega arith)))
 
-  pub put-three : (l : List ℕ) → 2 < length l → set (set (set l 0 a) 1 b) 2 c ≡ put l
-  unfolding over
-  put-three [] h = absurd (omega arith)
-  put-three (x ∷ []) h = absurd (omega arith)
-  put-three (x ∷ y ∷ []) h = absurd (omega arith)
-  put-three (x ∷ y ∷ z ∷ l) h = rw (take-of-none {A = ℕ} (length l)) refl
+-- the coordinates of four offsets
+pub four-offsets : (o : List Offset) (d : Offset) → length o ≡ 4
+    → (getD o 0 d) .x ∷ (getD o 0 d) .y ∷ (getD o 0 d) .z ∷ (getD o 1 d) .x ∷ (getD o 1 d) .y ∷ (getD o 1 d) .z ∷ (getD o 2 d) .x ∷ (getD o 2 d) .y ∷ (getD o 2 d) .z ∷ (getD o 3 d) .x ∷ (getD o 3 d) .y ∷ (getD o 3 d) .z ∷ [] ≡ triples o
+four-offsets [] d h = absurd (omega arith)
+four-offsets (a ∷ []) d h = absurd (omega arith)
+four-offsets (a ∷ b ∷ []) d h = absurd (omega arith)
+four-offsets (a ∷ b ∷ c ∷ []) d h = absurd (omega arith)
+four-offsets (a ∷ b ∷ c ∷ e ∷ []) d h = refl
+four-offsets (a ∷ b ∷ c ∷ e ∷ f ∷ o) d h = absurd (omega arith)

@@ -1,4 +1,4 @@
--- What a C caller finds in the place that it lends for an answer: 01's number, then two values.
+-- What a C caller finds in the places that it lends for an answer: 01's number, then values, zeros where they are not used.
 -- Assumes nothing.
 use Prim.Native.Nat.{ℕ}
 use mathlib.Core.Path.{_≡_}
@@ -6,28 +6,80 @@ use mathlib.Core.List.{List, [], _∷_}
 use lib.ListN.{length, take}
 use lib.Ieee.{Float}
 use Rattle.laws.specs.Below.{over}
-use Rattle.block.specs.Answer.{Answer, accepted, refused, judged}
+use Rattle.laws.specs.Filled.{filled}
+use Rattle.block.specs.Answer.{Answer, accepted, refused, given}
+use Rattle.place.specs.declared.Crossing.{Crossing}
+use Rattle.place.specs.Crossing.{saidEdge, EdgeAnswered}
+use Rattle.place.specs.Place.{plusZero}
+use Rattle.cell.specs.declared.CubeAnswer.{CubeAnswer}
+use Rattle.cell.specs.Answer.{saidCube, CubeAnswered}
+use Rattle.mesh_rule.specs.Buffers.{triples}
 use Rattle.mesh.specs.declared.Totals.{Totals}
 use Rattle.mesh.specs.declared.Counted.{Counted}
 use Rattle.mesh.specs.Answer.{saidCounts, CountsAnswered, Meshed}
+use Rattle.closed.specs.declared.Closure.{Closure}
+use Rattle.closed.specs.Closed.{Finding, allSound, openAt, saidClosure, ClosedAnswered}
 
--- 0, vertices, quads; or number, value, 0
-abbrev pub told : Answer Totals → List ℕ
-told (accepted c) = 0 ∷ c .vertices ∷ c .quads ∷ []
-told (refused r) = r .number ∷ r .value ∷ 0 ∷ []
+-- as many of these values as a place has room for; what is behind is kept
+abbrev pub tellOver : {A : Type 0} → List A → List A → List A
+tellOver values place = over (take (length place) values) place
 
--- as much of it as the place has room for; what is behind is kept
-abbrev pub tellOver : Answer Totals → List ℕ → List ℕ
-tellOver a place = over (take (length place) (told a)) place
+-- 0 and what is answered, or number and value; then zeros, n numbers in all
+abbrev pub told : {A : Type 0} → ℕ → (A → List ℕ) → Answer A → List ℕ
+told n values (accepted a) = filled n 0 (0 ∷ values a)
+told n values (refused r) = filled n 0 (r .number ∷ r .value ∷ [])
 
--- the promise of `parsniprow_counts`: the place at entry and at exit
+-- crossings
+abbrev pub toldEdge : Answer (List Float) → List ℕ
+toldEdge = told 3 (λ f. length f ∷ [])
+
+-- the fraction, and zero where there is none
+abbrev pub toldFraction : Answer (List Float) → List Float
+toldFraction (accepted f) = filled 1 plusZero f
+toldFraction (refused r) = filled 1 plusZero []
+
+-- loops
+abbrev pub toldCube : Answer ℕ → List ℕ
+toldCube = told 3 (λ n. n ∷ [])
+
+-- vertices, quads
+abbrev pub toldCounts : Answer Totals → List ℕ
+toldCounts = told 3 (λ c. c .vertices ∷ c .quads ∷ [])
+
+-- 1 if closed; 0, quad, side if open
+abbrev pub findingNumbers : Finding → List ℕ
+findingNumbers allSound = 1 ∷ []
+findingNumbers (openAt q s) = 0 ∷ given q ∷ given s ∷ []
+
+abbrev pub toldClosed : Answer Finding → List ℕ
+toldClosed = told 4 findingNumbers
+
+-- the promises: the library's own, and what of its answer is told; each place at entry and at exit
+pub record EdgeTold (p q t : ℕ) (fraction : List Float) (place : List ℕ) (fraction′ : List Float) (place′ : List ℕ) : Type 0 where
+  pub answer : Crossing
+  pub answered : EdgeAnswered p q t answer
+  pub fraction-told : fraction′ ≡ tellOver (toldFraction (saidEdge answer)) fraction
+  pub is-told : place′ ≡ tellOver (toldEdge (saidEdge answer)) place
+
+pub record CubeTold (corners : List ℕ) (t : ℕ) (words : List ℕ) (offsets : List Float) (place words′ : List ℕ) (offsets′ : List Float) (place′ : List ℕ) : Type 0 where
+  pub answer : CubeAnswer
+  pub answered : CubeAnswered corners t answer
+  pub words-told : words′ ≡ tellOver (answer .words) words
+  pub offsets-told : offsets′ ≡ tellOver (triples (answer .offsets)) offsets
+  pub is-told : place′ ≡ tellOver (toldCube (saidCube (answer .found))) place
+
 pub record CountsTold (nx ny nz : ℕ) (s : List ℕ) (t : ℕ) (place place′ : List ℕ) : Type 0 where
   pub answer : Counted
   pub answered : CountsAnswered nx ny nz s t answer
-  pub is-told : place′ ≡ tellOver (saidCounts answer) place
+  pub is-told : place′ ≡ tellOver (toldCounts (saidCounts answer)) place
 
--- the promise of `parsniprow_mesh`: the three buffers and the place at entry and at exit
+-- the three buffers are those of `mesh`
 pub record MeshTold (nx ny nz : ℕ) (s : List ℕ) (t : ℕ) (w : List ℕ) (o : List Float) (q place w′ : List ℕ) (o′ : List Float) (q′ place′ : List ℕ) : Type 0 where
   pub answer : Counted
   pub meshed : Meshed nx ny nz s t w o q answer w′ o′ q′
-  pub is-told : place′ ≡ tellOver (saidCounts answer) place
+  pub is-told : place′ ≡ tellOver (toldCounts (saidCounts answer)) place
+
+pub record ClosedTold (quads place place′ : List ℕ) : Type 0 where
+  pub answer : Closure
+  pub answered : ClosedAnswered quads answer
+  pub is-told : place′ ≡ tellOver (toldClosed (saidClosure answer)) place

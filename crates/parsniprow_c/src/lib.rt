@@ -1,12 +1,63 @@
-// The library for C: exported functions over numbers and slices, each of which writes its answer to a lent place. A slice is a pointer and
-// then a length.
+// The library for C: exported functions over numbers and slices, each of which writes its answer to lent places. A slice is a pointer and
+// then a length. include/parsniprow.h declares and explains them.
+use cell::CubeAnswer;
+use cell::Found;
+use closed::Closure;
 use mesh::Counted;
+use place::Crossing;
+use place::Offset;
 ghost use mathlib.Core.Path.{_≡_};
 ghost use mathlib.Core.List.{[], _∷_};
 ghost use lib.ListN.{length, take};
 ghost use Rattle.laws.specs.Below.{over};
+ghost use Rattle.block.specs.Answer.{given};
+ghost use Rattle.place.specs.Crossing.{saidEdge};
+ghost use Rattle.cell.specs.Answer.{saidCube};
+ghost use Rattle.mesh_rule.specs.Buffers.{triples};
 ghost use Rattle.mesh.specs.Answer.{saidCounts};
-ghost use Rattle.parsniprow_c.specs.Told.{tellOver, CountsTold, MeshTold};
+ghost use Rattle.closed.specs.Closed.{saidClosure};
+ghost use Rattle.parsniprow_c.specs.Told.{tellOver, toldEdge, toldFraction, toldCube, toldCounts, toldClosed, EdgeTold, CubeTold, CountsTold, MeshTold, ClosedTold};
+
+// Where the surface crosses an edge.
+#[no_mangle]
+pub extern "C" fn parsniprow_edge(p: u16, q: u16, t: u16, fraction: &mut [f64], answer: &mut [u32])
+    ensures { λ _. ⌜ EdgeTold p q t (now (fraction .entry)) (now (answer .entry)) (now (fraction .exit)) (now (answer .exit)) ⌝ }
+{
+    let crossing = place::edge(p, q, t);
+    let found = tell_fraction(crossing);
+    put_places(fraction, &found);
+    let told = tell_edge(crossing);
+    put(answer, &told);
+}
+
+// The loops of a cube, by its eight corners.
+#[no_mangle]
+pub extern "C" fn parsniprow_cube(
+    c0: u16,
+    c1: u16,
+    c2: u16,
+    c3: u16,
+    c4: u16,
+    c5: u16,
+    c6: u16,
+    c7: u16,
+    t: u16,
+    words: &mut [u32],
+    offsets: &mut [f64],
+    answer: &mut [u32],
+)
+    ensures { λ _. ⌜ CubeTold (c0 ∷ c1 ∷ c2 ∷ c3 ∷ c4 ∷ c5 ∷ c6 ∷ c7 ∷ []) t (now (words .entry)) (now (offsets .entry)) (now (answer .entry)) (now (words .exit)) (now (offsets .exit)) (now (answer .exit)) ⌝ }
+{
+    let given = cell::cube([c0, c1, c2, c3, c4, c5, c6, c7], t);
+    let four = given.words;
+    put(words, &four);
+    let places = given.offsets;
+    let twelve = tell_offsets(places);
+    put_places(offsets, &twelve);
+    let found = given.found;
+    let told = tell_cube(found);
+    put(answer, &told);
+}
 
 // How many vertices and quads the mesh of a block has.
 #[no_mangle]
@@ -21,7 +72,8 @@ pub extern "C" fn parsniprow_counts(
     ensures { λ _. ⌜ CountsTold nx ny nz (now (samples .entry)) t (now (answer .entry)) (now (answer .exit)) ⌝ }
 {
     let counted = mesh::counts(nx, ny, nz, samples, t);
-    tell(counted, answer);
+    let told = tell_counts(counted);
+    put(answer, &told);
 }
 
 // The mesh of a block in three lent buffers.
@@ -40,34 +92,121 @@ pub extern "C" fn parsniprow_mesh(
     ensures { λ _. ⌜ MeshTold nx ny nz (now (samples .entry)) t (now (words .entry)) (now (offsets .entry)) (now (quads .entry)) (now (answer .entry)) (now (words .exit)) (now (offsets .exit)) (now (quads .exit)) (now (answer .exit)) ⌝ }
 {
     let counted = mesh::mesh(nx, ny, nz, samples, t, words, offsets, quads);
-    tell(counted, answer);
+    let told = tell_counts(counted);
+    put(answer, &told);
 }
 
-// An answer in 01's numbers.
-fn tell(counted: Counted, answer: &mut [u32])
-    ensures { λ _. ⌜ now (answer .exit) ≡ tellOver (saidCounts counted) (now (answer .entry)) ⌝ }
+// Whether a list of quads is closed.
+#[no_mangle]
+pub extern "C" fn parsniprow_closed(quads: &[u32], answer: &mut [u32])
+    ensures { λ _. ⌜ ClosedTold (now (quads .entry)) (now (answer .entry)) (now (answer .exit)) ⌝ }
+{
+    let closure = closed::closed(quads);
+    let told = tell_closed(closure);
+    put(answer, &told);
+}
+
+fn tell_edge(crossing: Crossing) -> [u32; 3]
+    ensures { λ r. ⌜ r ≡ toldEdge (saidEdge crossing) ⌝ }
+{
+    match crossing {
+        Crossing::Nothing => [0, 0, 0],
+        Crossing::At(_) => [0, 1, 0],
+        Crossing::Refused(r) => [r.number, r.value, 0],
+    }
+}
+
+fn tell_fraction(crossing: Crossing) -> [f64; 1]
+    ensures { λ r. ⌜ r ≡ toldFraction (saidEdge crossing) ⌝ }
+{
+    match crossing {
+        Crossing::Nothing => [0.0],
+        Crossing::At(f) => [f],
+        Crossing::Refused(_) => [0.0],
+    }
+}
+
+fn tell_cube(found: Found) -> [u32; 3]
+    ensures { λ r. ⌜ r ≡ toldCube (saidCube found) ⌝ }
+{
+    match found {
+        Found::Loops(n) => [0, n, 0],
+        Found::Refused(r) => [r.number, r.value, 0],
+    }
+}
+
+fn tell_offsets(o: [Offset; 4]) -> [f64; 12]
+    ensures { λ r. ⌜ r ≡ triples o ⌝ }
+{
+    [
+        o[0].x,
+        o[0].y,
+        o[0].z,
+        o[1].x,
+        o[1].y,
+        o[1].z,
+        o[2].x,
+        o[2].y,
+        o[2].z,
+        o[3].x,
+        o[3].y,
+        o[3].z,
+    ]
+}
+
+fn tell_counts(counted: Counted) -> [u32; 3]
+    ensures { λ r. ⌜ r ≡ toldCounts (saidCounts counted) ⌝ }
 {
     match counted {
-        Counted::Counts(c) => put(answer, 0, c.vertices, c.quads),
-        Counted::Refused(r) => put(answer, r.number, r.value, 0),
+        Counted::Counts(c) => [0, c.vertices, c.quads],
+        Counted::Refused(r) => [r.number, r.value, 0],
     }
 }
 
-// Three numbers over the front of the answer's place, as many as it has room for.
-fn put(answer: &mut [u32], a: u32, b: u32, c: u32)
-    ensures { λ _. ⌜ now (answer .exit) ≡ over (take (length (now (answer .entry))) (a ∷ b ∷ c ∷ [])) (now (answer .entry)) ⌝ }
+fn tell_closed(closure: Closure) -> [u32; 4]
+    ensures { λ r. ⌜ r ≡ toldClosed (saidClosure closure) ⌝ }
 {
-    let n = answer.len();
-    if n == 0 {
-        return;
+    match closure {
+        Closure::Closed => [0, 1, 0, 0],
+        Closure::Open { quad, side } => [0, 0, short(quad), short(side)],
+        Closure::Refused(r) => [r.number, r.value, 0, 0],
     }
-    answer[0] = a;
-    if n == 1 {
-        return;
+}
+
+// A number above 4,294,967,295 is given as that.
+fn short(n: usize) -> u32
+    ensures { λ r. ⌜ r ≡ given n ⌝ }
+{
+    if n > 4294967295 {
+        return 4294967295;
     }
-    answer[1] = b;
-    if n == 2 {
-        return;
+    n as u32
+}
+
+// Numbers over the front of a lent place, as many as it has room for.
+fn put(place: &mut [u32], values: &[u32])
+    ensures { λ _. ⌜ now (place .exit) ≡ tellOver (now (values .entry)) (now (place .entry)) ⌝ }
+{
+    let mut i: usize = 0;
+    while i < values.len() {
+        if i == place.len() {
+            return;
+        }
+        place[i] = values[i];
+        i += 1;
     }
-    answer[2] = c;
+}
+
+// The same of f64.
+fn put_places(place: &mut [f64], values: &[f64])
+    ensures { λ _. ⌜ now (place .exit) ≡ tellOver (now (values .entry)) (now (place .entry)) ⌝ }
+{
+    let mut i: usize = 0;
+    while i < values.len() {
+        if i == place.len() {
+            return;
+        }
+        place[i] = values[i];
+        i += 1;
+    }
 }

@@ -1,55 +1,84 @@
--- `put` meets its contract: as many of the three numbers as the place has room for.
+-- `put` meets its contract. The loop's invariant: the first i values are over the front. The measure is what is left of them.
 -- Assumes nothing.
-use Rattle.parsniprow_c.proofs.Puts.{put-none, put-one, put-two, put-three}
+use Prim.Native.Nat.{_-_, _≤_}
+use mathlib.Core.Path.{_≡_, refl, _∙_}
 use native.Mathlib.Omega.{arith}
-use lib.ListN.{length-set}
 use borrow.Author.Needs.{needs}
+use lib.ListN.{length, take, length-set}
+use Rattle.laws.specs.Below.{over}
+use Rattle.parsniprow_c.proofs.Puts.{put-none, put-more, put-full, put-all}
 use Rattle.parsniprow_c.proofs.put.Statement.{statement}
 use Rattle.parsniprow_c.proofs.put.Tie as tie
 use Rattle.parsniprow_c.proofs.put.Reads as reads
 use Rattle.parsniprow_c.proofs.put.Lts as lts
 
-returns : tie.Need-returns
-returns c = put-none _ _ _ _ (search needs)
+abbrev Inv-loop : tie.InvT-loop
+Inv-loop place₀ values i₀ place i = (i ≤ length values) × (i ≤ length place₀) × (length place ≡ length place₀) × (place ≡ over (take i values) place₀)
 
-slice-write-answer : tie.Need-slice-write-answer
-slice-write-answer c = search needs
+abbrev μ-loop : tie.MeasureT-loop
+μ-loop place₀ values i₀ place i = length values - i
 
-same-length : tie.Need-same-length
-same-length c = search needs
+loop-holds : tie.Need-loop-holds Inv-loop μ-loop
+loop-holds c = (search needs, search needs, refl, put-none (c .args .values .now) (c .args .place .now))
 
-returns-2 : tie.Need-returns-2
-returns-2 c = put-one (c .before .before .args .a) (c .before .before .args .b) (c .before .before .args .c) (c .before .before .args .answer .now) (omega arith)
+same-length : tie.Need-same-length Inv-loop μ-loop
+same-length c = c .before .before .loop .inv .2
 
-slice-write-answer-2 : tie.Need-slice-write-answer-2
-slice-write-answer-2 c = simp length-set (omega arith)
+returns : tie.Need-returns Inv-loop μ-loop
+returns c =
+    let h = c .before .before .loop .inv in
+    let s = c .before .before .before .args in
+    put-full (s .values .now) (s .place .now) (c .before .before .loop .place) (c .before .before .loop .i) (h .3) (omega arith)
 
-same-length-2 : tie.Need-same-length-2
-same-length-2 c = search needs
+mul-place : tie.Need-mul-place Inv-loop μ-loop
+mul-place c = search needs
 
-returns-3 : tie.Need-returns-3
-returns-3 c = put-two (c .before .before .before .args .a) (c .before .before .before .args .b) (c .before .before .before .args .c) (c .before .before .before .args .answer .now) (omega arith)
+shared-slice-read-place : tie.Need-shared-slice-read-place Inv-loop μ-loop
+shared-slice-read-place c = search needs
 
-slice-write-answer-3 : tie.Need-slice-write-answer-3
-slice-write-answer-3 c = simp length-set (omega arith)
+mul-place-2 : tie.Need-mul-place-2 Inv-loop μ-loop
+mul-place-2 c = search needs
 
-same-length-3 : tie.Need-same-length-3
-same-length-3 c = search needs
+slice-write-place : tie.Need-slice-write-place Inv-loop μ-loop
+slice-write-place c = omega arith
 
-returns-4 : tie.Need-returns-4
-returns-4 c = put-three (c .before .before .before .args .a) (c .before .before .before .args .b) (c .before .before .before .args .c) (c .before .before .before .args .answer .now) (omega arith)
+add-i : tie.Need-add-i Inv-loop μ-loop
+add-i c = search needs
+
+loop-less : tie.Need-loop-less Inv-loop μ-loop
+loop-less c = omega arith
+
+loop-again : tie.Need-loop-again Inv-loop μ-loop
+loop-again c =
+    let l = c .before .before .before .loop in
+    let h = l .inv in
+    let s = c .before .before .before .before .args in
+    (omega arith, omega arith, simp length-set (h .2), put-more (s .values .now) (s .place .now) (l .place) (l .i) _ _ (h .3) refl (omega arith) (omega arith))
+
+same-length-2 : tie.Need-same-length-2 Inv-loop μ-loop
+same-length-2 c = c .before .loop .inv .2
+
+returns-2 : tie.Need-returns-2 Inv-loop μ-loop
+returns-2 c =
+    let h = c .before .loop .inv in
+    let s = c .before .before .args in
+    put-all (s .values .now) (s .place .now) (c .before .loop .place) (c .before .loop .i) (h .3) (omega arith) (h .1)
 
 pub put-spec : {M : Type 1} → statement M
 put-spec =
     tie.close
     (tie.spec
-    returns
-    slice-write-answer
+    Inv-loop
+    μ-loop
+    loop-holds
     same-length
-    returns-2
-    slice-write-answer-2
+    returns
+    mul-place
+    shared-slice-read-place
+    mul-place-2
+    slice-write-place
+    add-i
+    loop-less
+    loop-again
     same-length-2
-    returns-3
-    slice-write-answer-3
-    same-length-3
-    returns-4)
+    returns-2)

@@ -1,0 +1,50 @@
+-- `parsniprow_counts` meets its promise: what `counts` answers, told.
+-- Assumes nothing.
+use Prim.Native.Nat.{ℕ}
+use mathlib.Core.Path.{ap, _∙_}
+use mathlib.Core.List.{List}
+use Rattle.parsniprow_c.specs.Told.{tellOver}
+use borrow.Author.Needs.{needs}
+use Rattle.parsniprow_c.proofs.parsniprow_counts.Statement.{statement}
+use Rattle.parsniprow_c.proofs.parsniprow_counts.Tie as tie
+use Rattle.parsniprow_c.proofs.parsniprow_counts.Reads as reads
+use Rattle.parsniprow_c.proofs.parsniprow_counts.Lts as lts
+use Rattle.mesh.proofs.counts.Reads as counts-reads
+use Rattle.parsniprow_c.proofs.put.Reads as put-reads
+use Rattle.parsniprow_c.proofs.tell_counts.Reads as tell-counts-reads
+
+counts-requires : tie.Need-counts-requires
+counts-requires c κs = search needs
+
+tell-counts-requires : tie.Need-tell-counts-requires
+tell-counts-requires c κs = search needs
+
+slice-aggregate-put : tie.Need-slice-aggregate-put
+slice-aggregate-put c = search needs
+
+put-requires : tie.Need-put-requires
+put-requires c κs = search needs
+
+same-length : tie.Need-same-length
+same-length c = search needs
+
+returns : tie.Need-returns
+returns c =
+    let s = c .before .before .before .before .before .before .before .before .before .args in
+    let asked = c .before .before .before .before .before .before .counts in
+    record {
+      answer = asked .result;
+      answered = asked .ensures;
+      is-told = c .before .before .put .ensures ∙ ap (λ (v : List ℕ). tellOver v (s .answer .now)) (c .before .before .before .before .before .tell-counts .ensures);
+    }
+
+pub parsniprow-counts-spec : {M : Type 1} → statement M
+parsniprow-counts-spec =
+    tie.close
+    (tie.spec
+    counts-requires
+    tell-counts-requires
+    slice-aggregate-put
+    put-requires
+    same-length
+    returns)

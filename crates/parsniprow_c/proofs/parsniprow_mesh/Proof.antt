@@ -1,0 +1,62 @@
+-- `parsniprow_mesh` meets its promise: what `mesh` answers, told; the three buffers are as `mesh` leaves them.
+-- Assumes nothing.
+use Prim.Native.Nat.{ℕ}
+use mathlib.Core.Path.{ap, _∙_}
+use mathlib.Core.List.{List}
+use Rattle.parsniprow_c.specs.Told.{tellOver}
+use borrow.Author.Needs.{needs}
+use Rattle.parsniprow_c.proofs.parsniprow_mesh.Statement.{statement}
+use Rattle.parsniprow_c.proofs.parsniprow_mesh.Tie as tie
+use Rattle.parsniprow_c.proofs.parsniprow_mesh.Reads as reads
+use Rattle.parsniprow_c.proofs.parsniprow_mesh.Lts as lts
+use Rattle.mesh.proofs.mesh.Reads as mesh-reads
+use Rattle.parsniprow_c.proofs.put.Reads as put-reads
+use Rattle.parsniprow_c.proofs.tell_counts.Reads as tell-counts-reads
+
+mesh-requires : tie.Need-mesh-requires
+mesh-requires c κs = search needs
+
+tell-counts-requires : tie.Need-tell-counts-requires
+tell-counts-requires c κs = search needs
+
+slice-aggregate-put : tie.Need-slice-aggregate-put
+slice-aggregate-put c = search needs
+
+put-requires : tie.Need-put-requires
+put-requires c κs = search needs
+
+same-length : tie.Need-same-length
+same-length c = search needs
+
+same-length-2 : tie.Need-same-length-2
+same-length-2 c = search needs
+
+same-length-3 : tie.Need-same-length-3
+same-length-3 c = search needs
+
+same-length-4 : tie.Need-same-length-4
+same-length-4 c = search needs
+
+returns : tie.Need-returns
+returns c =
+    let s = c .before .before .before .before .before .before .before .before .before .before .before .before .before .before .before .before .before .before .before .before .before .args in
+    let asked = c .before .before .before .before .before .before .before .before .before .before .before .before .mesh in
+    record {
+      answer = asked .result;
+      meshed = asked .ensures;
+      is-told = c .before .before .put .ensures ∙ ap (λ (v : List ℕ). tellOver v (s .answer .now)) (c .before .before .before .before .before .tell-counts .ensures);
+    }
+
+pub parsniprow-mesh-spec : {M : Type 1} → statement M
+parsniprow-mesh-spec =
+    tie.close
+    (tie.spec
+    mesh-requires
+    tell-counts-requires
+    slice-aggregate-put
+    put-requires
+    same-length
+    same-length-2
+    same-length-3
+    same-length-4
+    returns)

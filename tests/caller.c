@@ -1,0 +1,116 @@
+/* A caller of the installed library, in the words that C and C++ share: the paper's samples through each of the five functions, in a thread
+   with a stack of 64 KiB, which the header says is enough. Prints what is wrong and ends with status 1, or ends with status 0.
+   Assumes the installed header and archive, and POSIX threads. */
+#define _POSIX_C_SOURCE 200809L
+
+#include <parsniprow.h>
+
+#include <pthread.h>
+#include <stdio.h>
+#include <string.h>
+
+enum { STACK = 65536, SAMPLES = 27, VERTICES = 8, QUADS = 6 };
+
+static int faults;
+
+static void expect(const char *what, int holds)
+{
+    if (!holds) {
+        printf("caller: %s\n", what);
+        faults++;
+    }
+}
+
+static int answers(const uint32_t *answer, uint32_t a, uint32_t b, uint32_t c)
+{
+    return answer[0] == a && answer[1] == b && answer[2] == c;
+}
+
+static void ask_edge(void)
+{
+    double fraction[1] = {9};
+    uint32_t answer[3] = {9, 9, 9};
+    parsniprow_edge(0, 400, 100, fraction, 1, answer, 3);
+    expect("edge 0, 400", answers(answer, 0, 1, 0) && fraction[0] == 0.25);
+    parsniprow_edge(100, 400, 100, fraction, 1, answer, 3);
+    expect("edge 100, 400", answers(answer, 0, 0, 0) && fraction[0] == 0);
+    fraction[0] = 9;
+    parsniprow_edge(0, 65535, 100, fraction, 1, answer, 3);
+    expect("edge at the ceiling", answers(answer, 4, 1, 0) && fraction[0] == 0);
+}
+
+static void ask_cube(void)
+{
+    uint32_t words[4] = {9, 9, 9, 9}, answer[3] = {9, 9, 9};
+    double offsets[12] = {9, 9, 9, 9, 9, 9, 9, 9, 9, 9, 9, 9};
+    parsniprow_cube(110, 0, 0, 110, 0, 110, 110, 0, 100, words, 4, offsets, 12, answer, 3);
+    expect("a cube of four loops", answers(answer, 0, 4, 0) && words[0] == 0x111 && words[1] == 0x822 &&
+                                       words[2] == 0x284 && words[3] == 0x448);
+    parsniprow_cube(110, 0, 0, 110, 0, 0, 0, 0, 65535, words, 4, offsets, 12, answer, 3);
+    expect("a cube at a threshold that is none", answers(answer, 3, 65535, 0) && words[0] == 0 && offsets[11] == 0);
+}
+
+static void ask_block(uint32_t *quads)
+{
+    uint16_t samples[SAMPLES] = {0};
+    uint32_t words[2 * VERTICES], answer[3] = {9, 9, 9};
+    double offsets[3 * VERTICES];
+    samples[13] = 400;
+    parsniprow_counts(3, 3, 3, samples, SAMPLES, 100, answer, 3);
+    expect("counts", answers(answer, 0, VERTICES, QUADS));
+    parsniprow_mesh(3, 3, 3, samples, SAMPLES, 100, words, 2 * VERTICES, offsets, 3 * VERTICES, quads, 4 * QUADS, answer, 3);
+    expect("mesh", answers(answer, 0, VERTICES, QUADS) && words[1] == 0x888 && offsets[0] == 0.75 && quads[1] == 4);
+    samples[26] = 65535;
+    parsniprow_mesh(3, 3, 3, samples, SAMPLES, 100, words, 2 * VERTICES, offsets, 3 * VERTICES, quads, 4 * QUADS, answer, 3);
+    expect("a sample at the ceiling", answers(answer, 4, 26, 0));
+}
+
+static void ask_closed(const uint32_t *quads)
+{
+    static const uint32_t alone[4] = {0, 1, 2, 3};
+    uint32_t answer[4] = {9, 9, 9, 9};
+    parsniprow_closed(quads, 4 * QUADS, answer, 4);
+    expect("closed", answers(answer, 0, 1, 0) && answer[3] == 0);
+    parsniprow_closed(alone, 4, answer, 4);
+    expect("a quad alone", answers(answer, 0, 0, 0) && answer[3] == 0);
+    parsniprow_closed(alone, 3, answer, 4);
+    expect("three numbers", answers(answer, 7, 3, 0) && answer[3] == 0);
+}
+
+/* A block of 256 samples an axis: the mesh, which counts first, has the deepest stack. */
+static void ask_large(void)
+{
+    static uint16_t samples[256 * 256 * 256];
+    uint32_t answer[3] = {9, 9, 9};
+    uint32_t none[1];
+    double nothing[1];
+    size_t count = sizeof samples / sizeof *samples;
+    memset(samples, 0, sizeof samples);
+    samples[1 + 256 * (1 + 256)] = 400;
+    parsniprow_mesh(256, 256, 256, samples, count, 100, none, 0, nothing, 0, none, 0, answer, 3);
+    expect("a large block without room", answers(answer, 5, 8, 0));
+}
+
+static void *ask(void *unused)
+{
+    uint32_t quads[4 * QUADS];
+    ask_edge();
+    ask_cube();
+    ask_block(quads);
+    ask_closed(quads);
+    ask_large();
+    return unused;
+}
+
+int main(void)
+{
+    pthread_attr_t how;
+    pthread_t thread;
+    if (pthread_attr_init(&how) != 0 || pthread_attr_setstacksize(&how, STACK) != 0 ||
+        pthread_create(&thread, &how, ask, NULL) != 0) {
+        printf("caller: there is no thread with so small a stack\n");
+        return 1;
+    }
+    pthread_join(thread, NULL);
+    return faults ? 1 : 0;
+}
