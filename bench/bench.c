@@ -1,11 +1,16 @@
 /* Times the library and the plain implementation on one block. Usage: bench file nx ny nz t, the file raw little-endian
-   16-bit numbers, x fastest. Prints one line: vertices, quads, then seconds of counts, mesh and plain mesh, each the
-   best of 7.
-   Assumes that both are linked in; built with -DSELF there is no library, and its two times are given as "-".
-   The lent buffers are of the size that the counts say and have been written to before the first run. */
+   16-bit numbers, x fastest. Prints a line for each figure, its name and its value:
+     crossed, rim, doubtful  crossed edges, steps out of the block from metal samples, faces with four crossed edges
+     vertices, quads         of the mesh
+     counts, mesh            seconds of the library's two calls; mesh writes into memory that was written to before
+     whole                   seconds of counts, of taking memory of that size by malloc, and of mesh, in one go
+     plain                   the same of the plain implementation
+   A time is the best of 30 runs, or of as many as begin within a second, but at least 3.
+   Assumes that both are linked in; built with -DSELF there is no library, and its three times are not printed.
+   The counts and the meshes of the two must agree, bit by bit, or there are no times. */
 #define _POSIX_C_SOURCE 199309L
 
-#include "../tests/library.h"
+#include "../include/parsniprow.h"
 #include "../tests/plain.h"
 
 #include <stdio.h>
@@ -18,8 +23,10 @@
 #define parsniprow_mesh plain_mesh
 #endif
 
-enum { RUNS = 7, ANSWER = 3 };
+enum { MOST_RUNS = 30, LEAST_RUNS = 3, ANSWER = 3 };
+static const double long_enough = 1.0;
 
+typedef void counts_function(uint32_t, uint32_t, uint32_t, const uint16_t *, size_t, uint16_t, uint32_t *, size_t);
 typedef void mesh_function(uint32_t, uint32_t, uint32_t, const uint16_t *, size_t, uint16_t, uint32_t *, size_t,
                            double *, size_t, uint32_t *, size_t, uint32_t *, size_t);
 
@@ -46,22 +53,50 @@ static double now(void)
     return (double)time.tv_sec + 1e-9 * (double)time.tv_nsec;
 }
 
-static void *filled(size_t bytes)
+/* ---- memory ---- */
+
+static void *taken(size_t bytes)
 {
     void *memory = malloc(bytes + 1);
     if (!memory)
         stop("no memory");
-    memset(memory, 0xA5, bytes + 1);
     return memory;
 }
+
+static struct mesh room_for(const uint32_t *counted)
+{
+    struct mesh mesh;
+    mesh.vertex_count = counted[1];
+    mesh.quad_count = counted[2];
+    mesh.words = taken(2 * mesh.vertex_count * sizeof *mesh.words);
+    mesh.offsets = taken(3 * mesh.vertex_count * sizeof *mesh.offsets);
+    mesh.quads = taken(4 * mesh.quad_count * sizeof *mesh.quads);
+    return mesh;
+}
+
+static void fill(const struct mesh *mesh)
+{
+    memset(mesh->words, 0xA5, 2 * mesh->vertex_count * sizeof *mesh->words);
+    memset(mesh->offsets, 0xA5, 3 * mesh->vertex_count * sizeof *mesh->offsets);
+    memset(mesh->quads, 0xA5, 4 * mesh->quad_count * sizeof *mesh->quads);
+}
+
+static void give_back(struct mesh *mesh)
+{
+    free(mesh->words);
+    free(mesh->offsets);
+    free(mesh->quads);
+}
+
+/* ---- the block ---- */
 
 static void read_block(const char *name)
 {
     FILE *file = fopen(name, "rb");
     unsigned char *bytes;
     sample_count = (size_t)length[0] * length[1] * length[2];
-    bytes = filled(2 * sample_count);
-    samples = filled(2 * sample_count);
+    bytes = taken(2 * sample_count);
+    samples = taken(2 * sample_count);
     if (!file || fread(bytes, 1, 2 * sample_count + 1, file) != 2 * sample_count)
         stop("the file does not hold nx * ny * nz samples");
     fclose(file);
@@ -70,81 +105,147 @@ static void read_block(const char *name)
     free(bytes);
 }
 
-static struct mesh room_for(const uint32_t *counted)
+/* Whether the sample that lies so many steps on along two axes is metal; the axes may be the same. */
+static int metal(const size_t at[3], unsigned u, size_t u_steps, unsigned v, size_t v_steps)
 {
-    struct mesh mesh;
-    mesh.vertex_count = counted[1];
-    mesh.quad_count = counted[2];
-    mesh.words = filled(2 * mesh.vertex_count * sizeof *mesh.words);
-    mesh.offsets = filled(3 * mesh.vertex_count * sizeof *mesh.offsets);
-    mesh.quads = filled(4 * mesh.quad_count * sizeof *mesh.quads);
-    return mesh;
+    size_t place[3] = {at[0], at[1], at[2]};
+    place[u] += u_steps;
+    place[v] += v_steps;
+    return samples[place[0] + length[0] * (place[1] + length[1] * place[2])] >= t;
+}
+
+/* What the other programs' meshes are held against, counted from the samples alone. */
+static void print_shape(void)
+{
+    size_t crossed = 0, rim = 0, doubtful = 0, at[3];
+    for (at[2] = 0; at[2] < length[2]; at[2]++)
+        for (at[1] = 0; at[1] < length[1]; at[1]++)
+            for (at[0] = 0; at[0] < length[0]; at[0]++)
+                for (unsigned u = 0; u < 3; u++) {
+                    unsigned v = (u + 1) % 3;
+                    int here = metal(at, u, 0, v, 0), has_u = at[u] + 1 < length[u], has_v = at[v] + 1 < length[v];
+                    crossed += has_u && metal(at, u, 1, v, 0) != here;
+                    rim += here && (at[u] == 0) + !has_u;
+                    doubtful += has_u && has_v && metal(at, u, 1, v, 1) == here && metal(at, u, 1, v, 0) != here &&
+                                metal(at, u, 0, v, 1) != here;
+                }
+    printf("crossed %zu\nrim %zu\ndoubtful %zu\n", crossed, rim, doubtful);
+}
+
+/* ---- times ---- */
+
+static int runs_on(int run, double spent)
+{
+    return run < LEAST_RUNS || (run < MOST_RUNS && spent < long_enough);
+}
+
+static void ask_counts(counts_function *function, uint32_t *answer)
+{
+    function(length[0], length[1], length[2], samples, sample_count, t, answer, ANSWER);
+    if (answer[0] != 0)
+        stop("the counts were refused");
+}
+
+static void ask_mesh(mesh_function *function, const struct mesh *mesh)
+{
+    uint32_t answer[ANSWER];
+    function(length[0], length[1], length[2], samples, sample_count, t, mesh->words, 2 * mesh->vertex_count,
+             mesh->offsets, 3 * mesh->vertex_count, mesh->quads, 4 * mesh->quad_count, answer, ANSWER);
+    if (answer[0] != 0)
+        stop("the mesh was refused");
 }
 
 static double time_counts(uint32_t *answer)
 {
-    double best = 1e9;
-    for (int run = 0; run < RUNS; run++) {
+    double best = 1e9, spent = 0.0;
+    for (int run = 0; runs_on(run, spent); run++) {
         double from = now(), took;
-        parsniprow_counts(length[0], length[1], length[2], samples, sample_count, t, answer, ANSWER);
+        ask_counts(parsniprow_counts, answer);
         took = now() - from;
+        spent += took;
         best = took < best ? took : best;
     }
     return best;
 }
 
-static double time_mesh(mesh_function *function, const struct mesh *mesh)
+static double time_mesh(const struct mesh *mesh)
 {
-    double best = 1e9;
-    for (int run = 0; run < RUNS; run++) {
-        uint32_t answer[ANSWER];
+    double best = 1e9, spent = 0.0;
+    for (int run = 0; runs_on(run, spent); run++) {
         double from = now(), took;
-        function(length[0], length[1], length[2], samples, sample_count, t, mesh->words, 2 * mesh->vertex_count,
-                 mesh->offsets, 3 * mesh->vertex_count, mesh->quads, 4 * mesh->quad_count, answer, ANSWER);
+        ask_mesh(parsniprow_mesh, mesh);
         took = now() - from;
+        spent += took;
         best = took < best ? took : best;
-        if (answer[0] != 0)
-            stop("the mesh was refused");
+    }
+    return best;
+}
+
+/* What a caller pays who knows nothing of the block: counts, memory of that size, mesh. Giving the memory back is not
+   timed. The mesh of the last run is left. */
+static double time_whole(counts_function *counts, mesh_function *mesh, struct mesh *left)
+{
+    double best = 1e9, spent = 0.0;
+    for (int run = 0; runs_on(run, spent); run++) {
+        uint32_t answer[ANSWER];
+        double from, took;
+        if (run > 0)
+            give_back(left);
+        from = now();
+        ask_counts(counts, answer);
+        *left = room_for(answer);
+        ask_mesh(mesh, left);
+        took = now() - from;
+        spent += took;
+        best = took < best ? took : best;
     }
     return best;
 }
 
 static int same(const struct mesh *a, const struct mesh *b)
 {
-    return memcmp(a->words, b->words, 2 * a->vertex_count * sizeof *a->words) == 0 &&
+    return a->vertex_count == b->vertex_count && a->quad_count == b->quad_count &&
+           memcmp(a->words, b->words, 2 * a->vertex_count * sizeof *a->words) == 0 &&
            memcmp(a->offsets, b->offsets, 3 * a->vertex_count * sizeof *a->offsets) == 0 &&
            memcmp(a->quads, b->quads, 4 * a->quad_count * sizeof *a->quads) == 0;
 }
 
+static void print_times(void)
+{
+    uint32_t counted[ANSWER];
+    struct mesh lent, ours, plain;
+    double counts_time = time_counts(counted), mesh_time, whole_time, plain_time;
+    lent = room_for(counted);
+    fill(&lent);
+    mesh_time = time_mesh(&lent);
+    whole_time = time_whole(parsniprow_counts, parsniprow_mesh, &ours);
+    plain_time = time_whole(plain_counts, plain_mesh, &plain);
+    if (!same(&lent, &plain) || !same(&ours, &plain))
+        stop("the mesh differs from that of plain");
+    printf("vertices %zu\nquads %zu\n", plain.vertex_count, plain.quad_count);
+#ifdef SELF
+    (void)counts_time;
+    (void)mesh_time;
+    (void)whole_time;
+#else
+    printf("counts %.6f\nmesh %.6f\nwhole %.6f\n", counts_time, mesh_time, whole_time);
+#endif
+    printf("plain %.6f\n", plain_time);
+    give_back(&lent);
+    give_back(&ours);
+    give_back(&plain);
+}
+
 int main(int argc, char **argv)
 {
-    uint32_t answer[ANSWER], counted[ANSWER];
-    struct mesh ours, plain;
-    double counts_time, mesh_time, plain_time;
     if (argc != 6)
         stop("usage: bench file nx ny nz t");
     for (int axis = 0; axis < 3; axis++)
         length[axis] = (uint32_t)strtoul(argv[2 + axis], NULL, 10);
     t = (uint16_t)strtoul(argv[5], NULL, 10);
     read_block(argv[1]);
-    plain_counts(length[0], length[1], length[2], samples, sample_count, t, counted, ANSWER);
-    if (counted[0] != 0)
-        stop("the block is refused");
-    ours = room_for(counted);
-    plain = room_for(counted);
-    counts_time = time_counts(answer);
-    if (memcmp(answer, counted, sizeof answer) != 0)
-        stop("the counts differ from those of plain");
-    mesh_time = time_mesh(parsniprow_mesh, &ours);
-    plain_time = time_mesh(plain_mesh, &plain);
-    if (!same(&ours, &plain))
-        stop("the mesh differs from that of plain");
-#ifdef SELF
-    (void)counts_time;
-    (void)mesh_time;
-    printf("%zu %zu - - %.6f\n", ours.vertex_count, ours.quad_count, plain_time);
-#else
-    printf("%zu %zu %.6f %.6f %.6f\n", ours.vertex_count, ours.quad_count, counts_time, mesh_time, plain_time);
-#endif
+    print_shape();
+    print_times();
+    free(samples);
     return 0;
 }

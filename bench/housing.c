@@ -1,15 +1,24 @@
-/* Writes a block of n x n x n grey values for the benchmark, as raw little-endian 16-bit numbers, x fastest: a cast
-   pump housing with pores, or noise. Usage: housing n housing|noise seed file.
-   Assumes doubles rounded to nearest; the same arguments give the same file on every machine. The surface of the
-   housing lies at the threshold 23000; no value is at the ceiling. */
+/* Writes a block of n x n x n grey values for the benchmark and the picture, as raw little-endian 16-bit numbers, x
+   fastest. Usage: housing n kind seed file, the kind one of
+     housing  a cast pump housing with a few pores, nearly without noise
+     noisy    the same housing seen by a poor detector: specks everywhere, many doubtful faces, small loops
+     noise    no housing: every value by chance
+     pore     a piece of the housing's wall around one pore of several merged bubbles
+   Assumes doubles rounded to nearest, each operation by itself (-ffp-contract=off); the same arguments then give the
+   same file on every machine. The surface of the housing and of the pore lies at the threshold 23000, half way between
+   metal and hollow; no value is at the ceiling. */
 #include <math.h>
 #include <stdint.h>
 #include <stdio.h>
 #include <stdlib.h>
 #include <string.h>
 
-enum { HOLLOW = 6000, METAL = 40000, NOISE = 24, CEILING = 65535, LONGEST_AXIS = 256 };
+enum { HOLLOW = 6000, METAL = 40000, CEILING = 65535, LONGEST_AXIS = 256 };
 enum { PORES_AT_256 = 400, LEAST_RADIUS = 2, MOST_RADIUS = 6, BOLTS = 8, TRIES = 1000000 };
+enum { BUBBLES = 4, BLISTERS = 10, NECK_STEPS = 24, THINNEST_WALL = 32 };
+/* A good detector's noise is even and reaches this far to either side. A poor one's is the sum of four such, nearly the
+   bell curve: far from the surface one sample in 200 is on the wrong side of the threshold, near it one in six. */
+enum { GOOD = 24, POOR = 6000, POOR_PARTS = 4 };
 
 /* ---- chance ---- */
 
@@ -129,12 +138,75 @@ static unsigned cast_pores(float *distance, size_t n)
     return count;
 }
 
+/* Solid metal all through. */
+static float *wall(size_t n)
+{
+    float *distance = malloc(n * n * n * sizeof *distance);
+    for (size_t index = 0; distance && index < n * n * n; index++)
+        distance[index] = (float)-(double)n;
+    return distance;
+}
+
+/* A round neck from one point to another. */
+static void take_out_neck(float *distance, size_t n, const double from[3], const double to[3], double radius)
+{
+    for (unsigned step = 0; step <= NECK_STEPS; step++) {
+        double along = (double)step / NECK_STEPS, centre[3];
+        for (unsigned axis = 0; axis < 3; axis++)
+            centre[axis] = from[axis] + along * (to[axis] - from[axis]);
+        take_out(distance, n, centre, radius);
+    }
+}
+
+/* One pore in the middle of the wall: three bubbles that have run together, a fourth that hangs on them by a thin neck,
+   and blisters by chance on the first three. */
+static void cast_one_pore(float *distance, size_t n)
+{
+    static const double bubble[BUBBLES][4] = {
+        {-3.4, 0.3, -0.6, 5.2}, {3.1, 1.9, 1.3, 4.1}, {-0.6, -3.9, 2.9, 3.2}, {11.2, -2.6, -1.2, 2.7}};
+    double centre[BUBBLES][3];
+    for (unsigned which = 0; which < BUBBLES; which++) {
+        for (unsigned axis = 0; axis < 3; axis++)
+            centre[which][axis] = 0.5 * (double)(n - 1) + bubble[which][axis];
+        take_out(distance, n, centre[which], bubble[which][3]);
+    }
+    take_out_neck(distance, n, centre[1], centre[3], 1.1);
+    for (unsigned blister = 0; blister < BLISTERS; blister++) {
+        unsigned on = blister % (BUBBLES - 1);
+        double way[3], square = 0.0, at[3];
+        for (unsigned axis = 0; axis < 3; axis++) {
+            way[axis] = 2.0 * part() - 1.0;
+            square += way[axis] * way[axis];
+        }
+        for (unsigned axis = 0; axis < 3; axis++)
+            at[axis] = centre[on][axis] + way[axis] / sqrt(square) * (bubble[on][3] - 0.4);
+        take_out(distance, n, at, 1.3 + 0.9 * part());
+    }
+}
+
+/* ---- grey values ---- */
+
+static int noise_within(int reach)
+{
+    return (int)(next() % (uint64_t)(2 * reach + 1)) - reach;
+}
+
+static int noise_of(int is_poor)
+{
+    int noise = 0;
+    if (!is_poor)
+        return noise_within(GOOD);
+    for (unsigned count = 0; count < POOR_PARTS; count++)
+        noise += noise_within(POOR);
+    return noise;
+}
+
 /* A sample whose surroundings are half metal and half hollow is half way between the two. */
-static uint16_t grey(double distance)
+static uint16_t grey(double distance, int is_poor)
 {
     double metal = less(1.0, more(0.0, 0.5 - 0.5 * distance));
-    int noise = (int)(next() % (2 * NOISE + 1)) - NOISE;
-    return (uint16_t)(HOLLOW + (int)((METAL - HOLLOW) * metal) + noise);
+    int value = HOLLOW + (int)((METAL - HOLLOW) * metal) + noise_of(is_poor);
+    return (uint16_t)(value < 0 ? 0 : value);
 }
 
 static int put(FILE *file, uint16_t value)
@@ -142,14 +214,34 @@ static int put(FILE *file, uint16_t value)
     return putc(value & 255, file) != EOF && putc(value >> 8, file) != EOF;
 }
 
-static int write_housing(FILE *file, size_t n)
+static int write_distances(FILE *file, size_t n, const float *distance, int is_poor)
+{
+    int good = 1;
+    for (size_t index = 0; good && index < n * n * n; index++)
+        good = put(file, grey(distance[index], is_poor));
+    return good;
+}
+
+static int write_housing(FILE *file, size_t n, int is_poor)
 {
     float *distance = distances(n);
     int good = distance != NULL;
-    if (good)
+    if (good) {
         printf("housing: %u pores\n", cast_pores(distance, n));
-    for (size_t index = 0; good && index < n * n * n; index++)
-        good = put(file, grey(distance[index]));
+        good = write_distances(file, n, distance, is_poor);
+    }
+    free(distance);
+    return good;
+}
+
+static int write_pore(FILE *file, size_t n)
+{
+    float *distance = wall(n);
+    int good = distance != NULL;
+    if (good) {
+        cast_one_pore(distance, n);
+        good = write_distances(file, n, distance, 0);
+    }
     free(distance);
     return good;
 }
@@ -162,13 +254,37 @@ static int write_noise(FILE *file, size_t n)
     return good;
 }
 
+/* ---- the command ---- */
+
+enum kind { HOUSING, NOISY, NOISE, PORE, KINDS };
+
+static enum kind kind_called(const char *name)
+{
+    static const char *const names[KINDS] = {"housing", "noisy", "noise", "pore"};
+    unsigned kind = 0;
+    while (kind < KINDS && strcmp(name, names[kind]) != 0)
+        kind++;
+    return (enum kind)kind;
+}
+
+static int write_block(FILE *file, size_t n, enum kind kind)
+{
+    if (kind == NOISE)
+        return write_noise(file, n);
+    if (kind == PORE)
+        return write_pore(file, n);
+    return write_housing(file, n, kind == NOISY);
+}
+
 int main(int argc, char **argv)
 {
     size_t n = argc == 5 ? (size_t)strtoul(argv[1], NULL, 10) : 0;
-    int is_noise = argc == 5 && strcmp(argv[2], "noise") == 0, good;
+    enum kind kind = argc == 5 ? kind_called(argv[2]) : KINDS;
     FILE *file;
-    if (n < 2 || n > LONGEST_AXIS || (!is_noise && strcmp(argv[2], "housing") != 0)) {
-        fprintf(stderr, "usage: housing n housing|noise seed file, with n from 2 to %d\n", LONGEST_AXIS);
+    int good;
+    if (n < (kind == PORE ? THINNEST_WALL : 2) || n > LONGEST_AXIS || kind == KINDS) {
+        fprintf(stderr, "usage: housing n housing|noisy|noise|pore seed file, with n from 2 (pore: %d) to %d\n",
+                THINNEST_WALL, LONGEST_AXIS);
         return 2;
     }
     state = strtoull(argv[3], NULL, 10);
@@ -177,7 +293,7 @@ int main(int argc, char **argv)
         perror(argv[4]);
         return 2;
     }
-    good = is_noise ? write_noise(file, n) : write_housing(file, n);
+    good = write_block(file, n, kind);
     good = fclose(file) == 0 && good;
     if (!good)
         fprintf(stderr, "housing: could not write %s\n", argv[4]);

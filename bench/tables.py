@@ -1,0 +1,208 @@
+#!/usr/bin/python3
+"""Prints the results of one run of the benchmark as Markdown. Usage: tables.py results, the file that bench/run writes.
+
+Its lines, with tabs between the words: processor, compiler, library (the machine that its module was compiled for, or
+none); peer, key, name, package, version; figure, kind, size, name, value; made, kind, size, key, points, polygons,
+seconds.
+Ends with status 1 if a peer's mesh is not of the size to be expected from the block's crossed edges, for then the times
+are of different work."""
+import sys
+
+
+def read_results(name):
+    """Single words, peers by key, and blocks by kind and size, all in the order of the file."""
+    words, peers, blocks = {}, {}, {}
+    with open(name, encoding="utf-8") as file:
+        for line in file:
+            head, *rest = line.rstrip("\n").split("\t")
+            if head == "peer":
+                peers[rest[0]] = {"name": rest[1], "package": rest[2], "version": rest[3]}
+            elif head == "figure":
+                block = blocks.setdefault((rest[0], int(rest[1])), {"made": {}})
+                block[rest[2]] = float(rest[3])
+            elif head == "made":
+                made = blocks[rest[0], int(rest[1])]["made"]
+                made[rest[2]] = {"points": int(rest[3]), "polygons": int(rest[4]), "seconds": float(rest[5])}
+            else:
+                words[head] = rest[0]
+    return words, peers, blocks
+
+
+def print_row(cells):
+    print("| " + " | ".join(cells) + " |")
+
+
+def print_table(heads, rows):
+    """The first column stands left, the others right."""
+    print_row(heads)
+    print("|---" + "|--:" * (len(heads) - 1) + "|")
+    for row in rows:
+        print_row(row)
+    print()
+
+
+def three_digits(number):
+    places = 2
+    while places < 6 and abs(number) < 10.0 ** (2 - places):
+        places += 1
+    return f"{number:.{places}f}"
+
+
+def whole(number):
+    return f"{int(number):,}"
+
+
+def with_ratio(block, seconds):
+    """Seconds, and in brackets the library's time divided by them."""
+    return f"{three_digits(seconds)} ({block['whole'] / seconds:.2f})" if "whole" in block else three_digits(seconds)
+
+
+# ---- the three tables ----
+
+def print_times(words, peers, blocks):
+    timed = words["library"] != "none"
+    mark = "" if words["library"] in ("none", "x86_64") else f", {words['library']} module"
+    heads = ["block"]
+    if timed:
+        heads += ["counts" + mark, "mesh" + mark, "counts + mesh" + mark]
+    heads += ["plain C"] + [peer["name"] for peer in peers.values()]
+    if timed and peers:
+        heads.append("fastest peer")
+    rows = []
+    for (kind, size), block in blocks.items():
+        row = [f"{kind} {size}"]
+        if timed:
+            row += [three_digits(block[name]) for name in ("counts", "mesh")] + [f"**{three_digits(block['whole'])}**"]
+        row.append(with_ratio(block, block["plain"]))
+        row += [with_ratio(block, block["made"][key]["seconds"]) for key in peers]
+        if timed and peers:
+            best = min(peers, key=lambda key: block["made"][key]["seconds"])
+            row.append(f"{peers[best]['name']} ({block['whole'] / block['made'][best]['seconds']:.2f})")
+        rows.append(row)
+    print_table(heads, rows)
+
+
+def print_growth(blocks):
+    rows, before = [], None
+    for (kind, size), block in blocks.items():
+        samples = size ** 3
+        row = [f"{kind} {size}", whole(samples), f"{1e3 * block['quads'] / samples:.0f}"]
+        row += [f"{1e9 * block[name] / samples:.1f}" for name in ("counts", "mesh", "whole")]
+        if before and before[0] == kind:
+            row += [f"{samples / before[1]:.1f}", f"{block['whole'] / before[2]:.1f}"]
+        else:
+            row += ["", ""]
+        rows.append(row)
+        before = (kind, samples, block["whole"])
+    print_table(["block", "samples", "quads for 1,000 samples", "counts, ns a sample", "mesh, ns a sample",
+                 "counts + mesh, ns a sample", "times the samples", "times the seconds"], rows)
+
+
+def print_sizes(peers, blocks):
+    heads = ["block", "crossed edges", "doubtful faces", "dual mesh: vertices / quads"]
+    heads += [f"{peer['name']}: points / {'quads' if key == 'volume_to_mesh' else 'triangles'}"
+              for key, peer in peers.items()]
+    rows = []
+    for (kind, size), block in blocks.items():
+        row = [f"{kind} {size}", whole(block["crossed"]), whole(block["doubtful"])]
+        row.append(f"{whole(block['vertices'])} / {whole(block['quads'])}")
+        row += [f"{whole(made['points'])} / {whole(made['polygons'])}" for made in block["made"].values()]
+        rows.append(row)
+    print_table(heads, rows)
+
+
+# ---- what the meshes must have in common ----
+
+def faults(peers, blocks):
+    """Flying Edges has a point for each crossed edge. Marching Cubes merges points at one place; scikit-image has
+    points inside cubes too; their bounds are wide and were set by what VTK 9.1.0 and scikit-image 0.19.3 made of these
+    blocks. OpenVDB has a quad for each crossed edge and for each step out of the block from metal: no manual says so,
+    it is what OpenVDB 10.0.1 made of all of them."""
+    found = []
+    for (kind, size), block in blocks.items():
+        crossed, with_rim = block["crossed"], block["crossed"] + block["rim"]
+        bounds = {"flying_edges": ("points", crossed, crossed),
+                  "marching_cubes": ("points", 0.99 * crossed, crossed),
+                  "lewiner": ("points", 0.99 * crossed, 1.1 * crossed),
+                  "volume_to_mesh": ("polygons", with_rim, with_rim)}
+        for key, made in block["made"].items():
+            what, least, most = bounds[key]
+            if not least <= made[what] <= most:
+                found.append(f"{kind} {size}: {peers[key]['name']} made {made[what]} {what}, which is not from "
+                             f"{least:.0f} to {most:.0f}.")
+    return found
+
+
+# ---- the page ----
+
+def print_heading(words, peers, missing):
+    versions = dict.fromkeys(f"{peer['name'].split()[0]} {peer['version']}" for peer in peers.values())
+    programs = ", ".join([words["compiler"], *versions])
+    print(f"Processor: {words['processor']}; each program ran on one core. {programs}.")
+    if missing:
+        names = ", ".join(f"{peer['name']} ({peer['package']})" for peer in missing)
+        print(f"Not installed and left out: {names}.")
+    if words["library"] == "none":
+        print("The library was not there and is left out; ./library makes it.")
+    elif words["library"] != "x86_64":
+        print(f"The library's columns are of its LLVM module compiled for this machine ({words['library']}), which is "
+              "not what ships: that is the archive for x86-64.")
+    print()
+
+
+TIMES_TEXT = """
+Seconds; best of 30 runs, or of as many as begin within a second, at least 3. In brackets: the library's counts + mesh
+divided by that time, so under 1 the library is the faster. `housing` has a few pores and nearly no noise, `noisy` is
+the same housing with strong detector noise, `noise` is noise alone.
+
+- Before the time begins the block is in memory in each program's own form: 16-bit numbers, for scikit-image an array of
+  32-bit floats, for OpenVDB a grid that holds every sample.
+- `counts` and `mesh` are the library's two calls, `mesh` into memory that was written to before. **counts + mesh** is
+  what a caller pays who knows nothing of the block: counts, malloc of that size, mesh, in one go. Plain C is measured
+  in the same way. The peers take the memory of their meshes within their time too.
+- VTK and scikit-image make triangles, about two for each quad, with corners on the crossed edges; scikit-image adds
+  normals. OpenVDB makes quads across the crossed edges, as the library does; it closes the surface at the block's rim,
+  and it copies the mesh into arrays.
+- The peers give places as 32-bit floats. The library gives 64-bit floats, and the cube and the loop of each vertex.
+- Not compared: more than one core, which Flying Edges and OpenVDB can use by themselves; scans of real housings;
+  whether the peers' meshes are right, beyond their sizes.
+"""
+
+GROWTH_TEXT = """
+How the library's cost grows with the block; the last two columns are against the row above. The time for a sample
+depends on how much surface there is: the housing's own surface grows less than its samples.
+"""
+
+SIZES_TEXT = """
+What each program made. A doubtful face is one with four crossed edges. Checked: Flying Edges has a point for each
+crossed edge, OpenVDB a quad for each crossed edge and for each step out of the block from metal, Marching Cubes 99 to
+100 points and scikit-image 99 to 110 for 100 crossed edges.
+"""
+
+
+def print_text(text):
+    print(text.strip(), end="\n\n")
+
+
+def main():
+    if len(sys.argv) != 2:
+        sys.exit("usage: tables.py results")
+    words, every_peer, blocks = read_results(sys.argv[1])
+    peers = {key: peer for key, peer in every_peer.items() if peer["version"] != "-"}
+    print_heading(words, peers, [peer for key, peer in every_peer.items() if key not in peers])
+    print_text(TIMES_TEXT)
+    print_times(words, peers, blocks)
+    if words["library"] != "none":
+        print_text(GROWTH_TEXT)
+        print_growth(blocks)
+    print_text(SIZES_TEXT)
+    print_sizes(peers, blocks)
+    wrong = faults(peers, blocks)
+    for fault in wrong:
+        print(fault)
+    if peers and not wrong:
+        print("All sizes passed these checks.")
+    sys.exit(1 if wrong else 0)
+
+
+main()
