@@ -2,31 +2,33 @@
 
    WHAT IS TRUE OF EVERY FUNCTION HERE
    - It may be asked anything: every number and every length is taken, and every call ends.
-   - A buffer is a pointer and then its length, counted in items and not in bytes. No pointer may be null, also where the length is 0.
-     The memory is the caller's, it is aligned for its items, and buffers that are written to do not overlap each other or any other.
-   - Nothing is kept from one call to the next and nothing is allocated, so any number of threads may call at once. A call takes less than
-     64 KiB of the stack. Of a C library it needs memcpy and memset.
+   - A buffer is a pointer and then its length, counted in items and not in bytes. No pointer may be null, also where
+     the length is 0. The memory is the caller's, it is aligned for its items, and a buffer that is written to overlaps
+     no other.
+   - Nothing is kept from one call to the next and nothing is allocated, so any number of threads may call at once. A
+     call takes less than 64 KiB of the stack. Of a C library it needs memcpy and memset.
    - Nothing outside the lent buffers is touched, and what is lent as const is not written to.
-   - An answer place is always written, with zeros where the answer does not use it. It takes the number of items that the function says; of a
-     shorter place as many are written as it has room for, and what lies behind is kept.
+   - An answer place is always written, with zeros where the answer does not use it. It takes the number of items that
+     the function says; of a shorter place as many are written as it has room for, and what lies behind is kept.
 
    REFUSALS
-   What cannot be answered is refused by number. Checks run in the order of the numbers; the first that holds is given, with its value.
+   What cannot be answered is refused by number. Checks run in the order of the numbers; the first that holds is given,
+   with its value.
 
-     number  given exactly when                        value
-     1       an axis is under 2 or over 256            lowest such axis, 0 to 2
-     2       samples_len is not nx * ny * nz           nx * ny * nz
-     3       t is 0 or 65535                           t
-     4       some sample is 65535                      lowest such index; corner of a cube; lower end of an edge 0, upper 1
-     5       words or offsets is short                 vertices needed
-     6       quads is short                            quads needed
-     7       quads_len is no multiple of 4             quads_len modulo 4
+     number  given exactly when                value
+     1       an axis is under 2 or over 256    lowest such axis, 0 to 2
+     2       samples_len is not nx * ny * nz   nx * ny * nz
+     3       t is 0 or 65535                   t
+     4       some sample is 65535              lowest such index; of a cube the corner; of an edge lower end 0, upper 1
+     5       words or offsets is short         vertices needed
+     6       quads is short                    quads needed
+     7       quads_len is no multiple of 4     quads_len modulo 4
 
    A value above 4294967295 is given as that.
 
    GREY VALUES
-   A sample is metal if it is at least the threshold t, else hollow. Samples stand x fastest: sample (i, j, k) has index i + nx * (j + ny * k).
-   65535 is the detector's ceiling and no grey value: whatever is given one refuses it. */
+   A sample is metal if it is at least the threshold t, else hollow. Samples stand x fastest: sample (i, j, k) has index
+   i + nx * (j + ny * k). 65535 is the detector's ceiling and no grey value: whatever is given one refuses it. */
 #ifndef PARSNIPROW_H
 #define PARSNIPROW_H
 
@@ -40,7 +42,8 @@ extern "C" {
 /* Where the surface crosses an edge.
      p, q      the samples at the edge's lower and upper end
      t         the threshold
-     fraction  answer place, 1 item: how far the crossing is from the lower end, 0 to 1; 0 where there is none, on refusal too
+     fraction  answer place, 1 item: how far the crossing is from the lower end, 0 to 1; 0 where there is none, on
+               refusal too
      answer    answer place, 3 items: 0, number of crossings (0 or 1), 0; or refusal (3 or 4), its value, 0 */
 void parsniprow_edge(uint16_t p, uint16_t q, uint16_t t, double *fraction, size_t fraction_len, uint32_t *answer,
                      size_t answer_len);
@@ -48,13 +51,16 @@ void parsniprow_edge(uint16_t p, uint16_t q, uint16_t t, double *fraction, size_
 /* The loops of crossed edges in a cube, each of which is a vertex.
      c0 to c7  the samples at the corners; corner x + 2 * y + 4 * z is at (x, y, z)
      t         the threshold
-     words     answer place, 4 items: the mask of each loop, bit e for edge e, by lowest edge; 0 where there is no loop, on refusal too
-     offsets   answer place, 12 items: the place x, y, z of each loop in the cube, each 0 to 1; 0 where there is no loop, on refusal too
+     words     answer place, 4 items: the mask of each loop, bit e for edge e, by lowest edge; 0 where there is no loop,
+               on refusal too
+     offsets   answer place, 12 items: the place x, y, z of each loop in the cube, each 0 to 1; 0 where there is none,
+               on refusal too
      answer    answer place, 3 items: 0, number of loops (0 to 4), 0; or refusal (3 or 4), its value, 0
-   The edges run between corners 0: 0-1, 1: 2-3, 2: 4-5, 3: 6-7, 4: 0-2, 5: 1-3, 6: 4-6, 7: 5-7, 8: 0-4, 9: 1-5, 10: 2-6, 11: 3-7. */
-void parsniprow_cube(uint16_t c0, uint16_t c1, uint16_t c2, uint16_t c3, uint16_t c4, uint16_t c5, uint16_t c6, uint16_t c7,
-                     uint16_t t, uint32_t *words, size_t words_len, double *offsets, size_t offsets_len, uint32_t *answer,
-                     size_t answer_len);
+   The edges run between corners 0: 0-1, 1: 2-3, 2: 4-5, 3: 6-7, 4: 0-2, 5: 1-3, 6: 4-6, 7: 5-7, 8: 0-4, 9: 1-5,
+   10: 2-6, 11: 3-7. */
+void parsniprow_cube(uint16_t c0, uint16_t c1, uint16_t c2, uint16_t c3, uint16_t c4, uint16_t c5, uint16_t c6,
+                     uint16_t c7, uint16_t t, uint32_t *words, size_t words_len, double *offsets, size_t offsets_len,
+                     uint32_t *answer, size_t answer_len);
 
 /* How many vertices and quads the mesh of a block has. At most 66325500 and 49354740.
      nx, ny, nz  axis lengths in samples, each 2 to 256
@@ -68,21 +74,22 @@ void parsniprow_counts(uint32_t nx, uint32_t ny, uint32_t nz, const uint16_t *sa
      nx, ny, nz, samples, t  as of parsniprow_counts
      words    room for 2 items a vertex: the number of its cube, then the mask of its loop. Cube (i, j, k) has number
               i + (nx - 1) * (j + (ny - 1) * k)
-     offsets  room for 3 items a vertex: x, y, z from the cube's corner 0, each 0 to 1; the vertex is at (i + x, j + y, k + z) in grid steps
-     quads    room for 4 items a quad: the numbers of its vertices, from 0. Seen from the hollow side they run against the clock where
-              x, y, z are right-handed
+     offsets  room for 3 items a vertex: x, y, z from the cube's corner 0, each 0 to 1; the vertex is at
+              (i + x, j + y, k + z) in grid steps
+     quads    room for 4 items a quad: the numbers of its vertices, from 0. Seen from the hollow side they run against
+              the clock where x, y, z are right-handed
      answer   answer place, 3 items: 0, vertices, quads; or refusal (1 to 6), its value, 0
    The three buffers keep their contents on refusal, and always behind the mesh. */
 void parsniprow_mesh(uint32_t nx, uint32_t ny, uint32_t nz, const uint16_t *samples, size_t samples_len, uint16_t t,
                      uint32_t *words, size_t words_len, double *offsets, size_t offsets_len, uint32_t *quads,
                      size_t quads_len, uint32_t *answer, size_t answer_len);
 
-/* Whether a list of quads is closed: each side, as an unordered pair of vertices, is used exactly twice over all quads and has two
-   different ends. By this rule the meshes of many sound pores are open. The empty list is closed.
+/* Whether a list of quads is closed: each side, as an unordered pair of vertices, is used exactly twice over all quads
+   and has two different ends. By this rule the meshes of many sound pores are open. The empty list is closed.
    ITS TIME GROWS WITH THE SQUARE OF THE LIST: 10000 quads take some two seconds, 100000 some minutes.
      quads   4 vertex numbers a quad, any numbers; side s of a quad runs from its vertex s to the next, 3 back to 0
-     answer  answer place, 4 items: 0, 1, 0, 0 if closed; 0, 0, quad, side of the first side at fault, by quad and then by side; or refusal
-             7, its value, 0, 0. A quad above 4294967295 is given as that */
+     answer  answer place, 4 items: 0, 1, 0, 0 if closed; 0, 0, quad, side of the first side at fault, by quad and then
+             by side; or refusal 7, its value, 0, 0. A quad above 4294967295 is given as that */
 void parsniprow_closed(const uint32_t *quads, size_t quads_len, uint32_t *answer, size_t answer_len);
 
 #ifdef __cplusplus

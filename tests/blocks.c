@@ -1,11 +1,14 @@
-/* Random numbers, sizes, thresholds and blocks of samples: those that the rules of the paper turn on.
+/* Random numbers, sizes, thresholds, grey values and blocks of samples: those that the rules of the paper turn on.
    Assumes nothing. */
 #include "blocks.h"
+
+#include "bench_cubes.h"
 
 const char *const kind_names[KINDS] = {"uniform noise", "values at t-1, t, t+1, 0, 65534",
                                        "differences with equal products", "large products one step apart",
                                        "checkerboard of two values", "checkerboard of many values", "pores",
-                                       "all metal", "all hollow", "plane", "sparse", "only 0 and 65534"};
+                                       "all metal", "all hollow", "plane", "sparse", "only 0 and 65534",
+                                       "single pore or grain", "the nine bench cubes"};
 
 /* ---- chance ---- */
 
@@ -43,8 +46,10 @@ static uint16_t between(struct chance *chance, unsigned low, unsigned high)
 
 /* ---- sizes and thresholds ---- */
 
-/* Lengths around the words of 64 samples, and the limit. */
-static const uint32_t long_axes[] = {62, 63, 64, 65, 66, 67, 127, 128, 129, 130, 191, 192, 193, 255, 256};
+/* Lengths around the words of 64 samples and below the limit. */
+static const uint32_t long_axes[] = {62, 63, 64, 65, 66, 67, 127, 128, 129, 130, 191, 192, 193, 254, 255};
+
+enum { LONG_AXES = sizeof long_axes / sizeof *long_axes };
 
 void choose_size(struct chance *chance, int inner, uint32_t length[3])
 {
@@ -59,12 +64,12 @@ void choose_size(struct chance *chance, int inner, uint32_t length[3])
     if (shape < 90)
         length[axis] = between(chance, 10, 70);
     else if (shape < 96)
-        length[axis] = long_axes[chance_below(chance, sizeof long_axes / sizeof *long_axes)];
+        length[axis] = chance_in_100(chance, 25) ? LONGEST_AXIS : long_axes[chance_below(chance, LONG_AXES)];
     else if (shape < 99)
-        length[axis] = between(chance, 10, 70), length[(axis + 1) % 3] = between(chance, 10, 70);
+        length[axis] = between(chance, 10, 70), length[(axis + 1) % 3] = between(chance, 10, 30);
     else
         for (unsigned i = 0; i < 3; i++)
-            length[i] = between(chance, 10, 36);
+            length[i] = between(chance, 10, 24);
 }
 
 uint16_t choose_threshold(struct chance *chance)
@@ -116,6 +121,25 @@ static uint16_t near_threshold(struct chance *chance, uint16_t t)
     }
 }
 
+uint16_t choose_grey(struct chance *chance, uint16_t t)
+{
+    return chance_in_100(chance, 50) ? near_threshold(chance, t) : between(chance, 0, HIGHEST);
+}
+
+uint16_t choose_sign(struct chance *chance, int is_metal, uint16_t t)
+{
+    switch (chance_below(chance, 4)) {
+    case 0:
+        return is_metal ? t : (uint16_t)(t - 1);
+    case 1:
+        return is_metal ? grey((int64_t)t + 1) : 0;
+    case 2:
+        return is_metal ? HIGHEST : grey((int64_t)t - 2);
+    default:
+        return is_metal ? metal(chance, t) : hollow(chance, t);
+    }
+}
+
 /* Differences with many common multiples: the two products of a face are often equal, or off by one step. */
 static uint16_t equal_products(struct chance *chance, uint16_t t)
 {
@@ -158,6 +182,47 @@ static void pores(struct chance *chance, const uint32_t length[3], uint16_t t, u
                     outside = square < outside ? square : outside;
                 }
                 samples[index++] = grey(t + step * outside);
+            }
+}
+
+/* One box of hollow in metal, or of metal in hollow: a single sample, or one to four samples along each axis. It is off
+   the block's sides where there is room for that. */
+static void single_pore(struct chance *chance, const uint32_t length[3], uint16_t t, uint16_t *samples)
+{
+    int grain = chance_in_100(chance, 50), one_sample = chance_in_100(chance, 50);
+    uint32_t from[3], to[3];
+    size_t index = 0;
+    for (unsigned axis = 0; axis < 3; axis++) {
+        uint32_t off = length[axis] > 2 ? 1 : 0, room = length[axis] - 2 * off;
+        uint32_t wide = one_sample ? 1 : between(chance, 1, room < 4 ? room : 4);
+        from[axis] = off + (uint32_t)chance_below(chance, room - wide + 1);
+        to[axis] = from[axis] + wide;
+    }
+    for (uint32_t k = 0; k < length[2]; k++)
+        for (uint32_t j = 0; j < length[1]; j++)
+            for (uint32_t i = 0; i < length[0]; i++) {
+                int inside = i >= from[0] && i < to[0] && j >= from[1] && j < to[1] && k >= from[2] && k < to[2];
+                samples[index++] = choose_sign(chance, inside == grain, t);
+            }
+}
+
+/* The bench cubes: a cube for each group of 2 by 2 by 2 samples, or one for all groups, so that every cube of the block
+   is that cube or its image in a mirror. */
+static void tiled(struct chance *chance, const uint32_t length[3], uint16_t t, uint16_t *samples)
+{
+    int64_t scale = t == BENCH_THRESHOLD ? 1 : 1 + (int64_t)chance_below(chance, 100);
+    size_t one = (size_t)chance_below(chance, BENCH_CUBES);
+    int alike = chance_in_100(chance, 30);
+    for (uint32_t k = 0; k < length[2]; k += 2)
+        for (uint32_t j = 0; j < length[1]; j += 2)
+            for (uint32_t i = 0; i < length[0]; i += 2) {
+                const uint16_t *corners = bench_cubes[alike ? one : (size_t)chance_below(chance, BENCH_CUBES)].corners;
+                for (uint32_t corner = 0; corner < 8; corner++) {
+                    uint32_t x = i + (corner & 1), y = j + (corner >> 1 & 1), z = k + (corner >> 2 & 1);
+                    if (x < length[0] && y < length[1] && z < length[2])
+                        samples[x + length[0] * (y + (size_t)length[1] * z)] =
+                            grey(t + scale * ((int64_t)corners[corner] - BENCH_THRESHOLD));
+                }
             }
 }
 
@@ -222,6 +287,10 @@ void fill_block(struct chance *chance, enum kind kind, const uint32_t length[3],
         pores(chance, length, t, samples);
     else if (kind == PLANE)
         plane(chance, length, t, samples);
+    else if (kind == SINGLE_PORE)
+        single_pore(chance, length, t, samples);
+    else if (kind == TILED)
+        tiled(chance, length, t, samples);
     else if (kind == LARGE_PRODUCTS)
         large_products(chance, length, t, samples);
     else if (kind == CHECKERBOARD || kind == ROUGH_CHECKERBOARD)

@@ -1,4 +1,5 @@
-/* Random numbers, sizes, thresholds and blocks of samples for the comparison with the plain implementation.
+/* Random numbers, sizes, thresholds, grey values and blocks of samples for the comparison with the plain
+   implementation.
    Assumes nothing; the same seed gives the same numbers on every machine. */
 #ifndef PARSNIPROW_BLOCKS_H
 #define PARSNIPROW_BLOCKS_H
@@ -41,12 +42,21 @@ enum kind {
     PLANE,
     SPARSE,
     EXTREMES,
+    SINGLE_PORE,
+    TILED,
     KINDS
 };
 
 extern const char *const kind_names[KINDS];
 
-/* Fills a block with grey values from 0 to 65534. */
+/* A grey value from 0 to 65534, often at the threshold or beside it. */
+uint16_t choose_grey(struct chance *chance, uint16_t t);
+
+/* A grey value of metal or of hollow, often as near to the threshold or as far from it as can be. */
+uint16_t choose_sign(struct chance *chance, int is_metal, uint16_t t);
+
+/* Fills a block with grey values from 0 to 65534. TILED puts the paper's nine cubes side by side, as they stand there
+   where t is 100 and moved with the threshold elsewhere. */
 void fill_block(struct chance *chance, enum kind kind, const uint32_t length[3], uint16_t t, uint16_t *samples);
 
 #endif

@@ -1,5 +1,6 @@
-/* A caller of the installed library, in the words that C and C++ share: the paper's samples through each of the five functions, in a thread
-   with a stack of 64 KiB, which the header says is enough. Prints what is wrong and ends with status 1, or ends with status 0.
+/* A caller of the installed library, in the words that C and C++ share: the paper's samples through each of the five
+   functions, in a thread with a stack of 64 KiB, which the header says is enough. Prints what is wrong and ends with
+   status 1, or ends with status 0.
    Assumes the installed header and archive, and POSIX threads. */
 #define _POSIX_C_SOURCE 200809L
 
@@ -58,10 +59,12 @@ static void ask_block(uint32_t *quads)
     samples[13] = 400;
     parsniprow_counts(3, 3, 3, samples, SAMPLES, 100, answer, 3);
     expect("counts", answers(answer, 0, VERTICES, QUADS));
-    parsniprow_mesh(3, 3, 3, samples, SAMPLES, 100, words, 2 * VERTICES, offsets, 3 * VERTICES, quads, 4 * QUADS, answer, 3);
+    parsniprow_mesh(3, 3, 3, samples, SAMPLES, 100, words, 2 * VERTICES, offsets, 3 * VERTICES, quads, 4 * QUADS,
+                    answer, 3);
     expect("mesh", answers(answer, 0, VERTICES, QUADS) && words[1] == 0x888 && offsets[0] == 0.75 && quads[1] == 4);
     samples[26] = 65535;
-    parsniprow_mesh(3, 3, 3, samples, SAMPLES, 100, words, 2 * VERTICES, offsets, 3 * VERTICES, quads, 4 * QUADS, answer, 3);
+    parsniprow_mesh(3, 3, 3, samples, SAMPLES, 100, words, 2 * VERTICES, offsets, 3 * VERTICES, quads, 4 * QUADS,
+                    answer, 3);
     expect("a sample at the ceiling", answers(answer, 4, 26, 0));
 }
 

@@ -1,5 +1,5 @@
 /* The paper's rules in plain C by another method than the library's: loops are walked link by link, no table of masks,
-   faces come from the corners, a quad's vertices are searched for.
+   faces come from the corners, a quad's vertices are searched for, the sides of a list of quads are sorted.
    Assumes doubles rounded to nearest, each operation by itself (-ffp-contract=off). */
 #include "plain.h"
 
@@ -7,7 +7,7 @@
 #include <stdlib.h>
 
 enum { AXES = 3, CORNERS = 8, EDGES = 12, FACES = 6, MOST_LOOPS = 4, CEILING = 65535 };
-enum { SHORTEST_AXIS = 2, LONGEST_AXIS = 256, WORDS = 2, SIDES = 4 };
+enum { SHORTEST_AXIS = 2, LONGEST_AXIS = 256, WORDS = 2, SIDES = 4, ANSWER = 3, CLOSED_ANSWER = 4 };
 
 /* Corner pairs of the edges, the lower one first. */
 static const unsigned ends[EDGES][2] = {{0, 1}, {2, 3}, {4, 5}, {6, 7}, {0, 2}, {1, 3},
@@ -368,14 +368,33 @@ static struct refusal check_block(uint32_t nx, uint32_t ny, uint32_t nz, const u
     return check_values(samples, samples_len, t);
 }
 
+/* ---- answer places ---- */
+
+/* As many items as the place has room for; what lies behind is kept. */
+static void put_words(uint32_t *place, size_t place_len, const uint32_t *items, size_t count)
+{
+    for (size_t i = 0; i < count && i < place_len; i++)
+        place[i] = items[i];
+}
+
+static void put_doubles(double *place, size_t place_len, const double *items, size_t count)
+{
+    for (size_t i = 0; i < count && i < place_len; i++)
+        place[i] = items[i];
+}
+
 static void say(uint32_t *answer, size_t answer_len, uint32_t number, uint32_t second, uint32_t third)
 {
-    if (answer_len > 0)
-        answer[0] = number;
-    if (answer_len > 1)
-        answer[1] = second;
-    if (answer_len > 2)
-        answer[2] = third;
+    uint32_t items[ANSWER];
+    items[0] = number;
+    items[1] = second;
+    items[2] = third;
+    put_words(answer, answer_len, items, ANSWER);
+}
+
+static void say_refused(uint32_t *answer, size_t answer_len, struct refusal refusal)
+{
+    say(answer, answer_len, refusal.number, refusal.value, 0);
 }
 
 static struct block block_of(uint32_t nx, uint32_t ny, uint32_t nz, const uint16_t *samples, uint16_t t)
@@ -389,46 +408,103 @@ static struct block block_of(uint32_t nx, uint32_t ny, uint32_t nz, const uint16
     return block;
 }
 
+/* ---- sides of a list of quads ---- */
+
+/* A side by its ends, the lower number first, and where it stands: 4 times its quad, plus its number there. */
+struct side {
+    uint32_t low, high;
+    size_t at;
+};
+
+static int by_ends(const void *a, const void *b)
+{
+    const struct side *x = a, *y = b;
+    if (x->low != y->low)
+        return x->low < y->low ? -1 : 1;
+    if (x->high != y->high)
+        return x->high < y->high ? -1 : 1;
+    return 0;
+}
+
+static struct side side_at(const uint32_t *quads, size_t at)
+{
+    uint32_t from = quads[at], to = quads[at % SIDES == SIDES - 1 ? at - (SIDES - 1) : at + 1];
+    struct side side;
+    side.low = from < to ? from : to;
+    side.high = from < to ? to : from;
+    side.at = at;
+    return side;
+}
+
+/* Where the first side at fault stands, or count where there is none: equal sides stand together once they are
+   sorted. */
+static size_t first_fault(struct side *sides, size_t count)
+{
+    size_t fault = count;
+    qsort(sides, count, sizeof *sides, by_ends);
+    for (size_t from = 0, to; from < count; from = to) {
+        for (to = from + 1; to < count && by_ends(&sides[from], &sides[to]) == 0; to++)
+            ;
+        if (to - from == 2 && sides[from].low != sides[from].high)
+            continue;
+        for (size_t i = from; i < to; i++)
+            fault = sides[i].at < fault ? sides[i].at : fault;
+    }
+    return fault;
+}
+
+static size_t first_side_at_fault(const uint32_t *quads, size_t quads_len)
+{
+    struct side *sides = malloc((quads_len + 1) * sizeof *sides);
+    size_t fault;
+    if (!sides)
+        impossible("no memory");
+    for (size_t at = 0; at < quads_len; at++)
+        sides[at] = side_at(quads, at);
+    fault = first_fault(sides, quads_len);
+    free(sides);
+    return fault;
+}
+
 /* ---- the questions ---- */
 
-void plain_edge(uint16_t p, uint16_t q, uint16_t t, double *fraction, uint32_t *answer, size_t answer_len)
+void plain_edge(uint16_t p, uint16_t q, uint16_t t, double *fraction, size_t fraction_len, uint32_t *answer,
+                size_t answer_len)
 {
     uint16_t both[2];
     struct refusal refusal;
+    double found = 0.0;
     both[0] = p;
     both[1] = q;
     refusal = check_values(both, 2, t);
-    *fraction = 0.0;
     if (refusal.number) {
-        say(answer, answer_len, refusal.number, refusal.value, 0);
-        return;
+        say_refused(answer, answer_len, refusal);
+    } else {
+        if (crossed_between(p, q, t))
+            found = fraction_between(p, q, t);
+        say(answer, answer_len, 0, crossed_between(p, q, t) ? 1 : 0, 0);
     }
-    if (crossed_between(p, q, t))
-        *fraction = fraction_between(p, q, t);
-    say(answer, answer_len, 0, crossed_between(p, q, t) ? 1 : 0, 0);
+    put_doubles(fraction, fraction_len, &found, 1);
 }
 
-void plain_cube(const uint16_t corners[8], uint16_t t, uint32_t masks[4], double offsets[12], uint32_t *answer,
+void plain_cube(uint16_t c0, uint16_t c1, uint16_t c2, uint16_t c3, uint16_t c4, uint16_t c5, uint16_t c6, uint16_t c7,
+                uint16_t t, uint32_t *words, size_t words_len, double *offsets, size_t offsets_len, uint32_t *answer,
                 size_t answer_len)
 {
-    struct refusal refusal = check_values(corners, CORNERS, t);
-    struct cube cube;
-    unsigned count;
-    for (unsigned loop = 0; loop < MOST_LOOPS; loop++)
-        masks[loop] = 0;
-    for (unsigned i = 0; i < AXES * MOST_LOOPS; i++)
-        offsets[i] = 0.0;
+    struct cube cube = {{c0, c1, c2, c3, c4, c5, c6, c7}, t};
+    struct refusal refusal = check_values(cube.sample, CORNERS, t);
+    uint32_t masks[MOST_LOOPS] = {0};
+    double places[AXES * MOST_LOOPS] = {0.0};
     if (refusal.number) {
-        say(answer, answer_len, refusal.number, refusal.value, 0);
-        return;
+        say_refused(answer, answer_len, refusal);
+    } else {
+        unsigned count = loops(&cube, masks);
+        for (unsigned loop = 0; loop < count; loop++)
+            place(&cube, masks[loop], places + AXES * loop);
+        say(answer, answer_len, 0, count, 0);
     }
-    cube.t = t;
-    for (unsigned corner = 0; corner < CORNERS; corner++)
-        cube.sample[corner] = corners[corner];
-    count = loops(&cube, masks);
-    for (unsigned loop = 0; loop < count; loop++)
-        place(&cube, masks[loop], offsets + AXES * loop);
-    say(answer, answer_len, 0, count, 0);
+    put_words(words, words_len, masks, MOST_LOOPS);
+    put_doubles(offsets, offsets_len, places, AXES * MOST_LOOPS);
 }
 
 void plain_counts(uint32_t nx, uint32_t ny, uint32_t nz, const uint16_t *samples, size_t samples_len, uint16_t t,
@@ -437,7 +513,7 @@ void plain_counts(uint32_t nx, uint32_t ny, uint32_t nz, const uint16_t *samples
     struct refusal refusal = check_block(nx, ny, nz, samples, samples_len, t);
     struct block block = block_of(nx, ny, nz, samples, t);
     if (refusal.number) {
-        say(answer, answer_len, refusal.number, refusal.value, 0);
+        say_refused(answer, answer_len, refusal);
         return;
     }
     say(answer, answer_len, 0, number_vertices(&block, NULL), number_quads(&block, NULL, NULL, NULL));
@@ -451,7 +527,7 @@ void plain_mesh(uint32_t nx, uint32_t ny, uint32_t nz, const uint16_t *samples, 
     struct block block = block_of(nx, ny, nz, samples, t);
     uint32_t vertex_count, quad_count, *first;
     if (refusal.number) {
-        say(answer, answer_len, refusal.number, refusal.value, 0);
+        say_refused(answer, answer_len, refusal);
         return;
     }
     first = malloc((cubes(&block) + 1) * sizeof *first);
@@ -469,4 +545,21 @@ void plain_mesh(uint32_t nx, uint32_t ny, uint32_t nz, const uint16_t *samples, 
         say(answer, answer_len, 0, vertex_count, quad_count);
     }
     free(first);
+}
+
+void plain_closed(const uint32_t *quads, size_t quads_len, uint32_t *answer, size_t answer_len)
+{
+    uint32_t items[CLOSED_ANSWER] = {0};
+    if (quads_len % SIDES != 0) {
+        items[0] = 7;
+        items[1] = (uint32_t)(quads_len % SIDES);
+    } else {
+        size_t at = first_side_at_fault(quads, quads_len);
+        items[1] = at == quads_len;
+        if (at < quads_len) {
+            items[2] = at / SIDES > UINT32_MAX ? UINT32_MAX : (uint32_t)(at / SIDES);
+            items[3] = (uint32_t)(at % SIDES);
+        }
+    }
+    put_words(answer, answer_len, items, CLOSED_ANSWER);
 }

@@ -1,8 +1,9 @@
-/* The paper's questions answered a second time, in plain C, to compare the library with.
+/* The paper's questions answered a second time, in plain C, to compare the library with. Each function has the
+   signature of the library's function of that name in include/parsniprow.h and can stand in for it.
    Assumes that no pointer is null and that every length counts items.
 
-   An answer is three words: number of refusal, value, 0 on refusal; otherwise 0 and what the function says below.
-   It is always written, as far as its place reaches. */
+   An answer is three words, of the closed question four: number of refusal, value, 0 on refusal; otherwise 0 and what
+   the function says below. Answer places are always written, as far as they reach, and what lies behind is kept. */
 #ifndef PARSNIPROW_PLAIN_H
 #define PARSNIPROW_PLAIN_H
 
@@ -11,11 +12,13 @@
 
 /* The edge question, lower value p and upper value q. Answer: 0, crossings (0 or 1), 0. Refusals 3 and 4.
    The fraction is plus zero where there is no crossing, on refusal too. */
-void plain_edge(uint16_t p, uint16_t q, uint16_t t, double *fraction, uint32_t *answer, size_t answer_len);
+void plain_edge(uint16_t p, uint16_t q, uint16_t t, double *fraction, size_t fraction_len, uint32_t *answer,
+                size_t answer_len);
 
 /* The cube question over corners 0 to 7. Answer: 0, loops, 0. Refusals 3 and 4.
    Four masks and four offsets of three coordinates; those that no loop uses hold zero, on refusal too. */
-void plain_cube(const uint16_t corners[8], uint16_t t, uint32_t masks[4], double offsets[12], uint32_t *answer,
+void plain_cube(uint16_t c0, uint16_t c1, uint16_t c2, uint16_t c3, uint16_t c4, uint16_t c5, uint16_t c6, uint16_t c7,
+                uint16_t t, uint32_t *words, size_t words_len, double *offsets, size_t offsets_len, uint32_t *answer,
                 size_t answer_len);
 
 /* The counts of a mesh. Answer: 0, vertices, quads. Refusals 1 to 4. */
@@ -26,6 +29,10 @@ void plain_counts(uint32_t nx, uint32_t ny, uint32_t nz, const uint16_t *samples
 void plain_mesh(uint32_t nx, uint32_t ny, uint32_t nz, const uint16_t *samples, size_t samples_len, uint16_t t,
                 uint32_t *words, size_t words_len, double *offsets, size_t offsets_len, uint32_t *quads,
                 size_t quads_len, uint32_t *answer, size_t answer_len);
+
+/* The closed question. Answer: 0, 1, 0, 0 where the list is closed; 0, 0, quad, side of the first side at fault; or
+   refusal 7, its value, 0, 0. */
+void plain_closed(const uint32_t *quads, size_t quads_len, uint32_t *answer, size_t answer_len);
 
 /* The edges of a face as a mask, worked out from the corners. Faces x=0, x=1, y=0, y=1, z=0, z=1 are 0 to 5. */
 uint32_t plain_face(unsigned face);

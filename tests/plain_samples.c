@@ -1,12 +1,14 @@
 /* Runs the plain implementation on the paper's samples: the example block with its whole output, the nine cubes, the
-   edges, the refusals and the table of faces. Prints each sample and its verdict; exits with 1 if one differs.
+   edges, the refusals, lists of quads and the table of faces. Prints each sample and its verdict; exits with 1 if one
+   differs.
    Assumes nothing of the library. */
+#include "bench_cubes.h"
 #include "plain.h"
 
 #include <stdio.h>
 #include <string.h>
 
-enum { ANSWER = 3, EXAMPLE_SAMPLES = 27, EXAMPLE_VERTICES = 8, EXAMPLE_QUADS = 6, CEILING = 65535 };
+enum { ANSWER = 3, CLOSED_ANSWER = 4, EXAMPLE_SAMPLES = 27, EXAMPLE_VERTICES = 8, EXAMPLE_QUADS = 6, CEILING = 65535 };
 
 static unsigned failures;
 
@@ -47,20 +49,11 @@ static void example_block(uint16_t samples[EXAMPLE_SAMPLES])
     samples[13] = 0x190;
 }
 
-/* Is each side used exactly twice, and has it two different ends? */
 static int closed(const uint32_t *quads, size_t quad_count)
 {
-    for (size_t i = 0; i < 4 * quad_count; i++) {
-        uint32_t a = quads[i], b = quads[i / 4 * 4 + (i + 1) % 4];
-        unsigned uses = 0;
-        for (size_t j = 0; j < 4 * quad_count; j++) {
-            uint32_t c = quads[j], d = quads[j / 4 * 4 + (j + 1) % 4];
-            uses += (a == c && b == d) || (a == d && b == c);
-        }
-        if (a == b || uses != 2)
-            return 0;
-    }
-    return 1;
+    uint32_t answer[CLOSED_ANSWER];
+    plain_closed(quads, 4 * quad_count, answer, CLOSED_ANSWER);
+    return answer[0] == 0 && answer[1] == 1;
 }
 
 static unsigned long long bits(double x)
@@ -101,32 +94,18 @@ static void example(void)
 
 /* ---- cubes ---- */
 
-struct bench_cube {
-    const char *name;
-    uint16_t corners[8];
-    unsigned count;
-    uint32_t masks[4];
-};
-
-static const struct bench_cube bench_cubes[] = {
-    {"eight times 99", {99, 99, 99, 99, 99, 99, 99, 99}, 0, {0}},
-    {"eight times 100", {100, 100, 100, 100, 100, 100, 100, 100}, 0, {0}},
-    {"200, seven times 0", {200, 0, 0, 0, 0, 0, 0, 0}, 1, {0x111}},
-    {"110,0,0,110,0,0,0,0", {110, 0, 0, 110, 0, 0, 0, 0}, 2, {0x111, 0x822}},
-    {"300,50,50,300,0,0,0,0", {300, 50, 50, 300, 0, 0, 0, 0}, 1, {0x933}},
-    {"200,0,0,200,0,0,0,0 (tie)", {200, 0, 0, 200, 0, 0, 0, 0}, 1, {0x933}},
-    {"100,99,99,65534,0,0,0,0", {100, 99, 99, 65534, 0, 0, 0, 0}, 2, {0x111, 0x822}},
-    {"110,0,0,110,0,110,110,0", {110, 0, 0, 110, 0, 110, 110, 0}, 4, {0x111, 0x822, 0x284, 0x448}},
-    {"300,50,50,300,50,300,300,50", {300, 50, 50, 300, 50, 300, 300, 50}, 4, {0x221, 0x412, 0x144, 0x888}},
-};
+static void ask_cube(const uint16_t c[8], uint16_t t, uint32_t masks[4], double offsets[12], uint32_t answer[ANSWER])
+{
+    plain_cube(c[0], c[1], c[2], c[3], c[4], c[5], c[6], c[7], t, masks, 4, offsets, 12, answer, ANSWER);
+}
 
 static void cubes(void)
 {
-    for (size_t i = 0; i < sizeof bench_cubes / sizeof *bench_cubes; i++) {
+    for (size_t i = 0; i < BENCH_CUBES; i++) {
         uint32_t masks[4], answer[ANSWER];
         double offsets[12];
         int within = 1;
-        plain_cube(bench_cubes[i].corners, 100, masks, offsets, answer, ANSWER);
+        ask_cube(bench_cubes[i].corners, BENCH_THRESHOLD, masks, offsets, answer);
         for (unsigned loop = 0; loop < answer[1]; loop++)
             printf("%s%03X", loop ? ", " : "masks ", (unsigned)masks[loop]);
         printf("%s", answer[1] ? "\n" : "no masks\n");
@@ -142,12 +121,12 @@ static void cube_refusals(void)
     uint16_t corners[8] = {0, 0, 0, CEILING, 0, CEILING, 0, 0};
     uint32_t masks[4], answer[ANSWER];
     double offsets[12];
-    plain_cube(corners, 100, masks, offsets, answer, ANSWER);
+    ask_cube(corners, 100, masks, offsets, answer);
     verdict("cube with corners 3 and 5 at the ceiling",
             says(answer, 4, 3, 0) && masks[0] == 0 && bits(offsets[0]) == 0);
-    plain_cube(corners, 0, masks, offsets, answer, ANSWER);
+    ask_cube(corners, 0, masks, offsets, answer);
     verdict("cube with t = 0", says(answer, 3, 0, 0));
-    plain_cube(corners, CEILING, masks, offsets, answer, ANSWER);
+    ask_cube(corners, CEILING, masks, offsets, answer);
     verdict("cube with t = 65535", says(answer, 3, CEILING, 0));
 }
 
@@ -158,7 +137,7 @@ static void edge(uint16_t p, uint16_t q, uint32_t number, uint32_t second, doubl
     uint32_t answer[ANSWER];
     double fraction;
     char name[64];
-    plain_edge(p, q, 100, &fraction, answer, ANSWER);
+    plain_edge(p, q, 100, &fraction, 1, answer, ANSWER);
     sprintf(name, "edge %u,%u: %s %g", (unsigned)p, (unsigned)q,
             number ? "refused, fraction" : second ? "fraction" : "none, fraction", wanted);
     verdict(name, says(answer, number, second, 0) && bits(fraction) == bits(wanted));
@@ -220,6 +199,36 @@ static void refusals(void)
     verdict("last sample at the ceiling: 4, value 26", says(answer, 4, EXAMPLE_SAMPLES - 1, 0));
 }
 
+/* ---- lists of quads ---- */
+
+static void list(const char *name, const uint32_t *quads, size_t quads_len, uint32_t number, uint32_t second,
+                 uint32_t quad, uint32_t side)
+{
+    uint32_t answer[CLOSED_ANSWER];
+    plain_closed(quads, quads_len, answer, CLOSED_ANSWER);
+    verdict(name, says(answer, number, second, quad) && answer[3] == side);
+}
+
+/* The paper's samples first, then its rule where it is easily missed; these are worked out by hand. */
+static void lists(void)
+{
+    static const uint32_t alone[] = {0, 1, 2, 3}, twice[] = {0, 1, 2, 3, 1, 2, 3, 0};
+    static const uint32_t folded[] = {0, 1, 2, 1}, narrow[] = {0, 1, 0, 1};
+    static const uint32_t equal[] = {5, 5, 6, 7, 5, 5, 6, 7}, late[] = {0, 1, 2, 1, 3, 4, 5, 4, 6, 7, 8, 8};
+    static const uint32_t last[] = {0, 1, 2, 1, 0, 3, 4, 4};
+    list("quad 0,1,2,3 alone: open at quad 0, side 0", alone, 4, 0, 0, 0, 0);
+    list("empty list: closed", alone, 0, 0, 1, 0, 0);
+    list("length 1: 7, value 1", alone, 1, 7, 1, 0, 0);
+    list("length 3: 7, value 3", alone, 3, 7, 3, 0, 0);
+    list("length 6: 7, value 2", twice, 6, 7, 2, 0, 0);
+    list("a quad twice: closed", twice, 8, 0, 1, 0, 0);
+    list("quad 0,1,2,1: closed", folded, 4, 0, 1, 0, 0);
+    list("quad 0,1,0,1: four uses, open", narrow, 4, 0, 0, 0, 0);
+    list("equal ends used twice: open", equal, 8, 0, 0, 0, 0);
+    list("fault in quad 2", late, 12, 0, 0, 2, 0);
+    list("fault in quad 1", last, 8, 0, 0, 1, 0);
+}
+
 /* ---- faces ---- */
 
 static void faces(void)
@@ -243,6 +252,7 @@ int main(void)
     cubes();
     cube_refusals();
     refusals();
+    lists();
     example();
     printf("plain_samples: %u differences\n", failures);
     return failures ? 1 : 0;

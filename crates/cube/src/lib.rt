@@ -504,7 +504,7 @@ fn round(links: [u32; 12], m: u32) -> u32
     x
 }
 
-// The loop of the lowest edge of a set of edges, in three rounds of its links.
+// The loop of the lowest edge of a set of edges, in three rounds of its links; a round that adds nothing is the last.
 fn loop_from(links: [u32; 12], m: u32) -> u32
     requires { ⌜ 0 < m ⌝ }
     ensures { λ r. ⌜ r ≡ loopFrom links (lowestEdge m) ⌝ }
@@ -512,27 +512,41 @@ fn loop_from(links: [u32; 12], m: u32) -> u32
     let e = u32::trailing_zeros(m);
     let x = round(links, 1u32 << e);
     let y = round(links, x);
+    if y == x {
+        return x;
+    }
     round(links, y)
 }
 
-// The loops of a cube of samples: the loop of the lowest crossed edge, then that of the lowest edge left, until none is left.
-pub fn loops_of(corners: [u16; 8], cut: Cut) -> Loops
+// The loops of a cube of samples whose crossed edges are m: the loop of the lowest of them, then that of the lowest edge left, until none is
+// left.
+pub fn loops_among(m: u32, corners: [u16; 8], cut: Cut) -> Loops
+    requires { ⌜ m ≡ crossedMask (patternOf cut corners) ⌝ }
     ensures { λ r. ⌜ r ≡ loopsGiven cut corners ⌝ }
     ensures { λ r. ⌜ r .count ≤ 4 ⌝ }
 {
-    let table = masks();
-    let mut m = crossed_edges(&table, pattern(corners, cut));
     let links = links_of(corners, cut, m);
+    let mut left = m;
     let mut masks: [u32; 4] = [0; 4];
     let mut n: usize = 0;
-    while n < 4 && m != 0 {
-        let l = loop_from(links, m);
+    while n < 4 && left != 0 {
+        let l = loop_from(links, left);
         masks[n] = l;
-        m = m ^ l;
+        left = left ^ l;
         n += 1;
     }
     Loops {
         count: n as u32,
         masks: masks,
     }
+}
+
+// The loops of a cube of samples.
+pub fn loops_of(corners: [u16; 8], cut: Cut) -> Loops
+    ensures { λ r. ⌜ r ≡ loopsGiven cut corners ⌝ }
+    ensures { λ r. ⌜ r .count ≤ 4 ⌝ }
+{
+    let table = masks();
+    let m = crossed_edges(&table, pattern(corners, cut));
+    loops_among(m, corners, cut)
 }

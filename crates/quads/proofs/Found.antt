@@ -29,7 +29,7 @@ use Rattle.quads.specs.Rings.{foundOn, WantedOn, Fits32}
 use Rattle.quads.specs.Steps.{loopsFrom, OneLoop, FirstOf, foundAt}
 use Rattle.quads.specs.Writing.{Accepted}
 use Rattle.quads.proofs.Counts.{plane-index}
-use Rattle.quads.proofs.Layers.{lead-run, first-there, first-word, number-run, run-more}
+use Rattle.quads.proofs.Layers.{lead-run, loop-there, loop-word, number-run, run-more}
 use Rattle.quads.proofs.Products.{product-row}
 
 -- ---- how many vertices there are before a cube
@@ -115,18 +115,18 @@ module _ (n : Size) (s : List ℕ) (cut : Cut) (ok : Accepted n s cut) (x y z e 
         one-more : cube + 1 ≡ base + (place + 1)
         one-more = omega (arith, cube-is)
 
-    some : 0 < length (cubeLoops loopsOf n s cut (base + place))
-    some = rw cube-is (omega (arith, holder-lt))
+    loop-in : (l : ℕ) → l < length (loopsFrom s cut corner (n .nx) (n .nx * n .ny)) → l < length (cubeLoops loopsOf n s cut (base + place))
+    loop-in l h = rw cube-is (rw loops-are at h)
 
     first-of : FirstOf part (leadCube cube part) s cut corner (n .nx) (n .nx * n .ny)
     first-of = record {
-      there = rw (lead-is, is) (first-there n s cut base place (layerSize n) place-lt some);
-      word =
-          ap (λ (v : ℕ). getD part (2 * v + 1) 0) lead-is
-          ∙ ap (λ (ws : List ℕ). getD ws (2 * length (runMasks n s cut base place) + 1) 0) is
-          ∙ first-word n s cut base place (layerSize n) place-lt some
-          ∙ ap (λ (c : ℕ). getD (cubeLoops loopsOf n s cut c) 0 0) cube-is
-          ∙ ap (λ (ms : List ℕ). getD ms 0 0) (sym loops-are);
+      there = λ l h. rw (lead-is, is) (loop-there n s cut base place (layerSize n) l place-lt (loop-in l h));
+      word = λ l h.
+          ap (λ (v : ℕ). getD part (2 * (v + l) + 1) 0) lead-is
+          ∙ ap (λ (ws : List ℕ). getD ws (2 * (length (runMasks n s cut base place) + l) + 1) 0) is
+          ∙ loop-word n s cut base place (layerSize n) l place-lt (loop-in l h)
+          ∙ ap (λ (c : ℕ). getD (cubeLoops loopsOf n s cut c) l 0) cube-is
+          ∙ ap (λ (ms : List ℕ). getD ms l 0) (sym loops-are);
     }
 
     number-is : (first : ℕ) → first ≡ layerFirst n s cut z → first + foundAt part cube s cut e corner (n .nx) (n .nx * n .ny) ≡ vertexNumber loopsOf n s cut cube e

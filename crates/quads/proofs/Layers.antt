@@ -28,9 +28,13 @@ pairs-length : (x : ℕ) (ws : List ℕ) → length (pairs x ws) ≡ 2 * length 
 pairs-length x [] = refl
 pairs-length x (w ∷ ws) = omega (arith, pairs-length x ws)
 
-pairs-first : (x : ℕ) (ws : List ℕ) → 0 < length ws → getD (pairs x ws) 1 0 ≡ getD ws 0 0
-pairs-first x [] h = absurd (omega arith)
-pairs-first x (w ∷ ws) h = refl
+pairs-at : (x : ℕ) (ws : List ℕ) (l : ℕ) → getD (pairs x ws) (2 * l + 1) 0 ≡ getD ws l 0
+pairs-at x [] l = refl
+pairs-at x (w ∷ ws) zero = refl
+pairs-at x (w ∷ ws) (suc l) = ap (λ (k : ℕ). getD (pairs x (w ∷ ws)) k 0) two-more ∙ pairs-at x ws l
+  where
+    two-more : 2 * suc l + 1 ≡ suc (suc (2 * l + 1))
+    two-more = omega arith
 
 -- vertices of a cube before c are passed
 pairs-passed : (c x : ℕ) → x < c → (ws ys : List ℕ) → leadCube c (pairs x ws ++ ys) ≡ length ws + leadCube c ys
@@ -61,9 +65,10 @@ module _ (n : Size) (s : List ℕ) (cut : Cut) where
   unfolding cubeWords
   cube-length c = pairs-length c (words c) ∙ ap (λ (m : ℕ). 2 * m) (words-count c)
 
-  word-first : (corners ms : List ℕ) → getD (map (wordOf corners) ms) 0 0 ≡ getD ms 0 0
-  word-first corners [] = refl
-  word-first corners (m ∷ ms) = refl
+  word-at : (corners ms : List ℕ) (l : ℕ) → getD (map (wordOf corners) ms) l 0 ≡ getD ms l 0
+  word-at corners [] l = refl
+  word-at corners (m ∷ ms) zero = refl
+  word-at corners (m ∷ ms) (suc l) = word-at corners ms l
 
   pub run-length : (c₀ m : ℕ) → length (runWords n s cut c₀ m) ≡ 2 * length (runMasks n s cut c₀ m)
   unfolding below
@@ -124,23 +129,26 @@ module _ (n : Size) (s : List ℕ) (cut : Cut) where
           again : below (λ (x : ℕ). cubeWords n s cut (c₀ + (m + x))) (all - m) ++ [] ≡ runWords n s cut (c₀ + m) (all - m) ++ []
           again = simp shift
 
-  -- ---- its word
+  -- ---- the words of its vertices
 
-  pub first-there : (c₀ m all : ℕ) → m < all → 0 < length (cubeLoops loopsOf n s cut (c₀ + m)) → 2 * length (runMasks n s cut c₀ m) + 1 < length (runWords n s cut c₀ all)
-  first-there c₀ m all h some =
+  pub loop-there : (c₀ m all l : ℕ) → m < all → l < length (cubeLoops loopsOf n s cut (c₀ + m)) → 2 * (length (runMasks n s cut c₀ m) + l) + 1 < length (runWords n s cut c₀ all)
+  loop-there c₀ m all l h some =
       omega (arith, run-length c₀ m, cube-length (c₀ + m), length-below (λ (x : ℕ). cubeWords n s cut (c₀ + x)) all m h)
 
-  word-inside : (c : ℕ) → 0 < length (cubeLoops loopsOf n s cut c) → getD (cubeWords n s cut c) 1 0 ≡ getD (words c) 0 0
+  word-inside : (c l : ℕ) → getD (cubeWords n s cut c) (2 * l + 1) 0 ≡ getD (words c) l 0
   unfolding cubeWords
-  word-inside c some = pairs-first c (words c) (omega (arith, words-count c))
+  word-inside c l = pairs-at c (words c) l
 
-  pub first-word : (c₀ m all : ℕ) → m < all → 0 < length (cubeLoops loopsOf n s cut (c₀ + m))
-      → getD (runWords n s cut c₀ all) (2 * length (runMasks n s cut c₀ m) + 1) 0 ≡ getD (cubeLoops loopsOf n s cut (c₀ + m)) 0 0
-  first-word c₀ m all h some =
-      ap (λ (x : ℕ). getD (runWords n s cut c₀ all) (x + 1) 0) (sym (run-length c₀ m))
-      ∙ getD-below (λ (x : ℕ). cubeWords n s cut (c₀ + x)) 0 all m 1 h (omega (arith, cube-length (c₀ + m)))
-      ∙ word-inside (c₀ + m) some
-      ∙ word-first (cornersOf n s (c₀ + m)) (cubeLoops loopsOf n s cut (c₀ + m))
+  pub loop-word : (c₀ m all l : ℕ) → m < all → l < length (cubeLoops loopsOf n s cut (c₀ + m))
+      → getD (runWords n s cut c₀ all) (2 * (length (runMasks n s cut c₀ m) + l) + 1) 0 ≡ getD (cubeLoops loopsOf n s cut (c₀ + m)) l 0
+  loop-word c₀ m all l h some =
+      ap (λ (x : ℕ). getD (runWords n s cut c₀ all) x 0) behind
+      ∙ getD-below (λ (x : ℕ). cubeWords n s cut (c₀ + x)) 0 all m (2 * l + 1) h (omega (arith, cube-length (c₀ + m)))
+      ∙ word-inside (c₀ + m) l
+      ∙ word-at (cornersOf n s (c₀ + m)) (cubeLoops loopsOf n s cut (c₀ + m)) l
+    where
+      behind : 2 * (length (runMasks n s cut c₀ m) + l) + 1 ≡ length (runWords n s cut c₀ m) + (2 * l + 1)
+      behind = omega (arith, run-length c₀ m)
 
   -- ---- its number
 

@@ -1,9 +1,9 @@
--- The loop of a cube that holds an edge, by the cube question: no row refuses a cube of an accepted block, and of the words that are
--- answered the first that holds the edge is the one.
+-- The loop of a cube that holds an edge: by the words of the cube's first two vertices, or by the cube question. No row refuses a cube of an
+-- accepted block, and of the words that are answered the first that holds the edge is the one.
 -- Assumes nothing.
 use mathlib.Core.Path.{_≡_, refl, sym, ap, _∙_}
 use mathlib.Core.List.{List, [], _∷_, map}
-use Prim.Native.Nat.{ℕ, _+_, _*_, _/_, _%_, _^_, _≤_, _<_}
+use Prim.Native.Nat.{ℕ, zero, suc, _+_, _*_, _/_, _%_, _^_, _≤_, _<_}
 use native.Mathlib.Omega.{arith}
 use types.Run.{OneOf}
 use denote.Enum.Declared.{tagOf}
@@ -111,12 +111,44 @@ module _ (samples : List ℕ) (cut : Cut) (e i nx nxy : ℕ) (o : OneLoop sample
   pub holder-few : firstHolder e loops < 4
   holder-few = omega (arith, first-lt e loops (omega (arith, o .one)), cube-laws joined .four cut corners)
 
-  -- ---- the first vertex of the cube
+  -- ---- the first two vertices of the cube, by their words
 
-  pub first-is : (part : List ℕ) (v : ℕ) → FirstOf part v samples cut i nx nxy → getD part (2 * v + 1) 0 / 2 ^ e % 2 ≡ 1 → v ≡ v + firstHolder e loops
-  first-is part v f t =
-      omega (
-        arith,
-        only-first e loops (omega (arith, o .one)) 0 (omega (arith, first-lt e loops (omega (arith, o .one))))
-            (ap (λ (w : ℕ). holds w e) (sym (f .word)) ∙ eq-eqb (getD part (2 * v + 1) 0 / 2 ^ e % 2) 1 t),
-      )
+  module _ (part : List ℕ) (v : ℕ) (f : FirstOf part v samples cut i nx nxy) where
+    some-loop : firstHolder e loops < length loops
+    some-loop = first-lt e loops (omega (arith, o .one))
+
+    -- a vertex whose word holds the edge
+    loop-is : (l : ℕ) → l < length loops → getD part (2 * (v + l) + 1) 0 / 2 ^ e % 2 ≡ 1 → l ≡ firstHolder e loops
+    loop-is l h t =
+        only-first e loops (omega (arith, o .one)) l h
+        (ap (λ (w : ℕ). holds w e) (sym (f .word l h)) ∙ eq-eqb (getD part (2 * (v + l) + 1) 0 / 2 ^ e % 2) 1 t)
+
+    pub first-there : 2 * v + 1 < length part
+    first-there = omega (arith, f .there 0 (omega (arith, some-loop)))
+
+    front : 2 * (v + 0) + 1 ≡ 2 * v + 1
+    front = omega arith
+
+    pub first-is : getD part (2 * v + 1) 0 / 2 ^ e % 2 ≡ 1 → v ≡ v + firstHolder e loops
+    first-is t = omega (arith, loop-is 0 (omega (arith, some-loop)) (ap (λ (k : ℕ). getD part k 0 / 2 ^ e % 2) front ∙ t))
+
+    -- where the first does not hold it there is a second
+    second : (getD part (2 * v + 1) 0 / 2 ^ e % 2 ≡ 1 → ⊥) → 1 < length loops
+    second t = more (firstHolder e loops) refl
+      where
+        is-first : firstHolder e loops ≡ 0 → getD part (2 * v + 1) 0 ≡ getD loops (firstHolder e loops) 0
+        is-first z = ap (λ (k : ℕ). getD part k 0) (sym front) ∙ f .word 0 (omega (arith, some-loop)) ∙ ap (λ (k : ℕ). getD loops k 0) (sym z)
+
+        more : (k : ℕ) → firstHolder e loops ≡ k → 1 < length loops
+        more zero z =
+            absurd (t (eqb-true (getD part (2 * v + 1) 0 / 2 ^ e % 2) 1 (ap (λ (w : ℕ). holds w e) (is-first z) ∙ first-holds e loops (omega (arith, o .one)))))
+        more (suc k) z = omega (arith, z, some-loop)
+
+    pub second-there : (getD part (2 * v + 1) 0 / 2 ^ e % 2 ≡ 1 → ⊥) → 2 * v + 3 < length part
+    second-there t = omega (arith, f .there 1 (second t))
+
+    pub second-is : (getD part (2 * v + 1) 0 / 2 ^ e % 2 ≡ 1 → ⊥) → getD part (2 * v + 3) 0 / 2 ^ e % 2 ≡ 1 → v + 1 ≡ v + firstHolder e loops
+    second-is t u = omega (arith, loop-is 1 (second t) (ap (λ (k : ℕ). getD part k 0 / 2 ^ e % 2) next ∙ u))
+      where
+        next : 2 * (v + 1) + 1 ≡ 2 * v + 3
+        next = omega arith

@@ -24,10 +24,10 @@ pub record OneLoop (samples : List ℕ) (cut : Cut) (e i nx nxy : ℕ) : Type 0 
   pub threshold : thresholdRow cut ≡ Passes
   pub ceiling : ceilingRow samples ≡ Passes
 
--- the vertex v of the part is the first of that cube
+-- the vertices of that cube stand in the part from v on, one for each loop
 pub record FirstOf (part : List ℕ) (v : ℕ) (samples : List ℕ) (cut : Cut) (i nx nxy : ℕ) : Type 0 where
-  pub there : 2 * v + 1 < length part
-  pub word : getD part (2 * v + 1) 0 ≡ getD (loopsFrom samples cut i nx nxy) 0 0
+  pub there : (l : ℕ) → l < length (loopsFrom samples cut i nx nxy) → 2 * (v + l) + 1 < length part
+  pub word : (l : ℕ) → l < length (loopsFrom samples cut i nx nxy) → getD part (2 * (v + l) + 1) 0 ≡ getD (loopsFrom samples cut i nx nxy) l 0
 
 -- the place in the part of the vertex of the cube c whose word holds the edge e
 abbrev pub foundAt : List ℕ → ℕ → List ℕ → Cut → ℕ → ℕ → ℕ → ℕ → ℕ

@@ -314,6 +314,10 @@ fn holder(
     if (part[2 * v + 1] >> e) % 2 == 1 {
         return v;
     }
+    // The cube has a second vertex, since the first is not the one.
+    if (part[2 * v + 3] >> e) % 2 == 1 {
+        return v + 1;
+    }
     v + which_loop(samples, cut, e, i, nx, nxy)
 }
 

@@ -90,7 +90,7 @@ fn count_cube(
     if u32::count_ones(m) <= SINGLE {
         return 1;
     }
-    let loops = cube::loops_of(corners(samples, s, nx, nxy), cut);
+    let loops = cube::loops_among(m, corners(samples, s, nx, nxy), cut);
     loops.count as usize
 }
 

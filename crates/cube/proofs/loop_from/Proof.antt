@@ -1,6 +1,6 @@
--- `cube::loop_from` meets its contract: from the lowest edge of `m`, three rounds.
+-- `cube::loop_from` meets its contract: from the lowest edge of `m`, three rounds, of which those behind one that adds nothing add nothing.
 -- Assumes nothing.
-use mathlib.Core.Path.{_≡_, ap, _∙_}
+use mathlib.Core.Path.{_≡_, ap, sym, _∙_}
 use mathlib.Core.List.{List}
 use Prim.Native.Nat.{ℕ, _<_, _^_}
 use lib.Count.{trailingZeros}
@@ -22,18 +22,26 @@ three : (ls : List ℕ) (e x y z : ℕ) → x ≡ grow (2 ^ e) ls → y ≡ grow
 unfolding loopFrom
 three ls e x y z p q r = rw (r, q, p)
 
+-- the first round
+first : (d : tie.After-round) → let s = d .before in d .round .result ≡ grow (2 ^ trailingZeros 32 (s .args .m)) (s .args .links)
+first d =
+    d .round .ensures ∙ ap (λ (m : ℕ). grow m (d .before .args .links)) (shift-one (trailingZeros 32 (d .before .args .m)) 32 (lowest-lt (d .before)))
+
 returns : tie.Need-returns
 returns c =
-    let start = c .before .before .before in
-    let ls = start .args .links in
-    let e = trailingZeros 32 (start .args .m) in
-    let x = c .before .before .round .result in
-    let y = c .before .round2 .result in
-    let z = c .round3 .result in
-    let first : x ≡ grow (2 ^ e) ls = c .before .before .round .ensures ∙ ap (λ (m : ℕ). grow m ls) (shift-one e 32 (lowest-lt start)) in
-    let second : y ≡ grow x ls = c .before .round2 .ensures in
-    let third : z ≡ grow y ls = c .round3 .ensures in
-    three ls e x y z first second third
+    let d = c .before .before in
+    let ls = d .before .args .links in
+    let x = d .round .result in
+    let again : x ≡ grow x ls = sym (c .if1 .taken) ∙ c .before .round2 .ensures in
+    three ls (trailingZeros 32 (d .before .args .m)) x x x (first d) again again
+
+returns-2 : tie.Need-returns-2
+returns-2 c =
+    let d = c .before .before .before in
+    three (d .before .args .links) (trailingZeros 32 (d .before .args .m)) (d .round .result) (c .before .before .round2 .result) (c .round3 .result)
+    (first d) (c .before .before .round2 .ensures) (c .round3 .ensures)
 
 pub loop-from-spec : {M : Type 1} → statement M
-loop-from-spec = tie.close (tie.spec shl-round (λ c κs. search needs) (λ c κs. search needs) (λ c κs. search needs) returns)
+loop-from-spec =
+    tie.close
+    (tie.spec shl-round (λ c κs. search needs) (λ c κs. search needs) returns (λ c κs. search needs) returns-2)

@@ -1,76 +1,33 @@
--- `cube::loops_of` meets its contract. The loop's invariant: the first `n` loops are found, and `m` has the edges of the others.
--- The measure is what is left of the four places. Assumes nothing.
-use mathlib.Core.Path.{ap, ap₂, _∙_}
-use mathlib.Core.Logic.{_⊎_, inl, inr, ⊎-elim}
-use mathlib.Core.List.{List}
-use Prim.Native.Nat.{ℕ, _-_, _<_}
-use native.Mathlib.Omega.{arith}
-use lib.Dec.{eqb}
-use borrow.Author.Needs.{needs}
-use borrow.Author.Tests.{not-true, not-false, eqb-true, eqb-false}
+-- `cube::loops_of` meets its contract: the crossed edges come from the table, by the cube's sign pattern.
+-- Assumes nothing.
+use mathlib.Core.Path.{ap, _∙_}
 use Rattle.cube_rule.specs.Edges.{crossedMask}
-use Rattle.cube_rule.specs.Loops.{loopsFrom, loopsBy}
-use Rattle.cube.specs.Answer.{answered}
-use Rattle.cube.proofs.Filling.{Found, found-none, found-more, found-all}
+use borrow.Author.Needs.{needs}
 use Rattle.cube.proofs.loops_of.Statement.{statement}
 use Rattle.cube.proofs.loops_of.Tie as tie
+use Rattle.cube.proofs.loops_of.Reads as reads
+use Rattle.cube.proofs.loops_of.Lts as lts
+use Rattle.cube.proofs.crossed_edges.Reads as crossed-edges-reads
+use Rattle.cube.proofs.loops_among.Reads as loops-among-reads
+use Rattle.cube.proofs.masks.Reads as masks-reads
+use Rattle.cube.proofs.pattern.Reads as pattern-reads
 
-abbrev Inv-loop : tie.InvT-loop
-Inv-loop m₀ links masks₀ n₀ m masks n = Found links m₀ m masks n
+masks-requires : tie.Need-masks-requires
+masks-requires c κs = search needs
 
-abbrev μ-loop : tie.MeasureT-loop
-μ-loop m₀ links masks₀ n₀ m masks n = 4 - n
+pattern-requires : tie.Need-pattern-requires
+pattern-requires c κs = search needs
 
-some-left : (c : tie.Then1 Inv-loop μ-loop) → 0 < c .before .before .loop .m
-some-left c =
-    let m = c .before .before .loop .m in
-    let e = eqb-false m 0 (not-true (eqb m 0) (c .if1 .taken)) in
-    omega arith
+crossed-edges-requires : tie.Need-crossed-edges-requires
+crossed-edges-requires c κs = search needs
 
-crossed-edges-requires : tie.Need-crossed-edges-requires Inv-loop μ-loop
-crossed-edges-requires c κs = (c .pattern .ensures .1, c .before .before .masks .ensures)
+loops-among-requires : tie.Need-loops-among-requires
+loops-among-requires c κs = c .crossed-edges .ensures .0 ∙ ap crossedMask (c .before .pattern .ensures .0)
 
-links-of-requires : tie.Need-links-of-requires Inv-loop μ-loop
-links-of-requires c κs = c .crossed-edges .ensures .0 ∙ ap crossedMask (c .before .pattern .ensures .0)
-
-loop-holds : tie.Need-loop-holds Inv-loop μ-loop
-loop-holds c = found-none _ _
-
-loop-from-requires : tie.Need-loop-from-requires Inv-loop μ-loop
-loop-from-requires c κs = some-left c
-
-loop-again : tie.Need-loop-again Inv-loop μ-loop
-loop-again c =
-    let s = c .before .before .before in
-    found-more _ _ (s .loop .m) (s .loop .n) (c .loop-from .result) (s .loop .masks) (s .loop .inv) (c .before .before .loop-test .taken) (some-left (c .before)) (c .loop-from .ensures)
-
-returns : tie.Need-returns Inv-loop μ-loop
-unfolding loopsBy
-returns c =
-    let s = c .before in
-    let a = s .before in (
-      found-all _ _ (s .loop .m) (s .loop .n) (s .loop .masks) (s .loop .inv)
-          (⊎-elim (λ w. inr (eqb-true _ _ (not-false _ (w .1 .left)))) (λ w. inl (omega arith)) (c .loop-test .came))
-          ∙ ap₂ (λ (ls : List ℕ) (m : ℕ). answered (loopsFrom 4 ls m)) (a .links-of .ensures) (a .before .crossed-edges .ensures .0 ∙ ap crossedMask (a .before .before .pattern .ensures .0)),
-      search needs,
-    )
+returns : tie.Need-returns
+returns c = search needs
 
 pub loops-of-spec : {M : Type 1} → statement M
 loops-of-spec =
     tie.close
-    (tie.spec
-    Inv-loop
-    μ-loop
-    (λ c κs. search needs)
-    (λ c κs. search needs)
-    crossed-edges-requires
-    links-of-requires
-    loop-holds
-    loop-from-requires
-    (λ c. search needs)
-    (λ c. search needs)
-    (λ c. search needs)
-    (λ c. search needs)
-    loop-again
-    (λ c. search needs)
-    returns)
+    (tie.spec masks-requires pattern-requires crossed-edges-requires loops-among-requires returns)

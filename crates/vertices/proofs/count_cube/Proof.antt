@@ -1,6 +1,8 @@
 -- `count_cube` meets its contract: no crossed edge, no loop; one to five, one loop; more, as many as the cube has.
 -- Assumes nothing.
+use Prim.Native.Nat.{ℕ}
 use mathlib.Core.Path.{_≡_, ap, sym, _∙_}
+use mathlib.Core.List.{List}
 use native.Mathlib.Omega.{arith}
 use borrow.Author.Needs.{needs}
 use denote.Ref.{now}
@@ -26,9 +28,12 @@ returns c = (count-none _ _ (sym (mask-is (c .before)) ∙ c .if1 .taken), omega
 returns-2 : tie.Need-returns-2
 returns-2 c = (count-single _ _ _ (mask-is (c .before .before)) (c .before .if1 .left) (c .if2 .taken), omega arith)
 
+loops-among-requires : tie.Need-loops-among-requires
+loops-among-requires c κs = mask-is (c .before .before .before) ∙ ap (λ (cs : List ℕ). crossedMask (patternOf (c .before .before .before .before .before .args .cut) cs)) (sym (c .corners .ensures))
+
 returns-3 : tie.Need-returns-3
 returns-3 c =
-    let l = c .before .loops-of in
+    let l = c .before .loops-among in
     (count-many _ _ (l .result) (l .ensures .0 ∙ ap (loopsGiven _) (c .before .before .corners .ensures)), l .ensures .1)
 
 pub count-cube-spec : {M : Type 1} → statement M
@@ -39,6 +44,6 @@ count-cube-spec =
     returns
     returns-2
     (λ c κs. search needs)
-    (λ c κs. search needs)
+    loops-among-requires
     (λ c. search needs)
     returns-3)

@@ -1,0 +1,582 @@
+/* The scan tool: reads a raw block of 16-bit grey values, has the library draw the surface between metal and hollow,
+   and writes how many vertices and quads it has, on request also the vertices and quads themselves.
+   Usage: scan FILE NX NY NZ THRESHOLD BYTE-ORDER [--mesh OUT]; "scan --help" says what each of them is.
+   Assumes a POSIX system, and the library linked in (include/parsniprow.h).
+
+   Standard output is the record, in lines of a word and what it says: what was asked, and the library's answer.
+     file, axes, threshold, byte-order    what was asked, as it was read
+     values LEAST to GREATEST             the grey values in the file
+     vertices COUNT, quads COUNT          the mesh
+     refused NUMBER value VALUE           there is no mesh, and no line of values or counts
+     note SENTENCE                        what the answer does not mean, or what to do
+   Standard error has progress, a line each second, and a sentence where there is no answer; standard output then has
+   nothing.
+   Exit status: 0 a mesh; 1 a file or memory failed; 2 bad arguments; 3 refused by the library.
+
+   OUT is plain text: three lines that begin with # and say what follows, the record's lines without notes, a line for
+   each vertex by rising number from 0,
+     v NUMBER I J K X Y Z MASK            its cube, its place in the cube, the mask of its edges in hexadecimal
+   and a line for each quad, the numbers of its vertices: q A B C D. The vertex is at (I + X, J + Y, K + Z) in grid
+   steps; X, Y and Z have so many digits that the same double is read back.
+   OUT must not be there yet: nothing is overwritten. It is written as OUT.part and renamed when it is whole. */
+#define _XOPEN_SOURCE 700
+
+#include "parsniprow.h"
+
+#include <errno.h>
+#include <fcntl.h>
+#include <inttypes.h>
+#include <signal.h>
+#include <stdarg.h>
+#include <stdio.h>
+#include <stdlib.h>
+#include <string.h>
+#include <sys/stat.h>
+#include <time.h>
+#include <unistd.h>
+
+enum { ANSWER = 3, AXES = 3, BYTES_A_SAMPLE = 2, WORDS_A_VERTEX = 2, OFFSETS_A_VERTEX = 3, VERTICES_A_QUAD = 4 };
+enum { NO_REFUSAL, BAD_AXIS, BAD_COUNT, BAD_THRESHOLD, AT_CEILING };
+enum { STATUS_MESH, STATUS_FAILED, STATUS_ARGUMENTS, STATUS_REFUSED };
+enum { ARGUMENTS = 6, ARGUMENTS_WITH_MESH = 8, MOST_AT_ONCE = 1 << 20, MEGABYTE = 1000000 };
+
+/* What was asked. Names as shown are one line, whatever the file is called. */
+struct request {
+    const char *file, *out, *file_shown, *out_shown, *byte_order;
+    uint32_t length[AXES];
+    uint16_t threshold;
+};
+
+struct block {
+    unsigned char *bytes;
+    uint16_t *samples, least, greatest;
+    size_t count;
+};
+
+struct mesh {
+    uint32_t *words, *quads, vertex_count, quad_count;
+    double *offsets;
+};
+
+/* ---- progress, told by a clock, so that it is told within a long call too ---- */
+
+enum stage { OPENING, READING, COUNTING, MESHING, WRITING };
+enum { WHOLE = 100, NO_PERCENT = 127, STAGE_STEP = 128 };
+
+static const char *const stage_names[] = {"opening the file", "reading", "counting", "making the mesh", "writing"};
+/* stage and percent in one number, so that the clock never sees the one change without the other */
+static volatile sig_atomic_t progress;
+static struct timespec started;
+
+static void enter(enum stage stage)
+{
+    progress = (sig_atomic_t)stage * STAGE_STEP + NO_PERCENT;
+}
+
+static void advance(enum stage stage, uint64_t done, uint64_t all)
+{
+    progress = (sig_atomic_t)stage * STAGE_STEP + (sig_atomic_t)(WHOLE * done / all);
+}
+
+static size_t append(char *line, size_t at, const char *text)
+{
+    while (*text)
+        line[at++] = *text++;
+    return at;
+}
+
+static size_t append_number(char *line, size_t at, uint64_t value)
+{
+    if (value >= 10)
+        at = append_number(line, at, value / 10);
+    line[at] = (char)('0' + value % 10);
+    return at + 1;
+}
+
+/* Once a second. The handler of a signal may not call printf. */
+static void tell_progress(int signal_number)
+{
+    int kept = errno, percent = progress % STAGE_STEP;
+    char line[128];
+    size_t length = append(line, 0, "scan: ");
+    struct timespec now = started;
+    ssize_t written;
+    (void)signal_number;
+    clock_gettime(CLOCK_MONOTONIC, &now);
+    length = append_number(line, length, (uint64_t)(now.tv_sec - started.tv_sec - (now.tv_nsec < started.tv_nsec)));
+    length = append(line, append(line, length, " s, "), stage_names[progress / STAGE_STEP]);
+    if (percent != NO_PERCENT)
+        length = append(line, append_number(line, append(line, length, " "), (uint64_t)percent), " %");
+    length = append(line, length, "\n");
+    written = write(STDERR_FILENO, line, length);
+    (void)written; /* where nobody reads, the mesh is made all the same */
+    alarm(1);
+    errno = kept;
+}
+
+/* ---- the unfinished mesh file, which no way out leaves behind ---- */
+
+static char *part_name;
+static volatile sig_atomic_t is_part_there;
+
+static void remove_part(void)
+{
+    if (is_part_there)
+        unlink(part_name);
+    is_part_there = 0;
+}
+
+static void end_by_signal(int signal_number)
+{
+    remove_part();
+    signal(signal_number, SIG_DFL);
+    raise(signal_number);
+}
+
+static void on_signal(int signal_number, void (*handler)(int))
+{
+    struct sigaction action;
+    memset(&action, 0, sizeof action);
+    sigemptyset(&action.sa_mask);
+    action.sa_handler = handler;
+    action.sa_flags = SA_RESTART;
+    sigaction(signal_number, &action, NULL);
+}
+
+/* A signal that was ignored from the start stays so: whoever started the program wants it to go on. */
+static void on_ending_signal(int signal_number)
+{
+    struct sigaction before;
+    if (sigaction(signal_number, NULL, &before) == 0 && before.sa_handler != SIG_IGN)
+        on_signal(signal_number, end_by_signal);
+}
+
+static void set_signals(void)
+{
+    on_ending_signal(SIGHUP);
+    on_ending_signal(SIGINT);
+    on_ending_signal(SIGTERM);
+    /* a write that fails is told in a sentence instead */
+    on_signal(SIGPIPE, SIG_IGN);
+    on_signal(SIGXFSZ, SIG_IGN);
+    enter(OPENING);
+    clock_gettime(CLOCK_MONOTONIC, &started);
+    on_signal(SIGALRM, tell_progress);
+    alarm(1);
+}
+
+/* A file that is opened must not get the number of a closed standard stream: progress would be written into it. */
+static void hold_standard_streams(void)
+{
+    for (int stream = STDIN_FILENO; stream <= STDERR_FILENO; stream++)
+        if (fcntl(stream, F_GETFD) == -1 && open("/dev/null", O_RDONLY) != stream)
+            exit(STATUS_FAILED);
+}
+
+/* ---- sentences and memory ---- */
+
+/* Says on standard error why there is no answer, and ends. */
+static void fail(int status, const char *format, ...)
+{
+    va_list values;
+    alarm(0);
+    remove_part();
+    fputs("scan: ", stderr);
+    va_start(values, format);
+    vfprintf(stderr, format, values);
+    va_end(values);
+    fputs("\n", stderr);
+    if (status == STATUS_ARGUMENTS)
+        fputs("scan: target/scan --help says what each argument is.\n", stderr);
+    exit(status);
+}
+
+static void finish(int status)
+{
+    alarm(0);
+    if (fflush(stdout) != 0 || ferror(stdout))
+        fail(STATUS_FAILED, "Standard output could not be written: %s.", strerror(errno));
+    exit(status);
+}
+
+/* Never null, also for no bytes. What is asked for is a part of all that is needed for the purpose. */
+static void *room(uint64_t bytes, uint64_t needed, const char *purpose)
+{
+    void *memory = malloc((size_t)(bytes > 0 ? bytes : 1));
+    if (!memory)
+        fail(STATUS_FAILED, "%s needs %" PRIu64 " MB of memory, and there is not so much. Close other programs, or use "
+             "a machine with more.", purpose, (needed + MEGABYTE - 1) / MEGABYTE);
+    return memory;
+}
+
+static const char *shown(const char *text)
+{
+    size_t length = strlen(text);
+    char *copy = room(length + 1, length + 1, "A name");
+    for (size_t at = 0; at <= length; at++) {
+        int is_control = (unsigned char)text[at] < ' ' || text[at] == '\177';
+        copy[at] = is_control && at < length ? '?' : text[at];
+    }
+    return copy;
+}
+
+/* ---- arguments ---- */
+
+static void help(void)
+{
+    puts("target/scan FILE NX NY NZ THRESHOLD BYTE-ORDER [--mesh OUT]\n"
+         "\n"
+         "Draws the surface between metal and hollow in a scan as a mesh of quads, and writes how many vertices and\n"
+         "quads it has. Nothing is smoothed.\n"
+         "\n"
+         "  FILE        the scan: 16-bit grey values and nothing else, along x first, then y, then z\n"
+         "  NX NY NZ    how many values there are along x, y and z, each 2 to 256. FILE must have 2 x NX x NY x NZ\n"
+         "              bytes. Axes that have changed places cannot be noticed: take them from the scan's papers\n"
+         "  THRESHOLD   1 to 65534. A value of at least THRESHOLD is metal, any other is hollow\n"
+         "  BYTE-ORDER  little if the low byte of each value comes first, big if the high byte does. The wrong one\n"
+         "              cannot be noticed, but the line \"values\" then shows values that the part does not have\n"
+         "  --mesh OUT  also writes the vertices and quads to the file OUT, which must not be there yet");
+    puts("\n"
+         "Numbers are plain digits. For example:\n"
+         "\n"
+         "  target/scan housing.raw 256 256 200 23000 little --mesh housing-mesh.txt\n"
+         "\n"
+         "Standard output has what was asked, then the lines \"values\", \"vertices\" and \"quads\"; or the line\n"
+         "\"refused NUMBER value VALUE\", no count, and what to do. A scan with a value of 65535, the detector's\n"
+         "ceiling, is always refused. OUT has the same lines, then a line for each vertex, in steps of the grid at\n"
+         "I+X, J+Y, K+Z, with the mask of the edges of cube I J K that it joins; then a line for each quad:\n"
+         "\n"
+         "  v NUMBER I J K X Y Z MASK\n"
+         "  q VERTEX VERTEX VERTEX VERTEX\n"
+         "\n"
+         "Exit status: 0 a mesh; 1 a file or memory failed; 2 bad arguments; 3 refused.");
+    finish(STATUS_MESH);
+}
+
+/* Plain digits and nothing else, so that no number is read as another one. */
+static uint32_t number(const char *name, const char *text, uint32_t limit, const char *range)
+{
+    uint64_t value = 0;
+    size_t digits = strspn(text, "0123456789");
+    if (digits == 0 || text[digits] || (text[0] == '0' && digits > 1))
+        fail(STATUS_ARGUMENTS, "%s is \"%s\", and it must be a number in plain digits, as in 23000: no comma, point, "
+             "sign or space, and no zero in front.", name, shown(text));
+    for (size_t at = 0; at < digits && value <= limit; at++)
+        value = 10 * value + (uint64_t)(text[at] - '0');
+    if (value > limit)
+        fail(STATUS_ARGUMENTS, "%s is %s, and it must be from %s.", name, text, range);
+    return (uint32_t)value;
+}
+
+static void read_out(struct request *request, const char *option, const char *out)
+{
+    if (strcmp(option, "--mesh") != 0)
+        fail(STATUS_ARGUMENTS, "\"%s\" stands where only --mesh can.", shown(option));
+    if (out[0] == 0 || out[0] == '-')
+        fail(STATUS_ARGUMENTS, "OUT is \"%s\", and it must be a name that does not begin with a dash.", shown(out));
+    request->out = out;
+    request->out_shown = shown(out);
+}
+
+static struct request read_arguments(int argc, char **argv)
+{
+    static const char *const axis_names[AXES] = {"NX", "NY", "NZ"};
+    struct request request = {0};
+    int given = argc - 1;
+    if (given == 1 && strcmp(argv[1], "--help") == 0)
+        help();
+    if (given != ARGUMENTS && given != ARGUMENTS_WITH_MESH)
+        fail(STATUS_ARGUMENTS, "There are %d arguments, and there must be %d, or %d with --mesh OUT.", given, ARGUMENTS,
+             ARGUMENTS_WITH_MESH);
+    request.file = argv[1];
+    request.file_shown = shown(argv[1]);
+    for (int axis = 0; axis < AXES; axis++)
+        request.length[axis] = number(axis_names[axis], argv[2 + axis], UINT32_MAX, "2 to 256");
+    request.threshold = (uint16_t)number("THRESHOLD", argv[5], UINT16_MAX, "1 to 65534");
+    request.byte_order = argv[6];
+    if (strcmp(argv[6], "little") != 0 && strcmp(argv[6], "big") != 0)
+        fail(STATUS_ARGUMENTS, "BYTE-ORDER is \"%s\", and it must be little or big.", shown(argv[6]));
+    if (given == ARGUMENTS_WITH_MESH)
+        read_out(&request, argv[7], argv[8]);
+    return request;
+}
+
+/* ---- the record ---- */
+
+static void put_request(FILE *to, const struct request *request)
+{
+    const uint32_t *length = request->length;
+    fprintf(to, "file %s\n", request->file_shown);
+    fprintf(to, "axes %" PRIu32 " %" PRIu32 " %" PRIu32 "\n", length[0], length[1], length[2]);
+    fprintf(to, "threshold %" PRIu16 "\n", request->threshold);
+    fprintf(to, "byte-order %s\n", request->byte_order);
+}
+
+static void put_counts(FILE *to, const struct block *block, const struct mesh *mesh)
+{
+    fprintf(to, "values %" PRIu16 " to %" PRIu16 "\n", block->least, block->greatest);
+    fprintf(to, "vertices %" PRIu32 "\n", mesh->vertex_count);
+    fprintf(to, "quads %" PRIu32 "\n", mesh->quad_count);
+}
+
+static void advise_on_axis(const struct request *request, uint32_t axis)
+{
+    printf("note Axis %c is %" PRIu32 " values long, and it must be 2 to 256. Check that the numbers stand in the "
+           "order NX NY NZ THRESHOLD.\n", "xyz"[axis % AXES], request->length[axis % AXES]);
+    printf("note Of a scan that is longer, cut out a part.\n");
+}
+
+static void advise_on_ceiling(const struct request *request, uint32_t index)
+{
+    uint32_t nx = request->length[0], ny = request->length[1];
+    printf("note Sample %" PRIu32 ", at (%" PRIu32 ", %" PRIu32 ", %" PRIu32 ") counted from 0, is 65535. That is the "
+           "detector's ceiling and no grey value, so it is not known to be metal. There may be more of them.\n",
+           index, index % nx, index / nx % ny, index / nx / ny);
+    printf("note Scan the part again with less exposure. Do not change the value in the file.\n");
+}
+
+static void refuse(const struct request *request, const uint32_t *answer)
+{
+    put_request(stdout, request);
+    printf("refused %" PRIu32 " value %" PRIu32 "\n", answer[0], answer[1]);
+    if (answer[0] == BAD_AXIS)
+        advise_on_axis(request, answer[1]);
+    else if (answer[0] == BAD_THRESHOLD)
+        printf("note The threshold must be from 1 to 65534. Choose one between the greys of hollow and of metal.\n");
+    else if (answer[0] == AT_CEILING)
+        advise_on_ceiling(request, answer[1]);
+    else /* 2, 5 and 6 cannot come about: samples and room are as many as the library says */
+        printf("note This is a fault of the scan tool and not of the scan. Report it together with these lines.\n");
+    finish(STATUS_REFUSED);
+}
+
+static void report(const struct request *request, const struct block *block, const struct mesh *mesh)
+{
+    put_request(stdout, request);
+    put_counts(stdout, block, mesh);
+    if (mesh->quad_count == 0) {
+        printf("note No quads does not mean no pore: a pore at the edge of the box has none. Scan the part with a "
+               "margin round it.\n");
+        printf("note Compare the threshold with the values, and check the axes and the byte order.\n");
+    }
+    finish(STATUS_MESH);
+}
+
+/* ---- the block ---- */
+
+static void wrong_length(const struct request *request, const char *has, uint64_t bytes, uint64_t wanted)
+{
+    const uint32_t *length = request->length;
+    fail(STATUS_FAILED, "%s %s %" PRIu64 " bytes, and axes %" PRIu32 ", %" PRIu32 " and %" PRIu32 " want %" PRIu64
+         ", two a value. Check the axes, that the file has 16-bit values and no header, and that it was copied whole.",
+         request->file_shown, has, bytes, length[0], length[1], length[2], wanted);
+}
+
+/* The file, which has the right length, as far as a length can be known before it is read. */
+static int open_block(const struct request *request, uint64_t wanted)
+{
+    struct stat about;
+    int file = open(request->file, O_RDONLY | O_NOCTTY);
+    if (file == -1 && errno == ENOENT)
+        fail(STATUS_FAILED, "There is no file \"%s\". Check its name and its folder.", request->file_shown);
+    if (file == -1 || fstat(file, &about) != 0)
+        fail(STATUS_FAILED, "%s cannot be opened: %s. Check its name, and that you may read it.", request->file_shown,
+             strerror(errno));
+    if (S_ISDIR(about.st_mode))
+        fail(STATUS_FAILED, "%s is a folder. Name the file in it that has the scan.", request->file_shown);
+    if (S_ISREG(about.st_mode) && (uint64_t)about.st_size != wanted)
+        wrong_length(request, "has", (uint64_t)about.st_size, wanted);
+    return file;
+}
+
+/* Reads one byte more than is wanted, if there is one: a file can change while it is read, and a pipe has no length. */
+static void read_bytes(const struct request *request, struct block *block)
+{
+    size_t wanted = BYTES_A_SAMPLE * block->count, have = 0;
+    int file = open_block(request, wanted);
+    ssize_t got = 1;
+    block->bytes = room(wanted + 1, wanted + 1, "The scan");
+    while (got > 0 && have <= wanted) {
+        size_t left = wanted + 1 - have;
+        advance(READING, have, wanted);
+        got = read(file, block->bytes + have, left < MOST_AT_ONCE ? left : MOST_AT_ONCE);
+        have += got > 0 ? (size_t)got : 0;
+    }
+    if (got < 0)
+        fail(STATUS_FAILED, "%s could not be read to its end: %s. Copy it from where it came from once more.",
+             request->file_shown, strerror(errno));
+    if (have < wanted)
+        wrong_length(request, "ended after", have, wanted);
+    if (have > wanted)
+        wrong_length(request, "has more than", wanted, wanted);
+    close(file);
+}
+
+static void read_block(const struct request *request, struct block *block)
+{
+    size_t low = strcmp(request->byte_order, "big") == 0 ? 1 : 0, high = 1 - low;
+    read_bytes(request, block);
+    block->samples = room(block->count * sizeof *block->samples, block->count * sizeof *block->samples, "The scan");
+    block->least = UINT16_MAX;
+    for (size_t index = 0; index < block->count; index++) {
+        const unsigned char *at = block->bytes + BYTES_A_SAMPLE * index;
+        uint16_t value = (uint16_t)(at[low] | at[high] << 8);
+        block->samples[index] = value;
+        block->least = value < block->least ? value : block->least;
+        block->greatest = value > block->greatest ? value : block->greatest;
+    }
+    free(block->bytes);
+    block->bytes = NULL;
+}
+
+/* ---- the library ---- */
+
+/* How many samples the axes want. The library, asked without one, refuses an axis or else says how many it wants. */
+static size_t samples_wanted(const struct request *request)
+{
+    const uint32_t *length = request->length;
+    uint16_t no_sample = 0;
+    uint32_t answer[ANSWER];
+    parsniprow_counts(length[0], length[1], length[2], &no_sample, 0, request->threshold, answer, ANSWER);
+    if (answer[0] != BAD_COUNT)
+        refuse(request, answer);
+    return answer[1];
+}
+
+static struct mesh count_mesh(const struct request *request, const struct block *block)
+{
+    const uint32_t *length = request->length;
+    struct mesh mesh = {0};
+    uint32_t answer[ANSWER];
+    enter(COUNTING);
+    parsniprow_counts(length[0], length[1], length[2], block->samples, block->count, request->threshold, answer,
+                      ANSWER);
+    if (answer[0] != NO_REFUSAL)
+        refuse(request, answer);
+    mesh.vertex_count = answer[1];
+    mesh.quad_count = answer[2];
+    return mesh;
+}
+
+static void make_mesh(const struct request *request, const struct block *block, struct mesh *mesh)
+{
+    const uint32_t *length = request->length;
+    size_t words_len = (size_t)WORDS_A_VERTEX * mesh->vertex_count, words = words_len * sizeof *mesh->words;
+    size_t offsets_len = (size_t)OFFSETS_A_VERTEX * mesh->vertex_count, offsets = offsets_len * sizeof *mesh->offsets;
+    size_t quads_len = (size_t)VERTICES_A_QUAD * mesh->quad_count, quads = quads_len * sizeof *mesh->quads;
+    size_t needed = words + offsets + quads;
+    uint32_t answer[ANSWER];
+    enter(MESHING);
+    mesh->words = room(words, needed, "The mesh");
+    mesh->offsets = room(offsets, needed, "The mesh");
+    mesh->quads = room(quads, needed, "The mesh");
+    parsniprow_mesh(length[0], length[1], length[2], block->samples, block->count, request->threshold, mesh->words,
+                    words_len, mesh->offsets, offsets_len, mesh->quads, quads_len, answer, ANSWER);
+    if (answer[0] != NO_REFUSAL)
+        refuse(request, answer);
+    if (answer[1] != mesh->vertex_count || answer[2] != mesh->quad_count)
+        fail(STATUS_FAILED, "The mesh is not as large as it was counted. This is a fault of the scan tool: report it.");
+}
+
+/* ---- the mesh file ---- */
+
+static void check_new(const struct request *request)
+{
+    struct stat about;
+    if (lstat(request->out, &about) == 0)
+        fail(STATUS_FAILED, "%s is there already, and nothing is overwritten. Name another file for the mesh.",
+             request->out_shown);
+}
+
+static FILE *open_part(const struct request *request)
+{
+    static const char ending[] = ".part";
+    size_t length = strlen(request->out) + sizeof ending;
+    FILE *to = NULL;
+    int file;
+    part_name = room(length, length, "A name");
+    snprintf(part_name, length, "%s%s", request->out, ending);
+    file = open(part_name, O_WRONLY | O_CREAT | O_EXCL, 0666);
+    if (file == -1 && errno == EEXIST)
+        fail(STATUS_FAILED, "%s%s is there already, and the mesh has this name while it is written. Name another file "
+             "for the mesh.", request->out_shown, ending);
+    if (file != -1) {
+        is_part_there = 1;
+        to = fdopen(file, "w");
+    }
+    if (!to)
+        fail(STATUS_FAILED, "%s cannot be written: %s. Check its folder, and that you may write there.",
+             request->out_shown, strerror(errno));
+    return to;
+}
+
+static int put_vertex(FILE *to, const struct request *request, const struct mesh *mesh, size_t vertex)
+{
+    uint32_t cube = mesh->words[WORDS_A_VERTEX * vertex], mask = mesh->words[WORDS_A_VERTEX * vertex + 1];
+    uint32_t along_x = request->length[0] - 1, along_y = request->length[1] - 1;
+    const double *offset = mesh->offsets + OFFSETS_A_VERTEX * vertex;
+    return fprintf(to, "v %zu %" PRIu32 " %" PRIu32 " %" PRIu32 " %.17g %.17g %.17g %03" PRIX32 "\n", vertex,
+                   cube % along_x, cube / along_x % along_y, cube / along_x / along_y, offset[0], offset[1], offset[2],
+                   mask) > 0;
+}
+
+static int put_quad(FILE *to, const struct mesh *mesh, size_t quad)
+{
+    const uint32_t *vertex = mesh->quads + VERTICES_A_QUAD * quad;
+    return fprintf(to, "q %" PRIu32 " %" PRIu32 " %" PRIu32 " %" PRIu32 "\n", vertex[0], vertex[1], vertex[2],
+                   vertex[3]) > 0;
+}
+
+/* Whether all could be written; where not, errno says why. */
+static int put_mesh(FILE *to, const struct request *request, const struct block *block, const struct mesh *mesh)
+{
+    uint64_t all = (uint64_t)mesh->vertex_count + mesh->quad_count;
+    fputs("# The surface between metal and hollow. v: number of a vertex, cube I J K, place X Y Z in the cube, mask\n"
+          "# of edges in hexadecimal; it is at I+X, J+Y, K+Z in steps of the grid. q: the vertices of a quad.\n"
+          "# Nothing is smoothed. No quads does not mean no pore: a pore at the edge of the box has none.\n", to);
+    put_request(to, request);
+    put_counts(to, block, mesh);
+    for (size_t vertex = 0; vertex < mesh->vertex_count; vertex++) {
+        advance(WRITING, vertex, all);
+        if (!put_vertex(to, request, mesh, vertex))
+            return 0;
+    }
+    for (size_t quad = 0; quad < mesh->quad_count; quad++) {
+        advance(WRITING, mesh->vertex_count + (uint64_t)quad, all);
+        if (!put_quad(to, mesh, quad))
+            return 0;
+    }
+    return !ferror(to);
+}
+
+static void write_mesh(const struct request *request, const struct block *block, const struct mesh *mesh)
+{
+    FILE *to = open_part(request);
+    if (!put_mesh(to, request, block, mesh) || fclose(to) != 0)
+        fail(STATUS_FAILED, "%s could not be written to its end: %s. Nothing of it is left. Make room, or name "
+             "another folder.", request->out_shown, strerror(errno));
+    check_new(request);
+    if (rename(part_name, request->out) != 0)
+        fail(STATUS_FAILED, "%s cannot be written: %s. Name another file for the mesh.", request->out_shown,
+             strerror(errno));
+    is_part_there = 0;
+}
+
+int main(int argc, char **argv)
+{
+    struct request request;
+    struct block block = {0};
+    struct mesh mesh;
+    hold_standard_streams();
+    set_signals();
+    request = read_arguments(argc, argv);
+    if (request.out)
+        check_new(&request);
+    block.count = samples_wanted(&request);
+    read_block(&request, &block);
+    mesh = count_mesh(&request, &block);
+    make_mesh(&request, &block, &mesh);
+    if (request.out)
+        write_mesh(&request, &block, &mesh);
+    report(&request, &block, &mesh);
+}

@@ -1,0 +1,83 @@
+/* What the parts of the comparison share: how a call is judged, what has occurred, and the trial of one block.
+   Assumes that the library is linked in; built with -DSELF the plain implementation stands in for it. */
+#ifndef PARSNIPROW_COMPARE_H
+#define PARSNIPROW_COMPARE_H
+
+#include "../include/parsniprow.h"
+#include "blocks.h"
+#include "lent.h"
+#include "plain.h"
+
+#ifdef SELF
+#define parsniprow_edge plain_edge
+#define parsniprow_cube plain_cube
+#define parsniprow_counts plain_counts
+#define parsniprow_mesh plain_mesh
+#define parsniprow_closed plain_closed
+#endif
+
+enum { ANSWER = 3, CLOSED_ANSWER = 4, LOOPS = 4, COORDINATES = 12, MOST_SHIFT = 8 };
+
+enum function { EDGE, CUBE, COUNTS, MESH, CLOSED, FUNCTIONS };
+
+/* ---- judging a call ---- */
+
+/* A lent buffer and what it must hold after the call: these items, as far as it reaches, and else what it held. */
+struct wanted {
+    struct lent *lent;
+    const void *items;
+    size_t count;
+};
+
+/* Hands the buffers out for a call of the library, whose buffers lie so. */
+void hand_out_all(enum function function, struct lying lying, const struct wanted *wanted, size_t count);
+
+/* Takes them back and compares them. Where a buffer differs it is counted; for the first one that differs it prints
+   which and where, and the answer is 1: the caller should then print the call. Otherwise 0. */
+int first_to_differ(enum function function, const struct wanted *wanted, size_t count);
+
+/* As first_to_differ, for a fault that is not in a buffer of the library. */
+int first_to_fail(const char *what);
+
+/* A random way for buffers to lie, and a random length for an answer place of so many items. */
+struct lying choose_lying(struct chance *chance);
+size_t choose_reach(struct chance *chance, size_t need);
+
+/* ---- what has occurred ---- */
+
+/* Prints a title, then under it how often each case occurred. A case that never did is missing. */
+void tally_title(const char *title);
+void tally_case(const char *name, uint64_t count);
+void tally_reaches(const struct lent *lent);
+
+/* ---- the parts ---- */
+
+/* A block, and the random numbers from which it and all that goes with it is made. */
+struct trial {
+    struct chance chance;
+    uint32_t length[3]; /* of the block before anything was made wrong about it */
+    uint16_t t;
+    const uint16_t *samples;
+    const uint32_t *quads; /* of its mesh, where that was accepted, else null */
+    size_t quad_count;
+};
+
+/* Asks the counts and the mesh of a block and fills in the trial but for its chance; then what goes with the block:
+   some edges, some of its cubes, some lists of quads. */
+void try_block(struct trial *trial);
+void try_edges(struct trial *trial);
+void try_cubes(struct trial *trial);
+void try_lists(struct trial *trial);
+
+/* What is asked once, whatever the blocks. */
+void try_fixed_edges(void);
+void try_fixed_cubes(void);
+void try_fixed_lists(void);
+
+/* Print what has occurred, and give the number of calls. */
+void tally_blocks(void);
+uint64_t tally_edges(void);
+uint64_t tally_cubes(void);
+uint64_t tally_lists(void);
+
+#endif

@@ -1,0 +1,497 @@
+/* Compares the counts and the mesh of random blocks with the plain implementation: good blocks, and blocks about which
+   one thing or several are wrong, so that every refusal and every order of two refusals occurs.
+   Assumes nothing more than compare.h. */
+#include "compare.h"
+
+#include "bench_cubes.h"
+#include "crash.h"
+
+#include <stdio.h>
+#include <stdlib.h>
+#include <string.h>
+
+enum { REFUSALS = 6, MOST_SAMPLES = 300000, PRINTED_SAMPLES = 128, SCANNED_SAMPLES = 1000, WORD_SAMPLES = 64 };
+
+struct call {
+    enum kind kind;
+    uint32_t length[3];
+    uint16_t t;
+    size_t samples_len, words_len, offsets_len, quads_len, answer_len, counted_len;
+    struct lying lying;
+    unsigned faults; /* bit n: refusal n is due, were it not for lower ones */
+};
+
+static struct lent samples_place = LENT("samples", sizeof(uint16_t), 0, byte_pattern);
+static struct lent words_place = LENT("words", sizeof(uint32_t), 0, byte_pattern);
+static struct lent offsets_place = LENT("offsets", sizeof(double), 0, offset_pattern);
+static struct lent quads_place = LENT("quads", sizeof(uint32_t), 0, byte_pattern);
+static struct lent answer_place = LENT("answer of the mesh", sizeof(uint32_t), ANSWER, byte_pattern);
+static struct lent counted_place = LENT("answer of the counts", sizeof(uint32_t), ANSWER, byte_pattern);
+static struct lent plain_words = LENT("words of plain", sizeof(uint32_t), 0, byte_pattern);
+static struct lent plain_offsets = LENT("offsets of plain", sizeof(double), 0, offset_pattern);
+static struct lent plain_quads = LENT("quads of plain", sizeof(uint32_t), 0, byte_pattern);
+
+/* What plain answers. */
+static uint32_t answer[ANSWER], counted[ANSWER];
+
+/* The block before anything is made wrong about it, and its counts. */
+static uint16_t good[MOST_SAMPLES];
+static uint32_t good_counted[ANSWER];
+
+static int due(const struct call *call, unsigned refusal)
+{
+    return call->faults >> refusal & 1;
+}
+
+static uint64_t product(const uint32_t length[3])
+{
+    uint64_t two = (uint64_t)length[0] * length[1];
+    if (length[2] != 0 && two > UINT64_MAX / length[2])
+        return UINT64_MAX;
+    return two * length[2];
+}
+
+/* ---- choosing a call ---- */
+
+static unsigned choose_faults(struct chance *chance)
+{
+    unsigned how = (unsigned)chance_below(chance, 100), faults = 0, wanted;
+    wanted = how < 50 ? 0 : how < 65 ? 1 : how < 95 ? 2 : 3 + (unsigned)chance_below(chance, 4);
+    while (wanted > 0) {
+        unsigned bit = 1u << (1 + chance_below(chance, REFUSALS));
+        if (!(faults & bit)) {
+            faults |= bit;
+            wanted--;
+        }
+    }
+    return faults;
+}
+
+/* A length at or above the need, or below it where short is set. */
+static size_t choose_room(struct chance *chance, size_t need, int is_short)
+{
+    uint64_t how = chance_below(chance, 10);
+    if (is_short)
+        return how < 5 ? need - 1 : how < 7 ? 0 : (size_t)chance_below(chance, need);
+    return how < 5 ? need : how < 7 ? need + 1 : how < 8 ? need + 2 : need + (size_t)chance_below(chance, 60);
+}
+
+static void choose_rooms(struct chance *chance, struct call *call, size_t vertices, size_t quads)
+{
+    uint64_t which = chance_below(chance, 3);
+    call->words_len = choose_room(chance, 2 * vertices, due(call, 5) && which != 0);
+    call->offsets_len = choose_room(chance, 3 * vertices, due(call, 5) && which != 1);
+    call->quads_len = choose_room(chance, 4 * quads, due(call, 6));
+    call->answer_len = choose_reach(chance, ANSWER);
+    call->counted_len = choose_reach(chance, ANSWER);
+    call->lying = choose_lying(chance);
+}
+
+/* One to three bad axes. Without a bad sample count only such that the samples can be lent. */
+static void spoil_axes(struct chance *chance, struct call *call)
+{
+    static const uint32_t bad[] = {0, 1, 257, UINT32_MAX, 65536, UINT32_C(1) << 31, 258, 512};
+    size_t choices = due(call, 2) ? sizeof bad / sizeof *bad : 3;
+    uint64_t axis = chance_below(chance, 3);
+    do {
+        call->length[axis] = bad[chance_below(chance, choices)];
+        axis = chance_below(chance, 3);
+    } while (chance_in_100(chance, 30));
+    if (product(call->length) > MOST_SAMPLES)
+        call->faults |= 1u << 2;
+}
+
+static void choose_sample_count(struct chance *chance, struct call *call, size_t good_count)
+{
+    uint64_t wanted = product(call->length), how = chance_below(chance, 10);
+    if (!due(call, 2)) {
+        call->samples_len = (size_t)wanted;
+        return;
+    }
+    call->samples_len = good_count;
+    if (wanted <= MOST_SAMPLES && how < 4)
+        call->samples_len = (size_t)wanted + 1;
+    else if (wanted <= MOST_SAMPLES && wanted > 0 && how < 8)
+        call->samples_len = (size_t)wanted - 1;
+    else if (wanted <= MOST_SAMPLES)
+        call->samples_len = (size_t)chance_below(chance, 2 * wanted + 2);
+    if (call->samples_len == wanted)
+        call->samples_len++;
+}
+
+/* One sample or a few at the ceiling, the first and the last one more often than others. */
+static void spoil_samples(struct chance *chance, struct call *call, uint16_t *samples)
+{
+    size_t spots = chance_in_100(chance, 70) ? 1 : 1 + (size_t)chance_below(chance, 5);
+    for (size_t spot = 0; spot < spots; spot++) {
+        uint64_t how = chance_below(chance, 100);
+        size_t any = (size_t)chance_below(chance, call->samples_len);
+        samples[how < 15 ? call->samples_len - 1 : how < 25 ? 0 : any] = CEILING;
+    }
+}
+
+/* Lends the samples. Half of the margins are at the ceiling, so that a reading there changes the answer. */
+static void lend_samples(struct chance *chance, struct call *call, size_t good_count)
+{
+    uint16_t *samples;
+    samples_place.pattern = chance_in_100(chance, 50) ? ceiling_pattern : byte_pattern;
+    lend(&samples_place, call->samples_len, call->lying);
+    samples = start(&samples_place);
+    for (size_t index = 0; index < call->samples_len; index++)
+        samples[index] = index < good_count ? good[index] : (uint16_t)chance_below(chance, CEILING);
+    if (call->samples_len == 0)
+        call->faults &= ~(1u << 4);
+    if (due(call, 4))
+        spoil_samples(chance, call, samples);
+}
+
+/* A good block. Where a room is to be short it is of a kind that has a mesh; a block of bench cubes is often a single
+   one, and often at their threshold. */
+static void choose_good(struct chance *chance, struct call *call)
+{
+    static const enum kind lively[] = {UNIFORM_NOISE, NEAR_THRESHOLD,     EQUAL_PRODUCTS, LARGE_PRODUCTS,
+                                       CHECKERBOARD,  ROUGH_CHECKERBOARD, TILED};
+    int room_short = due(call, 5) || due(call, 6);
+    call->kind = room_short ? lively[chance_below(chance, sizeof lively / sizeof *lively)]
+                            : (enum kind)chance_below(chance, KINDS);
+    choose_size(chance, room_short, call->length);
+    call->t = choose_threshold(chance);
+    if (call->kind == TILED && chance_in_100(chance, 60))
+        call->t = BENCH_THRESHOLD;
+    if (call->kind == TILED && !room_short && chance_in_100(chance, 40))
+        call->length[0] = call->length[1] = call->length[2] = 2;
+    fill_block(chance, call->kind, call->length, call->t, good);
+}
+
+/* A good block first, whose mesh says which rooms are short; then the faults. */
+static struct call choose_call(struct trial *trial)
+{
+    struct chance *chance = &trial->chance;
+    struct call call;
+    size_t good_count;
+    memset(&call, 0, sizeof call);
+    call.faults = choose_faults(chance);
+    choose_good(chance, &call);
+    memcpy(trial->length, call.length, sizeof trial->length);
+    trial->t = call.t;
+    trial->samples = good;
+    good_count = (size_t)product(call.length);
+    plain_counts(call.length[0], call.length[1], call.length[2], good, good_count, call.t, good_counted, ANSWER);
+    if (good_counted[1] == 0)
+        call.faults &= ~(1u << 5);
+    if (good_counted[2] == 0)
+        call.faults &= ~(1u << 6);
+    choose_rooms(chance, &call, good_counted[1], good_counted[2]);
+    if (due(&call, 1))
+        spoil_axes(chance, &call);
+    choose_sample_count(chance, &call, good_count);
+    if (due(&call, 3))
+        call.t = chance_in_100(chance, 50) ? 0 : CEILING;
+    lend_samples(chance, &call, good_count);
+    return call;
+}
+
+/* ---- what occurred ---- */
+
+static struct {
+    uint64_t answers[REFUSALS + 1], counts[REFUSALS + 1], kinds[KINDS], orders[REFUSALS + 1][REFUSALS + 1];
+    uint64_t vertices, quads, samples, bad_axis[3];
+    uint64_t no_vertex, no_quad, some_quads, below, at, above, one_wide, wider, zero, top, lowest, highest;
+    uint64_t long_row, longest[3];
+    uint64_t ceiling_first, ceiling_last, ceiling_crossed, ceiling_uncrossed;
+    uint64_t words_alone, offsets_alone, both_short, rooms_exact, rooms_longer;
+    uint64_t bench_alone[BENCH_CUBES], bench_within[BENCH_CUBES];
+} tally;
+
+static size_t index_of(const uint32_t length[3], size_t i, size_t j, size_t k)
+{
+    return i + length[0] * (j + length[1] * k);
+}
+
+/* Is a sample next to this one hollow? */
+static int hollow_beside(const struct call *call, const uint16_t *samples, size_t index)
+{
+    size_t at[3], step = 1;
+    at[0] = index % call->length[0];
+    at[1] = index / call->length[0] % call->length[1];
+    at[2] = index / call->length[0] / call->length[1];
+    for (unsigned axis = 0; axis < 3; step *= call->length[axis], axis++)
+        if ((at[axis] > 0 && samples[index - step] < call->t) ||
+            (at[axis] + 1 < call->length[axis] && samples[index + step] < call->t))
+            return 1;
+    return 0;
+}
+
+static void count_ceiling(const struct call *call, size_t index)
+{
+    int crossed = hollow_beside(call, start(&samples_place), index);
+    tally.ceiling_first += index == 0;
+    tally.ceiling_last += index + 1 == call->samples_len;
+    tally.ceiling_crossed += crossed;
+    tally.ceiling_uncrossed += !crossed;
+}
+
+/* The paper's cubes as they stand there, each as a block of its own or within a larger one. */
+static void count_bench_cubes(const uint32_t length[3], const uint16_t *samples)
+{
+    uint64_t *found = product(length) == 8 ? tally.bench_alone : tally.bench_within;
+    for (size_t k = 0; k + 1 < length[2]; k++)
+        for (size_t j = 0; j + 1 < length[1]; j++)
+            for (size_t i = 0; i + 1 < length[0]; i++) {
+                uint16_t corner[8];
+                for (size_t n = 0; n < 8; n++)
+                    corner[n] = samples[index_of(length, i + (n & 1), j + (n >> 1 & 1), k + (n >> 2 & 1))];
+                for (unsigned cube = 0; cube < BENCH_CUBES; cube++)
+                    found[cube] += memcmp(corner, bench_cubes[cube].corners, sizeof corner) == 0;
+            }
+}
+
+/* A pore or grain of one sample is one that differs from all others in sign. */
+static void count_signs(const struct call *call, const uint16_t *samples)
+{
+    size_t metal = 0, below = 0, at = 0, above = 0;
+    for (size_t index = 0; index < call->samples_len; index++) {
+        metal += samples[index] >= call->t;
+        below += (uint32_t)samples[index] + 1 == call->t;
+        at += samples[index] == call->t;
+        above += samples[index] == (uint32_t)call->t + 1;
+    }
+    tally.below += below > 0;
+    tally.at += at > 0;
+    tally.above += above > 0;
+    if (call->kind == SINGLE_PORE) {
+        int one = metal == 1 || metal + 1 == call->samples_len;
+        tally.one_wide += one;
+        tally.wider += !one;
+    }
+}
+
+static void count_accepted(const struct call *call)
+{
+    size_t vertices = answer[1], quads = answer[2];
+    tally.vertices += vertices;
+    tally.quads += quads;
+    tally.no_vertex += vertices == 0;
+    tally.no_quad += vertices > 0 && quads == 0;
+    tally.some_quads += quads > 0;
+    tally.long_row += quads > 0 && call->length[0] > WORD_SAMPLES;
+    for (unsigned axis = 0; axis < 3; axis++)
+        tally.longest[axis] += quads > 0 && call->length[axis] == LONGEST_AXIS;
+    tally.lowest += call->t == 1;
+    tally.highest += call->t == HIGHEST;
+    tally.rooms_exact += quads > 0 && call->words_len == 2 * vertices && call->offsets_len == 3 * vertices &&
+                         call->quads_len == 4 * quads;
+    tally.rooms_longer += quads > 0 && call->words_len > 2 * vertices && call->offsets_len > 3 * vertices &&
+                          call->quads_len > 4 * quads;
+    if (call->samples_len <= SCANNED_SAMPLES) {
+        count_signs(call, start(&samples_place));
+        if (call->kind == TILED && call->t == BENCH_THRESHOLD)
+            count_bench_cubes(call->length, start(&samples_place));
+    }
+}
+
+static void count_refused(const struct call *call)
+{
+    int words_short = call->words_len < 2 * (size_t)answer[1];
+    int offsets_short = call->offsets_len < 3 * (size_t)answer[1];
+    if (answer[0] == 1)
+        tally.bad_axis[answer[1]]++;
+    if (answer[0] == 4)
+        count_ceiling(call, answer[1]);
+    tally.zero += answer[0] == 3 && answer[1] == 0;
+    tally.top += answer[0] == 3 && answer[1] == CEILING;
+    tally.words_alone += answer[0] == 5 && words_short && !offsets_short;
+    tally.offsets_alone += answer[0] == 5 && !words_short && offsets_short;
+    tally.both_short += answer[0] == 5 && words_short && offsets_short;
+    for (unsigned later = answer[0] + 1; later <= REFUSALS; later++)
+        if (due(call, answer[0]) && due(call, later))
+            tally.orders[answer[0]][later]++;
+}
+
+static void count_call(const struct call *call)
+{
+    tally.answers[answer[0]]++;
+    tally.counts[counted[0]]++;
+    tally.kinds[call->kind]++;
+    tally.samples += call->samples_len;
+    if (answer[0] == 0)
+        count_accepted(call);
+    else
+        count_refused(call);
+}
+
+/* ---- telling a difference ---- */
+
+static void print_call(const struct call *call)
+{
+    const uint16_t *samples = start(&samples_place);
+    printf("  %s; axes %lu, %lu, %lu; t %u\n", kind_names[call->kind], (unsigned long)call->length[0],
+           (unsigned long)call->length[1], (unsigned long)call->length[2], (unsigned)call->t);
+    printf("  lengths: samples %zu, words %zu, offsets %zu, quads %zu, answers %zu and %zu\n", call->samples_len,
+           call->words_len, call->offsets_len, call->quads_len, call->counted_len, call->answer_len);
+    printf("  plain: counts %lu, %lu, %lu, mesh %lu, %lu, %lu\n", (unsigned long)counted[0], (unsigned long)counted[1],
+           (unsigned long)counted[2], (unsigned long)answer[0], (unsigned long)answer[1], (unsigned long)answer[2]);
+    if (call->samples_len <= PRINTED_SAMPLES) {
+        printf("  samples:");
+        for (size_t index = 0; index < call->samples_len; index++)
+            printf(" %u", (unsigned)samples[index]);
+        printf("\n");
+    }
+}
+
+/* ---- running ---- */
+
+/* Plain's own buffers are of the same lengths, since they decide about refusals. Its counts of a good block are
+   known. */
+static void run_plain(const struct call *c)
+{
+    struct lying lying = {PATTERNS, 0};
+    int spoilt = due(c, 1) || due(c, 2) || due(c, 3) || due(c, 4);
+    lend(&plain_words, c->words_len, lying);
+    lend(&plain_offsets, c->offsets_len, lying);
+    lend(&plain_quads, c->quads_len, lying);
+    asking("plain_counts and plain_mesh");
+    memcpy(counted, good_counted, sizeof counted);
+    if (spoilt)
+        plain_counts(c->length[0], c->length[1], c->length[2], start(&samples_place), c->samples_len, c->t, counted,
+                     ANSWER);
+    plain_mesh(c->length[0], c->length[1], c->length[2], start(&samples_place), c->samples_len, c->t,
+               start(&plain_words), c->words_len, start(&plain_offsets), c->offsets_len, start(&plain_quads),
+               c->quads_len, answer, ANSWER);
+}
+
+static void run_counts(const struct call *c)
+{
+    struct wanted wanted[] = {{&counted_place, counted, ANSWER}};
+    lend(&counted_place, c->counted_len, c->lying);
+    hand_out_to_read(&samples_place);
+    hand_out_all(COUNTS, c->lying, wanted, 1);
+    parsniprow_counts(c->length[0], c->length[1], c->length[2], start(&samples_place), c->samples_len, c->t,
+                      start(&counted_place), c->counted_len);
+    take_back_read(&samples_place);
+    if (first_to_differ(COUNTS, wanted, 1))
+        print_call(c);
+}
+
+static void run_mesh(const struct call *c, size_t vertices, size_t quads)
+{
+    struct wanted wanted[] = {{&answer_place, answer, ANSWER},
+                              {&words_place, start(&plain_words), 2 * vertices},
+                              {&offsets_place, start(&plain_offsets), 3 * vertices},
+                              {&quads_place, start(&plain_quads), 4 * quads}};
+    lend(&words_place, c->words_len, c->lying);
+    lend(&offsets_place, c->offsets_len, c->lying);
+    lend(&quads_place, c->quads_len, c->lying);
+    lend(&answer_place, c->answer_len, c->lying);
+    hand_out_to_read(&samples_place);
+    hand_out_all(MESH, c->lying, wanted, 4);
+    parsniprow_mesh(c->length[0], c->length[1], c->length[2], start(&samples_place), c->samples_len, c->t,
+                    start(&words_place), c->words_len, start(&offsets_place), c->offsets_len, start(&quads_place),
+                    c->quads_len, start(&answer_place), c->answer_len);
+    take_back_read(&samples_place);
+    if (first_to_differ(MESH, wanted, 4))
+        print_call(c);
+}
+
+void try_block(struct trial *trial)
+{
+    struct call call = choose_call(trial);
+    size_t vertices, quads;
+    run_plain(&call);
+    vertices = answer[0] == 0 ? answer[1] : 0;
+    quads = answer[0] == 0 ? answer[2] : 0;
+    if (!holds(&plain_words, start(&plain_words), 2 * vertices) ||
+        !holds(&plain_offsets, start(&plain_offsets), 3 * vertices) ||
+        !holds(&plain_quads, start(&plain_quads), 4 * quads))
+        if (first_to_fail("plain wrote where it must keep"))
+            print_call(&call);
+    run_counts(&call);
+    run_mesh(&call, vertices, quads);
+    count_call(&call);
+    trial->quads = answer[0] == 0 ? start(&plain_quads) : NULL;
+    trial->quad_count = quads;
+}
+
+/* ---- printing ---- */
+
+static void tally_numbers(const char *title, const uint64_t *counts, unsigned last)
+{
+    char name[40];
+    tally_title(title);
+    tally_case("accepted", counts[0]);
+    for (unsigned refusal = 1; refusal <= last; refusal++) {
+        sprintf(name, "refusal %u", refusal);
+        tally_case(name, counts[refusal]);
+    }
+}
+
+static void tally_refusals(void)
+{
+    char name[40];
+    tally_numbers("answers of the counts", tally.counts, 4);
+    tally_numbers("answers of the mesh", tally.answers, REFUSALS);
+    for (unsigned axis = 0; axis < 3; axis++) {
+        sprintf(name, "axis %c", "xyz"[axis]);
+        tally_case(name, tally.bad_axis[axis]);
+    }
+    tally_case("t = 0", tally.zero);
+    tally_case("t = 65535", tally.top);
+    tally_case("words alone short", tally.words_alone);
+    tally_case("offsets alone short", tally.offsets_alone);
+    tally_case("both short", tally.both_short);
+    tally_title("two refusals due, the lower given");
+    for (unsigned first = 1; first <= REFUSALS; first++)
+        for (unsigned later = first + 1; later <= REFUSALS; later++) {
+            sprintf(name, "%u-%u", first, later);
+            tally_case(name, tally.orders[first][later]);
+        }
+    tally_title("ceilings");
+    tally_case("first sample", tally.ceiling_first);
+    tally_case("last sample", tally.ceiling_last);
+    tally_case("on a crossed edge", tally.ceiling_crossed);
+    tally_case("on no crossed edge", tally.ceiling_uncrossed);
+}
+
+static void tally_accepted(void)
+{
+    char name[40];
+    tally_title("accepted blocks");
+    tally_case("t = 1", tally.lowest);
+    tally_case("t = 65534", tally.highest);
+    tally_case("a sample at t - 1", tally.below);
+    tally_case("at t", tally.at);
+    tally_case("at t + 1", tally.above);
+    tally_case("pore or grain of one sample", tally.one_wide);
+    tally_case("of a few", tally.wider);
+    tally_case("no vertices", tally.no_vertex);
+    tally_case("vertices and no quads", tally.no_quad);
+    tally_case("quads", tally.some_quads);
+    tally_case("row of more than 64 samples", tally.long_row);
+    for (unsigned axis = 0; axis < 3; axis++) {
+        sprintf(name, "axis %c of 256", "xyz"[axis]);
+        tally_case(name, tally.longest[axis]);
+    }
+    tally_case("all rooms exact", tally.rooms_exact);
+    tally_case("all rooms longer", tally.rooms_longer);
+    tally_title("bench cubes as blocks");
+    for (unsigned cube = 0; cube < BENCH_CUBES; cube++)
+        tally_case(bench_cubes[cube].name, tally.bench_alone[cube]);
+    tally_title("bench cubes within blocks");
+    for (unsigned cube = 0; cube < BENCH_CUBES; cube++)
+        tally_case(bench_cubes[cube].name, tally.bench_within[cube]);
+}
+
+void tally_blocks(void)
+{
+    tally_title("blocks");
+    for (unsigned kind = 0; kind < KINDS; kind++)
+        tally_case(kind_names[kind], tally.kinds[kind]);
+    tally_refusals();
+    tally_accepted();
+    tally_reaches(&counted_place);
+    tally_reaches(&answer_place);
+    tally_title("compared of meshes");
+    tally_case("vertices", tally.vertices);
+    tally_case("quads", tally.quads);
+    tally_case("samples", tally.samples);
+}
