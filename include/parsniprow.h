@@ -3,32 +3,46 @@
    WHAT IS TRUE OF EVERY FUNCTION HERE
    - It may be asked anything: every number and every length is taken, and every call ends.
    - A buffer is a pointer and then its length, counted in items and not in bytes. No pointer may be null, also where
-     the length is 0. The memory is the caller's, it is aligned for its items, and a buffer that is written to overlaps
-     no other.
-   - Nothing is kept from one call to the next and nothing is allocated, so any number of threads may call at once. A
-     call takes less than 64 KiB of the stack. Of a C library it needs memcpy and memset.
+     the length is 0 (malloc(0) may give null: ask for one byte at least). The memory is the caller's, it is aligned for
+     its items, the length is not more than it has, and a buffer that is written to overlaps no other. What is only
+     written to need not be initialised.
+   - Nothing is kept from one call to the next and nothing is allocated, so any number of threads may call at once,
+     where none writes what another's call reads or writes. A call takes less than 64 KiB of the stack. Of a C library
+     it needs memcpy and memset. The processor rounds to nearest, as a C program starts.
+   - C cuts an argument that is too large for its type before the call: 65636 as t arrives as 100. Check wider numbers
+     first.
    - Nothing outside the lent buffers is touched, and what is lent as const is not written to.
    - An answer place is always written, with zeros where the answer does not use it. It takes the number of items that
      the function says; of a shorter place as many are written as it has room for, and what lies behind is kept.
 
    REFUSALS
    What cannot be answered is refused by number. Checks run in the order of the numbers; the first that holds is given,
-   with its value.
+   with its value. Each function says which of them it tries.
 
      number  given exactly when                value
      1       an axis is under 2 or over 256    lowest such axis, 0 to 2
      2       samples_len is not nx * ny * nz   nx * ny * nz
      3       t is 0 or 65535                   t
      4       some sample is 65535              lowest such index; of a cube the corner; of an edge lower end 0, upper 1
-     5       words or offsets is short         vertices needed
-     6       quads is short                    quads needed
+     5       words_len is under 2, or          vertices needed
+             offsets_len under 3, a vertex
+     6       quads_len is under 4 a quad       quads needed
      7       quads_len is no multiple of 4     quads_len modulo 4
 
    A value above 4294967295 is given as that.
 
    GREY VALUES
    A sample is metal if it is at least the threshold t, else hollow. Samples stand x fastest: sample (i, j, k) has index
-   i + nx * (j + ny * k). 65535 is the detector's ceiling and no grey value: whatever is given one refuses it. */
+   i + nx * (j + ny * k). 65535 is the detector's ceiling and no grey value: whatever is given one refuses it.
+
+   THE MESH
+   An edge joins two samples that are neighbours along x, y or z; its lower end has the smaller coordinate. It is
+   crossed if one end is metal and the other hollow. On each face of a cube crossed edges are linked in pairs; where all
+   four are crossed, the metal corners are joined if the product of their differences from t is at least that of the
+   hollow ones (asymptotic decider). The links close into loops of 3 to 12 edges, at most 4 in a cube. Each loop is a
+   vertex, at the mean of its crossings. Vertices stand by rising cube number, in a cube by the loop's lowest edge. Each
+   crossed edge that lies on no face of the box gives one quad of the vertices around it: edges along x, then y, then z,
+   each by index of the lower sample. So a vertex at the box's faces may be in no quad. */
 #ifndef PARSNIPROW_H
 #define PARSNIPROW_H
 
@@ -40,7 +54,7 @@ extern "C" {
 #endif
 
 /* Where the surface crosses an edge.
-     p, q      the samples at the edge's lower and upper end
+     p, q      the samples at the edge's two ends, p at the one with the smaller coordinate
      t         the threshold
      fraction  answer place, 1 item: how far the crossing is from the lower end, 0 to 1; 0 where there is none, on
                refusal too
@@ -51,13 +65,13 @@ void parsniprow_edge(uint16_t p, uint16_t q, uint16_t t, double *fraction, size_
 /* The loops of crossed edges in a cube, each of which is a vertex.
      c0 to c7  the samples at the corners; corner x + 2 * y + 4 * z is at (x, y, z)
      t         the threshold
-     words     answer place, 4 items: the mask of each loop, bit e for edge e, by lowest edge; 0 where there is no loop,
-               on refusal too
+     words     answer place, 4 items: the mask of each loop, bit e for edge e, in the order of their lowest edges;
+               0 where there is no loop, on refusal too
      offsets   answer place, 12 items: the place x, y, z of each loop in the cube, each 0 to 1; 0 where there is none,
                on refusal too
      answer    answer place, 3 items: 0, number of loops (0 to 4), 0; or refusal (3 or 4), its value, 0
-   The edges run between corners 0: 0-1, 1: 2-3, 2: 4-5, 3: 6-7, 4: 0-2, 5: 1-3, 6: 4-6, 7: 5-7, 8: 0-4, 9: 1-5,
-   10: 2-6, 11: 3-7. */
+   Edges by number, each with its two corners, the lower first: 0: 0-1, 1: 2-3, 2: 4-5, 3: 6-7, 4: 0-2, 5: 1-3, 6: 4-6,
+   7: 5-7, 8: 0-4, 9: 1-5, 10: 2-6, 11: 3-7. */
 void parsniprow_cube(uint16_t c0, uint16_t c1, uint16_t c2, uint16_t c3, uint16_t c4, uint16_t c5, uint16_t c6,
                      uint16_t c7, uint16_t t, uint32_t *words, size_t words_len, double *offsets, size_t offsets_len,
                      uint32_t *answer, size_t answer_len);
@@ -70,14 +84,16 @@ void parsniprow_cube(uint16_t c0, uint16_t c1, uint16_t c2, uint16_t c3, uint16_
 void parsniprow_counts(uint32_t nx, uint32_t ny, uint32_t nz, const uint16_t *samples, size_t samples_len, uint16_t t,
                        uint32_t *answer, size_t answer_len);
 
-/* The mesh of a block. Its time grows with the number of samples and with the size of the mesh.
+/* The mesh of a block. Its time grows with the number of samples and with the size of the mesh. Ask parsniprow_counts
+   first: words takes 2 * vertices items, offsets 3 * vertices, quads 4 * quads. More room is allowed.
      nx, ny, nz, samples, t  as of parsniprow_counts
      words    room for 2 items a vertex: the number of its cube, then the mask of its loop. Cube (i, j, k) has number
               i + (nx - 1) * (j + (ny - 1) * k)
      offsets  room for 3 items a vertex: x, y, z from the cube's corner 0, each 0 to 1; the vertex is at
               (i + x, j + y, k + z) in grid steps
-     quads    room for 4 items a quad: the numbers of its vertices, from 0. Seen from the hollow side they run against
-              the clock where x, y, z are right-handed
+     quads    room for 4 items a quad: the numbers of its vertices, from 0. Seen along its edge from the hollow end they
+              run against the clock where x, y, z are right-handed. A quad need be neither flat nor convex; vertices may
+              share a place, so its area may be 0
      answer   answer place, 3 items: 0, vertices, quads; or refusal (1 to 6), its value, 0
    The three buffers keep their contents on refusal, and always behind the mesh. */
 void parsniprow_mesh(uint32_t nx, uint32_t ny, uint32_t nz, const uint16_t *samples, size_t samples_len, uint16_t t,
@@ -86,7 +102,8 @@ void parsniprow_mesh(uint32_t nx, uint32_t ny, uint32_t nz, const uint16_t *samp
 
 /* Whether a list of quads is closed: each side, as an unordered pair of vertices, is used exactly twice over all quads
    and has two different ends. By this rule the meshes of many sound pores are open. The empty list is closed.
-   ITS TIME GROWS WITH THE SQUARE OF THE LIST: 10000 quads take some two seconds, 100000 some minutes.
+   ITS TIME GROWS WITH THE SQUARE OF THE LIST, unless a fault is found early: 10000 quads take some two seconds, 100000
+   some minutes.
      quads   4 vertex numbers a quad, any numbers; side s of a quad runs from its vertex s to the next, 3 back to 0
      answer  answer place, 4 items: 0, 1, 0, 0 if closed; 0, 0, quad, side of the first side at fault, by quad and then
              by side; or refusal 7, its value, 0, 0. A quad above 4294967295 is given as that */

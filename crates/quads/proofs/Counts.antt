@@ -17,15 +17,15 @@ use Rattle.mesh_rule.specs.Layers.{planeSize}
 use Rattle.mesh_rule.specs.Grid.{crossedInner}
 use Rattle.quads.specs.declared.Along.{Along}
 use Rattle.quads.specs.declared.Along.the-variants.{AxisX, AxisY, AxisZ}
-use Rattle.quads.specs.Edges.{axisOf, crossedOn, firstRow, RowIn, Planes, edgesOf, PlaneCount}
+use Rattle.quads.specs.Edges.{alongAxis, crossedOn, firstRow, RowIn, Planes, edgesOf, PlaneCount}
 use Rattle.quads.proofs.Crossed.{crossed-past, crossed-first, crossed-last, edges-word}
 use Rattle.quads.proofs.Ranges.{count-past, count-empty, ones-count}
 
 -- ---- a row
 
-module _ (n : Size) (s : List ℕ) (cut : Cut) (along : Along) (k : ℕ) (a b : List ℕ) (j : ℕ) (p : Planes n s cut (axisOf along) k a b) (r : RowIn n along j) where
+module _ (n : Size) (s : List ℕ) (cut : Cut) (along : Along) (k : ℕ) (a b : List ℕ) (j : ℕ) (p : Planes n s cut (alongAxis along) k a b) (r : RowIn n along j) where
   abbrev onRow : ℕ → Bool
-  onRow x = crossedOn n s cut (axisOf along) j k x
+  onRow x = crossedOn n s cut (alongAxis along) j k x
 
   pub row-none : 0 ≡ count onRow (64 * 0)
   row-none = sym (count-empty onRow 0 (λ x l. absurd (omega arith)))
@@ -42,7 +42,7 @@ module _ (n : Size) (s : List ℕ) (cut : Cut) (along : Along) (k : ℕ) (a b : 
 
   -- nothing is counted past the row's end
   pub row-past : (w nx : ℕ) → nx ≡ n .nx → nx ≤ 64 * w → count onRow nx ≡ count onRow (64 * w)
-  row-past w nx e h = sym (count-past onRow nx (64 * w) h (λ x l. crossed-past n s cut (axisOf along) x j k (omega arith)))
+  row-past w nx e h = sym (count-past onRow nx (64 * w) h (λ x l. crossed-past n s cut (alongAxis along) x j k (omega arith)))
 
 -- ---- a plane
 
@@ -69,25 +69,25 @@ module _ (n : Size) (s : List ℕ) (cut : Cut) (k : ℕ) where
       next = omega arith
 
   -- before the first row
-  start-at : (along : Along) (j : ℕ) → 2 ≤ n .ny → j ≡ firstRow along → 0 ≡ count (onPlane (axisOf along)) (n .nx * j)
+  start-at : (along : Along) (j : ℕ) → 2 ≤ n .ny → j ≡ firstRow along → 0 ≡ count (onPlane (alongAxis along)) (n .nx * j)
   start-at along j h e = rw e (go along)
     where
-      one : (along : Along) → firstRow along ≡ 1 → 0 ≡ count (onPlane (axisOf along)) (n .nx * 1)
+      one : (along : Along) → firstRow along ≡ 1 → 0 ≡ count (onPlane (alongAxis along)) (n .nx * 1)
       one along f =
-          sym (row-of (axisOf along) 0 (omega arith)
-          ∙ ap₂ (λ (x y : ℕ). x + y) (ap (count (onPlane (axisOf along))) (mul-zero (n .nx)) ∙ none (onPlane (axisOf along)))
+          sym (row-of (alongAxis along) 0 (omega arith)
+          ∙ ap₂ (λ (x y : ℕ). x + y) (ap (count (onPlane (alongAxis along))) (mul-zero (n .nx)) ∙ none (onPlane (alongAxis along)))
           (count-empty _ (n .nx) (λ x l. crossed-first n s cut along x 0 k (rw f (omega arith)))))
         where
           none : (g : ℕ → Bool) → count g 0 ≡ 0
           none g = count-empty g 0 (λ x l. absurd (omega arith))
 
-      go : (along : Along) → 0 ≡ count (onPlane (axisOf along)) (n .nx * firstRow along)
+      go : (along : Along) → 0 ≡ count (onPlane (alongAxis along)) (n .nx * firstRow along)
       go AxisX = one AxisX refl
       go AxisY = rw (mul-zero (n .nx)) (sym (count-empty _ 0 (λ x l. absurd (omega arith))))
       go AxisZ = one AxisZ refl
 
   module _ (nx ny : ℕ) (ex : nx ≡ n .nx) (ey : ny ≡ n .ny) where
-    pub plane-start : (along : Along) (j : ℕ) → 2 ≤ ny → j ≡ firstRow along → 0 ≡ count (onPlane (axisOf along)) (nx * j)
+    pub plane-start : (along : Along) (j : ℕ) → 2 ≤ ny → j ≡ firstRow along → 0 ≡ count (onPlane (alongAxis along)) (nx * j)
     plane-start along j h e = rw ex (start-at along j (omega arith) e)
 
     -- one row more
@@ -114,5 +114,5 @@ module _ (n : Size) (s : List ℕ) (cut : Cut) (k : ℕ) where
 
 -- what `count_plane` answers, of the block
 pub counted : (n : Size) (s : List ℕ) (cut : Cut) (along : Along) (k : ℕ) (a b : List ℕ) (nx ny r : ℕ) → PlaneCount along a b nx ny (nx * ny) r
-    → Planes n s cut (axisOf along) k a b → nx ≡ n .nx → ny ≡ n .ny → r ≡ count (onPlane n s cut k (axisOf along)) (planeSize n)
-counted n s cut along k a b nx ny r h p ex ey = h n s cut k p ex ey ∙ ap (count (onPlane n s cut k (axisOf along))) (plane-size n s cut k nx ny ex ey)
+    → Planes n s cut (alongAxis along) k a b → nx ≡ n .nx → ny ≡ n .ny → r ≡ count (onPlane n s cut k (alongAxis along)) (planeSize n)
+counted n s cut along k a b nx ny r h p ex ey = h n s cut k p ex ey ∙ ap (count (onPlane n s cut k (alongAxis along))) (plane-size n s cut k nx ny ex ey)

@@ -28,7 +28,7 @@ use Rattle.signs.proofs.Planes.{word-at, further-word}
 use Rattle.signs.proofs.Rows.{row-bit}
 use Rattle.quads.specs.declared.Along.{Along}
 use Rattle.quads.specs.declared.Along.the-variants.{AxisX, AxisY, AxisZ}
-use Rattle.quads.specs.Edges.{axisOf, crossedOn, firstRow, RowIn, Planes, edgesOf}
+use Rattle.quads.specs.Edges.{alongAxis, crossedOn, firstRow, RowIn, Planes, edgesOf}
 
 -- ---- tests
 
@@ -62,7 +62,7 @@ pub crossed-past : (n : Size) (s : List ℕ) (cut : Cut) (axis : Axis) (x j k : 
 crossed-past n s cut axis x j k h = rw (inner-past n axis x j k h)
 
 -- none before the first row, and none from the last on
-inner-first : (n : Size) (along : Along) (x j k : ℕ) → j < firstRow along → inner n (axisOf along) x j k ≡ false
+inner-first : (n : Size) (along : Along) (x j k : ℕ) → j < firstRow along → inner n (alongAxis along) x j k ≡ false
 inner-first n AxisX x j k h = rw (zero-of j h) (ap (λ (b : Bool). b && between (n .nz) k) (and-false (ltb (x + 1) (n .nx))))
   where
     zero-of : (j : ℕ) → j < 1 → j ≡ 0
@@ -78,7 +78,7 @@ inner-last n X x j k h = rw (not-between (n .ny) j h) (ap (λ (b : Bool). b && b
 inner-last n Y x j k h = rw (le-ltb (j + 1) (n .ny) h) (ap (λ (b : Bool). b && between (n .nz) k) (and-false (between (n .nx) x)))
 inner-last n Z x j k h = rw (not-between (n .ny) j h) (ap (λ (b : Bool). b && ltb (k + 1) (n .nz)) (and-false (between (n .nx) x)))
 
-pub crossed-first : (n : Size) (s : List ℕ) (cut : Cut) (along : Along) (x j k : ℕ) → j < firstRow along → crossedOn n s cut (axisOf along) j k x ≡ false
+pub crossed-first : (n : Size) (s : List ℕ) (cut : Cut) (along : Along) (x j k : ℕ) → j < firstRow along → crossedOn n s cut (alongAxis along) j k x ≡ false
 crossed-first n s cut along x j k h = rw (inner-first n along x j k h)
 
 pub crossed-last : (n : Size) (s : List ℕ) (cut : Cut) (axis : Axis) (x j k : ℕ) → n .ny ≤ j + 1 → crossedOn n s cut axis j k x ≡ false
@@ -140,8 +140,8 @@ next-row {n} {s} {cut} {k} {a} p j w hj hw = record {
     place = omega arith
 
 pub edges-word : (n : Size) (s : List ℕ) (cut : Cut) (along : Along) (k : ℕ) (a b : List ℕ) (j w : ℕ)
-    → Planes n s cut (axisOf along) k a b → RowIn n along j → w < 4
-    → Word (edgesOf along a b (n .nx) j w) (λ i. bit (crossedOn n s cut (axisOf along) j k (64 * w + i))) 64
+    → Planes n s cut (alongAxis along) k a b → RowIn n along j → w < 4
+    → Word (edgesOf along a b (n .nx) j w) (λ i. bit (crossedOn n s cut (alongAxis along) j k (64 * w + i))) 64
 unfolding edgesOf
 edges-word n s cut AxisX k a b j w p r hw =
     let hj : j < n .ny = omega (arith, r .1) in

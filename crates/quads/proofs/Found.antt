@@ -26,7 +26,8 @@ use Rattle.mesh_rule.proofs.Numbers.{one-for-each-loop, corners-of-number}
 use Rattle.vertices.proofs.CubeCorners.{corners-at}
 use Rattle.quads.specs.Parts.{leadCube}
 use Rattle.quads.specs.Rings.{foundOn, WantedOn, Fits32}
-use Rattle.quads.specs.Steps.{loopsFrom, OneLoop, FirstOf, foundAt}
+use Rattle.vertices.specs.Cubes.{loopsAt}
+use Rattle.quads.specs.Steps.{OneLoop, FirstOf, foundAt}
 use Rattle.quads.specs.Writing.{Accepted}
 use Rattle.quads.proofs.Counts.{plane-index}
 use Rattle.quads.proofs.Layers.{lead-run, loop-there, loop-word, number-run, run-more}
@@ -66,10 +67,10 @@ module _ (n : Size) (s : List ℕ) (cut : Cut) (ok : Accepted n s cut) (x y z e 
   abbrev corner : ℕ
   corner = sampleIndex n x y z
 
-  loops-are : loopsFrom s cut corner (n .nx) (n .nx * n .ny) ≡ cubeLoops loopsOf n s cut cube
+  loops-are : loopsAt s cut (n .nx) (n .nx * n .ny) corner ≡ cubeLoops loopsOf n s cut cube
   loops-are = ap (loopsOf cut) (corners-at n s (sampleIndex n x y z) x y z refl ∙ sym (corners-of-number n s x y z (h .cube-in .0) (h .cube-in .1)))
 
-  one-holder : holders e (loopsFrom s cut corner (n .nx) (n .nx * n .ny)) ≡ 1
+  one-holder : holders e (loopsAt s cut (n .nx) (n .nx * n .ny) corner) ≡ 1
   one-holder =
       ap (λ (cs : List ℕ). holders e (loopsOf cut cs)) (corners-at n s (sampleIndex n x y z) x y z refl)
       ∙ cube-laws joined .each cut (cornersAt n s x y z) e (h .edge-lt)
@@ -83,8 +84,8 @@ module _ (n : Size) (s : List ℕ) (cut : Cut) (ok : Accepted n s cut) (x y z e 
   one-loop : OneLoop s cut e corner (n .nx) (n .nx * n .ny)
   one-loop = record { edge-lt = h .edge-lt; room = inside; one = one-holder; threshold = ok .threshold; ceiling = ok .ceiling }
 
-  holder-lt : firstHolder e (loopsFrom s cut corner (n .nx) (n .nx * n .ny)) < length (cubeLoops loopsOf n s cut cube)
-  holder-lt = omega (arith, first-lt e (loopsFrom s cut corner (n .nx) (n .nx * n .ny)) (omega (arith, one-holder)), ap length loops-are)
+  holder-lt : firstHolder e (loopsAt s cut (n .nx) (n .nx * n .ny) corner) < length (cubeLoops loopsOf n s cut cube)
+  holder-lt = omega (arith, first-lt e (loopsAt s cut (n .nx) (n .nx * n .ny) corner) (omega (arith, one-holder)), ap length loops-are)
 
   -- ---- in its layer
 
@@ -115,7 +116,7 @@ module _ (n : Size) (s : List ℕ) (cut : Cut) (ok : Accepted n s cut) (x y z e 
         one-more : cube + 1 ≡ base + (place + 1)
         one-more = omega (arith, cube-is)
 
-    loop-in : (l : ℕ) → l < length (loopsFrom s cut corner (n .nx) (n .nx * n .ny)) → l < length (cubeLoops loopsOf n s cut (base + place))
+    loop-in : (l : ℕ) → l < length (loopsAt s cut (n .nx) (n .nx * n .ny) corner) → l < length (cubeLoops loopsOf n s cut (base + place))
     loop-in l h = rw cube-is (rw loops-are at h)
 
     first-of : FirstOf part (leadCube cube part) s cut corner (n .nx) (n .nx * n .ny)

@@ -19,10 +19,10 @@ use Rattle.quads.specs.declared.Along.{Along}
 use Rattle.quads.specs.declared.Along.the-variants.{AxisX, AxisY, AxisZ}
 use Rattle.quads.specs.declared.Cursors.{Cursors}
 use Rattle.quads.specs.declared.Four.{Four}
-use Rattle.quads.specs.Edges.{axisOf, crossedOn}
+use Rattle.quads.specs.Edges.{alongAxis, crossedOn}
 use Rattle.quads.specs.Parts.{leadCube}
-use Rattle.quads.specs.Rings.{row0, row1, row3, layer0, backOf, edgeOf, upOn, fourOf, Sought, cursorsAt, FourFit, quadFound, Behind}
-use Rattle.quads.specs.Writing.{Ready, edgeQuads}
+use Rattle.quads.specs.Rings.{rowOfFirst, rowOfSecond, rowOfFourth, layerOfFirst, backOf, edgeOf, upOn, fourOf, Sought, cursorsAt, FourFit, quadFound, Behind}
+use Rattle.quads.specs.Writing.{PlaneReady, edgeQuads}
 use Rattle.quads.proofs.Found.{RingCube, ring-cube}
 use Rattle.quads.proofs.Lead.{lead-mono}
 
@@ -30,13 +30,13 @@ use Rattle.quads.proofs.Lead.{lead-mono}
 
 -- what holds of the four cubes
 pub record Ring (P : ℕ → ℕ → ℕ → ℕ → Type 0) (along : Along) (x j k : ℕ) : Type 0 where
-  pub q0 : P (x - backOf along) (row0 along j) (layer0 along k) (edgeOf along + 3)
-  pub q1 : P (x - 0) (row1 along j) (layer0 along k) (edgeOf along + 2)
+  pub q0 : P (x - backOf along) (rowOfFirst along j) (layerOfFirst along k) (edgeOf along + 3)
+  pub q1 : P (x - 0) (rowOfSecond along j) (layerOfFirst along k) (edgeOf along + 2)
   pub q2 : P (x - 0) j k (edgeOf along)
-  pub q3 : P (x - backOf along) (row3 along j) k (edgeOf along + 1)
+  pub q3 : P (x - backOf along) (rowOfFourth along j) k (edgeOf along + 1)
 
 module _ (n : Size) (s : List ℕ) (cut : Cut) where
-  crossed-ring : (along : Along) (x j k : ℕ) → Inner n (axisOf along) x j k → crossedFrom n s cut (axisOf along) x j k ≡ true → Ring (CrossedIn n s cut) along x j k
+  crossed-ring : (along : Along) (x j k : ℕ) → Inner n (alongAxis along) x j k → crossedFrom n s cut (alongAxis along) x j k ≡ true → Ring (CrossedIn n s cut) along x j k
   crossed-ring AxisX x j k h c =
       let r = crossed-round n s cut X x j k h c in
       record { q0 = rw sub-zero (r .0); q1 = rw sub-zero (r .1); q2 = rw sub-zero (r .2); q3 = rw sub-zero (r .3) }
@@ -47,12 +47,12 @@ module _ (n : Size) (s : List ℕ) (cut : Cut) where
       let r = crossed-round n s cut Z x j k h c in
       record { q0 = r .0; q1 = rw sub-zero (r .1); q2 = rw sub-zero (r .2); q3 = r .3 }
 
-  back-le : (along : Along) (x j k : ℕ) → Inner n (axisOf along) x j k → backOf along ≤ x
+  back-le : (along : Along) (x j k : ℕ) → Inner n (alongAxis along) x j k → backOf along ≤ x
   back-le AxisX x j k h = omega arith
   back-le AxisY x j k h = h .0 .0
   back-le AxisZ x j k h = h .0 .0
 
-  next-in : (along : Along) (x j k : ℕ) → Inner n (axisOf along) x j k → x + 1 < n .nx
+  next-in : (along : Along) (x j k : ℕ) → Inner n (alongAxis along) x j k → x + 1 < n .nx
   next-in AxisX x j k h = h .0
   next-in AxisY x j k h = h .0 .1
   next-in AxisZ x j k h = h .0 .1
@@ -60,15 +60,15 @@ module _ (n : Size) (s : List ℕ) (cut : Cut) where
   -- the four vertices, in this order
   abbrev ringQuad : Along → ℕ → ℕ → ℕ → Quad
   ringQuad along x j k =
-      quad (vertexAt loopsOf n s cut (x - backOf along) (row0 along j) (layer0 along k) (edgeOf along + 3)) (vertexAt loopsOf n s cut (x - 0) (row1 along j) (layer0 along k) (edgeOf along + 2))
-      (vertexAt loopsOf n s cut (x - 0) j k (edgeOf along)) (vertexAt loopsOf n s cut (x - backOf along) (row3 along j) k (edgeOf along + 1))
+      quad (vertexAt loopsOf n s cut (x - backOf along) (rowOfFirst along j) (layerOfFirst along k) (edgeOf along + 3)) (vertexAt loopsOf n s cut (x - 0) (rowOfSecond along j) (layerOfFirst along k) (edgeOf along + 2))
+      (vertexAt loopsOf n s cut (x - 0) j k (edgeOf along)) (vertexAt loopsOf n s cut (x - backOf along) (rowOfFourth along j) k (edgeOf along + 1))
 
   -- second and fourth changed, and the sign too
   changed : (b : Bool) (p q r t : ℕ) → turned (not b) (quad p q r t) ≡ turned b (quad p t r q)
   changed true p q r t = refl
   changed false p q r t = refl
 
-  turned-is : (along : Along) (x j k : ℕ) → turned (upOn along (metal n s cut x j k)) (ringQuad along x j k) ≡ turned (metal n s cut x j k) (around loopsOf n s cut (axisOf along) x j k)
+  turned-is : (along : Along) (x j k : ℕ) → turned (upOn along (metal n s cut x j k)) (ringQuad along x j k) ≡ turned (metal n s cut x j k) (around loopsOf n s cut (alongAxis along) x j k)
   turned-is AxisX x j k = rw sub-zero
   turned-is AxisY x j k =
       changed (metal n s cut x j k) _ _ _ _
@@ -91,13 +91,13 @@ module _ (n : Size) (s : List ℕ) (cut : Cut) where
 -- ---- the step
 
 module _ (n : Size) (s : List ℕ) (cut : Cut) (along : Along) (j k : ℕ) (a : List ℕ) (af : ℕ) (b : List ℕ) (bf : ℕ)
-    (ready : Ready n s cut along k a af b bf) (f : Four) (built : f ≡ fourOf (n .nx) (n .ny) along j k)
-    (x : ℕ) (crossed : crossedOn n s cut (axisOf along) j k x ≡ true) where
-  facts : Inner n (axisOf along) x j k
-  facts = inner-facts n (axisOf along) x j k (both (inner n (axisOf along) x j k) (crossedFrom n s cut (axisOf along) x j k) crossed .0)
+    (ready : PlaneReady n s cut along k a af b bf) (f : Four) (built : f ≡ fourOf (n .nx) (n .ny) along j k)
+    (x : ℕ) (crossed : crossedOn n s cut (alongAxis along) j k x ≡ true) where
+  facts : Inner n (alongAxis along) x j k
+  facts = inner-facts n (alongAxis along) x j k (both (inner n (alongAxis along) x j k) (crossedFrom n s cut (alongAxis along) x j k) crossed .0)
 
   ring : Ring (CrossedIn n s cut) along x j k
-  ring = crossed-ring n s cut along x j k facts (both (inner n (axisOf along) x j k) (crossedFrom n s cut (axisOf along) x j k) crossed .1)
+  ring = crossed-ring n s cut along x j k facts (both (inner n (alongAxis along) x j k) (crossedFrom n s cut (alongAxis along) x j k) crossed .1)
 
   pub in-row : x + 1 < n .nx
   in-row = next-in n s cut along x j k facts
@@ -105,16 +105,16 @@ module _ (n : Size) (s : List ℕ) (cut : Cut) (along : Along) (j k : ℕ) (a : 
   x-in : x ≤ 256
   x-in = omega (arith, next-in n s cut along x j k facts, ready .accepted .limits .x-high)
 
-  cube0 : RingCube n s cut a af x (row0 along j) (layer0 along k) (edgeOf along + 3) (backOf along)
+  cube0 : RingCube n s cut a af x (rowOfFirst along j) (layerOfFirst along k) (edgeOf along + 3) (backOf along)
   cube0 = ring-cube n s cut (ready .accepted) _ _ _ _ (ring .q0) a (ready .low-words) af (ready .low-first) x (backOf along) (back-le n s cut along x j k facts) x-in refl
 
-  cube1 : RingCube n s cut a af x (row1 along j) (layer0 along k) (edgeOf along + 2) 0
+  cube1 : RingCube n s cut a af x (rowOfSecond along j) (layerOfFirst along k) (edgeOf along + 2) 0
   cube1 = ring-cube n s cut (ready .accepted) _ _ _ _ (ring .q1) a (ready .low-words) af (ready .low-first) x 0 (omega arith) x-in refl
 
   cube2 : RingCube n s cut b bf x j k (edgeOf along) 0
   cube2 = ring-cube n s cut (ready .accepted) _ _ _ _ (ring .q2) b (ready .words) bf (ready .first) x 0 (omega arith) x-in refl
 
-  cube3 : RingCube n s cut b bf x (row3 along j) k (edgeOf along + 1) (backOf along)
+  cube3 : RingCube n s cut b bf x (rowOfFourth along j) k (edgeOf along + 1) (backOf along)
   cube3 = ring-cube n s cut (ready .accepted) _ _ _ _ (ring .q3) b (ready .words) bf (ready .first) x (backOf along) (back-le n s cut along x j k facts) x-in refl
 
   abbrev four : Four
@@ -146,13 +146,13 @@ module _ (n : Size) (s : List ℕ) (cut : Cut) (along : Along) (j k : ℕ) (a : 
       (record { n0 = cube0 .fits; n1 = cube1 .fits; n2 = cube2 .fits; n3 = cube3 .fits })
 
   -- they make the edge's quad
-  quad-four : quadFound (n .nx) (n .nx * n .ny) s cut a af b bf four x (upOn along (metal n s cut x j k)) ≡ edgeQuads n s cut (axisOf along) j k x
+  quad-four : quadFound (n .nx) (n .nx * n .ny) s cut a af b bf four x (upOn along (metal n s cut x j k)) ≡ edgeQuads n s cut (alongAxis along) j k x
   quad-four =
       rw (cube0 .number, cube1 .number, cube2 .number, cube3 .number)
-      (ap (λ (q : Quad). flat (q ∷ [])) (turned-is n s cut along x j k) ∙ sym (quads-of n s cut (axisOf along) x j k crossed))
+      (ap (λ (q : Quad). flat (q ∷ [])) (turned-is n s cut along x j k) ∙ sym (quads-of n s cut (alongAxis along) x j k crossed))
 
   pub quad-is : (positive : Bool) → positive ≡ upOn along (metal n s cut x j k)
-      → quadFound (n .nx) (n .nx * n .ny) s cut a af b bf f x positive ≡ edgeQuads n s cut (axisOf along) j k x
+      → quadFound (n .nx) (n .nx * n .ny) s cut a af b bf f x positive ≡ edgeQuads n s cut (alongAxis along) j k x
   quad-is positive e = ap₂ (λ (g : Four) (b′ : Bool). quadFound (n .nx) (n .nx * n .ny) s cut a af b bf g x b′) built e ∙ quad-four
 
   -- and the cursors at them are behind the next edge

@@ -8,7 +8,7 @@ use Rattle.block.specs.Numbering.{Axis, X, Y, Z}
 use Rattle.quads.specs.declared.Along.{Along}
 use Rattle.quads.specs.declared.Along.the-variants.{AxisX, AxisY, AxisZ}
 use Rattle.quads.specs.declared.Four.{Four}
-use Rattle.quads.specs.Edges.{axisOf, RowIn, PlaneIn}
+use Rattle.quads.specs.Edges.{alongAxis, RowIn, PlaneIn}
 use Rattle.quads.specs.Rings.{ringOf, fourOf}
 
 module _ (n : Size) (along : Along) (j k : ℕ) where
@@ -18,10 +18,10 @@ module _ (n : Size) (along : Along) (j k : ℕ) where
   pub row-z : along ≡ AxisZ → RowIn n along j → 1 ≤ j
   row-z e r = (rw e at r) .0
 
-  pub plane-x : along ≡ AxisX → PlaneIn n (axisOf along) k → 1 ≤ k
+  pub plane-x : along ≡ AxisX → PlaneIn n (alongAxis along) k → 1 ≤ k
   plane-x e r = (rw e at r) .0
 
-  pub plane-y : along ≡ AxisY → PlaneIn n (axisOf along) k → 1 ≤ k
+  pub plane-y : along ≡ AxisY → PlaneIn n (alongAxis along) k → 1 ≤ k
   plane-y e r = (rw e at r) .0
 
 pub plane-lt : (n : Size) (axis : Axis) (k : ℕ) → PlaneIn n axis k → k < n .nz

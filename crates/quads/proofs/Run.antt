@@ -21,9 +21,9 @@ use Rattle.quads.specs.declared.Along.{Along}
 use Rattle.quads.specs.declared.Along.the-variants.{AxisX, AxisY, AxisZ}
 use Rattle.quads.specs.declared.Cursors.{Cursors}
 use Rattle.quads.specs.declared.Four.{Four}
-use Rattle.quads.specs.Edges.{axisOf, crossedOn}
-use Rattle.quads.specs.Rings.{signOf, upOn, Sought, cursorsAt, FourFit, quadFound, Behind}
-use Rattle.quads.specs.Writing.{Ready, edgeQuads, InRow, RunOf, Wrote}
+use Rattle.quads.specs.Edges.{alongAxis, crossedOn}
+use Rattle.quads.specs.Rings.{orderSign, upOn, Sought, cursorsAt, FourFit, quadFound, Behind}
+use Rattle.quads.specs.Writing.{PlaneReady, edgeQuads, InRow, RunOf, Wrote}
 use Rattle.quads.proofs.Round.{quads-none, quads-four, in-row, sought, numbers-fit, quad-is, behind-next, behind-later}
 use Rattle.quads.proofs.Writes.{wrote-none, wrote-length, wrote-more, wrote-as}
 
@@ -36,7 +36,7 @@ bit-false false e = refl
 bit-false true e = absurd (omega arith)
 
 -- the sign is that with which the order is the quad's
-up-test : (along : Along) (b : Bool) → eqb (bit b) (signOf along) ≡ upOn along b
+up-test : (along : Along) (b : Bool) → eqb (bit b) (orderSign along) ≡ upOn along b
 up-test AxisX true = refl
 up-test AxisX false = refl
 up-test AxisY true = refl
@@ -45,15 +45,15 @@ up-test AxisZ true = refl
 up-test AxisZ false = refl
 
 module _ (n : Size) (s : List ℕ) (cut : Cut) (a : List ℕ) (af : ℕ) (b : List ℕ) (bf : ℕ) (f : Four) (d up x : ℕ)
-    (ready : Ready n s cut (f .along) (f .k) a af b bf) (row : InRow n f) (run : RunOf n s cut f d up x) where
+    (ready : PlaneReady n s cut (f .along) (f .k) a af b bf) (row : InRow n f) (run : RunOf n s cut f d up x) where
   abbrev tests : ℕ → Bool
-  tests y = crossedOn n s cut (axisOf (f .along)) (f .j) (f .k) (x + y)
+  tests y = crossedOn n s cut (alongAxis (f .along)) (f .j) (f .k) (x + y)
 
   abbrev lists : ℕ → List ℕ
-  lists y = edgeQuads n s cut (axisOf (f .along)) (f .j) (f .k) (x + y)
+  lists y = edgeQuads n s cut (alongAxis (f .along)) (f .j) (f .k) (x + y)
 
   none : (y : ℕ) → y < 64 → bit (tests y) ≡ 0 → lists (0 + y) ≡ []
-  none y h e = quads-none n s cut (axisOf (f .along)) (x + (0 + y)) (f .j) (f .k) (ap tests (zero-add y) ∙ bit-false (tests y) e)
+  none y h e = quads-none n s cut (alongAxis (f .along)) (x + (0 + y)) (f .j) (f .k) (ap tests (zero-add y) ∙ bit-false (tests y) e)
 
   pub run-start : Left (λ y. bit (tests y)) 64 0 d
   run-start = left-start (run .bits)
@@ -90,7 +90,7 @@ module _ (n : Size) (s : List ℕ) (cut : Cut) (a : List ℕ) (af : ℕ) (b : Li
       next = simp zero-add at (visit-next lists (λ y. bit (tests y)) 64 0 none l some)
 
       four : length (lists here) ≡ 4
-      four = quads-four n s cut (axisOf (f .along)) (x + here) (f .j) (f .k) crossed
+      four = quads-four n s cut (alongAxis (f .along)) (x + here) (f .j) (f .k) crossed
 
       pub step-room : (from at : ℕ) (q₀ q : List ℕ) → from + length (below lists 64) ≤ length q₀ → Wrote (below lists i) from q₀ q at → at + 4 ≤ length q
       step-room from at q₀ q h g = omega (arith, g .place, wrote-length g, ap length to, four, length-below lists 64 here here-lt)

@@ -28,8 +28,8 @@ use Rattle.cell.specs.Answer.{wordOf, cubeVerdict, saidCube, CubeAnswered}
 use Rattle.cell.proofs.Answers.{verdict-second, accepted-loops}
 use Rattle.cell.proofs.Found.{the-type}
 use Rattle.mesh_rule.proofs.Holders.{first-lt, first-holds, only-first}
-use Rattle.vertices.specs.Cubes.{cornersFrom}
-use Rattle.quads.specs.Steps.{loopsFrom, OneLoop, FirstOf}
+use Rattle.vertices.specs.Cubes.{cornersFrom, loopsAt}
+use Rattle.quads.specs.Steps.{OneLoop, FirstOf}
 
 words-same : (corners ms : List ℕ) → map (wordOf corners) ms ≡ ms
 words-same corners [] = refl
@@ -48,7 +48,7 @@ module _ (samples : List ℕ) (cut : Cut) (e i nx nxy : ℕ) (o : OneLoop sample
   corners = cornersFrom samples nx nxy i
 
   abbrev loops : List ℕ
-  loops = loopsFrom samples cut i nx nxy
+  loops = loopsAt samples cut nx nxy i
 
   -- ---- rows 3 and 4 pass
 

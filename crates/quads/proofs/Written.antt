@@ -22,10 +22,10 @@ use Rattle.quads.specs.declared.Along.{Along}
 use Rattle.quads.specs.declared.Along.the-variants.{AxisX, AxisY, AxisZ}
 use Rattle.quads.specs.declared.Cursors.{Cursors}
 use Rattle.quads.specs.declared.Four.{Four}
-use Rattle.quads.specs.Edges.{axisOf, crossedOn, firstRow, RowIn, Planes, edgesOf}
+use Rattle.quads.specs.Edges.{alongAxis, crossedOn, firstRow, RowIn, Planes, edgesOf}
 use Rattle.quads.specs.Parts.{leadCube}
-use Rattle.quads.specs.Rings.{row0, row1, row3, fourOf, Behind}
-use Rattle.quads.specs.Writing.{Ready, edgeQuads, rowQuads, InRow, RunOf, RowLeft, TwoLayers, Wrote}
+use Rattle.quads.specs.Rings.{rowOfFirst, rowOfSecond, rowOfFourth, fourOf, Behind}
+use Rattle.quads.specs.Writing.{PlaneReady, edgeQuads, rowQuads, InRow, RunOf, RowLeft, TwoLayers, Wrote}
 use Rattle.quads.proofs.Counts.{plane-index}
 use Rattle.quads.proofs.Crossed.{crossed-past, crossed-first, crossed-last, planes-x, planes-y, edges-word}
 use Rattle.quads.proofs.Lead.{lead-mono}
@@ -50,10 +50,10 @@ below-grows g m n h =
 
 module _ (n : Size) (s : List ℕ) (cut : Cut) (f : Four) where
   abbrev lists : ℕ → List ℕ
-  lists x = edgeQuads n s cut (axisOf (f .along)) (f .j) (f .k) x
+  lists x = edgeQuads n s cut (alongAxis (f .along)) (f .j) (f .k) x
 
   past : (x : ℕ) → n .nx ≤ x → lists x ≡ []
-  past x h = quads-none n s cut (axisOf (f .along)) x (f .j) (f .k) (crossed-past n s cut (axisOf (f .along)) x (f .j) (f .k) (omega arith))
+  past x h = quads-none n s cut (alongAxis (f .along)) x (f .j) (f .k) (crossed-past n s cut (alongAxis (f .along)) x (f .j) (f .k) (omega arith))
 
   capped : (m : ℕ) → length (below lists m) ≤ length (below lists (n .nx))
   capped m = go (lt-or-ge m (n .nx))
@@ -63,13 +63,13 @@ module _ (n : Size) (s : List ℕ) (cut : Cut) (f : Four) where
       go (inr g) = omega (arith, ap length (below-past lists (n .nx) past m g))
 
   -- the words say what a run asks for
-  pub row-run : (p q : List ℕ) → Planes n s cut (axisOf (f .along)) (f .k) p q → InRow n f → (w d up nx : ℕ) → nx ≡ n .nx → 64 * w < nx
+  pub row-run : (p q : List ℕ) → Planes n s cut (alongAxis (f .along)) (f .k) p q → InRow n f → (w d up nx : ℕ) → nx ≡ n .nx → 64 * w < nx
       → d ≡ edgesOf (f .along) p q nx (f .j) w → up ≡ getD p (5 * f .j + w) 0 → RunOf n s cut f d up (64 * w)
   row-run p q planes r w d up nx en hw ed eu =
       let few : w < 4 = omega (arith, planes .limits .x-high) in
       record {
         bits =
-            subst (λ (v : ℕ). Word v (λ (i : ℕ). bit (crossedOn n s cut (axisOf (f .along)) (f .j) (f .k) (64 * w + i))) 64)
+            subst (λ (v : ℕ). Word v (λ (i : ℕ). bit (crossedOn n s cut (alongAxis (f .along)) (f .j) (f .k) (64 * w + i))) 64)
             (sym (ed ∙ ap (λ (x : ℕ). edgesOf (f .along) p q x (f .j) w) en))
             (edges-word n s cut (f .along) (f .k) p q (f .j) w planes (r .row) few);
         signs = λ i hi hx. rw eu (sign-bit (planes .lower) (f .j) w (omega (arith, r .row .1)) i (omega arith) hi hx);
@@ -84,7 +84,7 @@ module _ (n : Size) (s : List ℕ) (cut : Cut) (f : Four) where
       more : 64 * (w + 1) ≡ 64 * w + 64
       more = omega arith
 
-  pub row-room : (w from at : ℕ) (b v : List ℕ) → from + length (rowQuads n s cut (axisOf (f .along)) (f .k) (f .j)) ≤ length b → Wrote (below lists (64 * w)) from b v at
+  pub row-room : (w from at : ℕ) (b v : List ℕ) → from + length (rowQuads n s cut (alongAxis (f .along)) (f .k) (f .j)) ≤ length b → Wrote (below lists (64 * w)) from b v at
       → at + length (below (λ (i : ℕ). lists (64 * w + i)) 64) ≤ length v
   row-room w from at b v h g =
       omega (arith, g .place, wrote-length g, capped (64 * (w + 1)), ap length (next w), length-append (below lists (64 * w)) (below (λ (i : ℕ). lists (64 * w + i)) 64))
@@ -94,7 +94,7 @@ module _ (n : Size) (s : List ℕ) (cut : Cut) (f : Four) where
   row-join w from at on b v u g h = wrote-as (sym (next w)) (wrote-join g h)
 
   pub row-end : (w from at : ℕ) (b v : List ℕ) → n .nx ≤ 64 * w → Wrote (below lists (64 * w)) from b v at
-      → Wrote (rowQuads n s cut (axisOf (f .along)) (f .k) (f .j)) from b v at
+      → Wrote (rowQuads n s cut (alongAxis (f .along)) (f .k) (f .j)) from b v at
   row-end w from at b v h g = wrote-as (below-past lists (n .nx) past (64 * w) h) g
 
   pub row-behind : (a b : List ℕ) (w : ℕ) (c : Cursors) → Behind n a b f (64 * w + 64) c → Behind n a b f (64 * (w + 1)) c
@@ -117,20 +117,20 @@ module _ (n : Size) (s : List ℕ) (cut : Cut) (f : Four) where
 pub behind-start : (n : Size) (a b : List ℕ) (f : Four) (at : ℕ) → Behind n a b f 0 (record { at = at; v0 = 0; v1 = 0; v2 = 0; v3 = 0 })
 behind-start n a b f at = record { reach = 0; in-row = omega arith; passed = omega arith; b0 = omega arith; b1 = omega arith; b2 = omega arith; b3 = omega arith }
 
-row0-next : (along : Along) (j : ℕ) → firstRow along ≤ j → row0 along (j + 1) ≡ row0 along j + 1
-row0-next AxisX j h = omega arith
-row0-next AxisY j h = omega arith
-row0-next AxisZ j h = omega arith
+first-next : (along : Along) (j : ℕ) → firstRow along ≤ j → rowOfFirst along (j + 1) ≡ rowOfFirst along j + 1
+first-next AxisX j h = omega arith
+first-next AxisY j h = omega arith
+first-next AxisZ j h = omega arith
 
-row1-next : (along : Along) (j : ℕ) → firstRow along ≤ j → row1 along (j + 1) ≡ row1 along j + 1
-row1-next AxisX j h = omega arith
-row1-next AxisY j h = omega arith
-row1-next AxisZ j h = omega arith
+second-next : (along : Along) (j : ℕ) → firstRow along ≤ j → rowOfSecond along (j + 1) ≡ rowOfSecond along j + 1
+second-next AxisX j h = omega arith
+second-next AxisY j h = omega arith
+second-next AxisZ j h = omega arith
 
-row3-next : (along : Along) (j : ℕ) → firstRow along ≤ j → row3 along (j + 1) ≡ row3 along j + 1
-row3-next AxisX j h = omega arith
-row3-next AxisY j h = omega arith
-row3-next AxisZ j h = omega arith
+fourth-next : (along : Along) (j : ℕ) → firstRow along ≤ j → rowOfFourth along (j + 1) ≡ rowOfFourth along j + 1
+fourth-next AxisX j h = omega arith
+fourth-next AxisY j h = omega arith
+fourth-next AxisZ j h = omega arith
 
 -- the cubes of the next row come behind those of this one
 next-row-cube : (nx ny y z back : ℕ) → rowCube nx ny (y + 1) z + 0 - back ≡ rowCube nx ny y z + (nx - 1) - back
@@ -148,34 +148,34 @@ next-row n a b along j k f c e h left = go (subst (λ (g : Four). RowLeft n a b 
       reach = 0;
       in-row = omega arith;
       passed = omega arith;
-      b0 = rw (row0-next along j h, next-row-cube) (l .b0);
-      b1 = rw (row1-next along j h, next-row-cube) (l .b1);
+      b0 = rw (first-next along j h, next-row-cube) (l .b0);
+      b1 = rw (second-next along j h, next-row-cube) (l .b1);
       b2 = rw next-row-cube (l .b2);
-      b3 = rw (row3-next along j h, next-row-cube) (l .b3);
+      b3 = rw (fourth-next along j h, next-row-cube) (l .b3);
     }
 
 -- ---- a row by its place
 
 module _ (n : Size) (s : List ℕ) (cut : Cut) (along : Along) (j k : ℕ) (f : Four) (e : f ≡ fourOf (n .nx) (n .ny) along j k) where
-  pub row-asked : (p q a : List ℕ) (af : ℕ) (b : List ℕ) (bf room : ℕ) (c : Cursors) → Ready n s cut along k a af b bf → Planes n s cut (axisOf along) k p q → RowIn n along j
-      → Behind n a b (fourOf (n .nx) (n .ny) along j k) 0 c → c .at + length (rowQuads n s cut (axisOf along) k j) ≤ room
-      → Ready n s cut (f .along) (f .k) a af b bf × Planes n s cut (axisOf (f .along)) (f .k) p q × InRow n f × Behind n a b f 0 c
-      × (c .at + length (rowQuads n s cut (axisOf (f .along)) (f .k) (f .j)) ≤ room)
+  pub row-asked : (p q a : List ℕ) (af : ℕ) (b : List ℕ) (bf room : ℕ) (c : Cursors) → PlaneReady n s cut along k a af b bf → Planes n s cut (alongAxis along) k p q → RowIn n along j
+      → Behind n a b (fourOf (n .nx) (n .ny) along j k) 0 c → c .at + length (rowQuads n s cut (alongAxis along) k j) ≤ room
+      → PlaneReady n s cut (f .along) (f .k) a af b bf × Planes n s cut (alongAxis (f .along)) (f .k) p q × InRow n f × Behind n a b f 0 c
+      × (c .at + length (rowQuads n s cut (alongAxis (f .along)) (f .k) (f .j)) ≤ room)
   row-asked p q a af b bf room c ready planes r h l = rw e (ready, planes, record { built = refl; row = r }, h, l)
 
-  pub row-told : {from at : ℕ} {b v : List ℕ} → Wrote (rowQuads n s cut (axisOf (f .along)) (f .k) (f .j)) from b v at → Wrote (rowQuads n s cut (axisOf along) k j) from b v at
-  row-told h = wrote-as (ap (λ (g : Four). rowQuads n s cut (axisOf (g .along)) (g .k) (g .j)) e) h
+  pub row-told : {from at : ℕ} {b v : List ℕ} → Wrote (rowQuads n s cut (alongAxis (f .along)) (f .k) (f .j)) from b v at → Wrote (rowQuads n s cut (alongAxis along) k j) from b v at
+  row-told h = wrote-as (ap (λ (g : Four). rowQuads n s cut (alongAxis (g .along)) (g .k) (g .j)) e) h
 
 -- ---- what the entry points ask for
 
 module _ (n : Size) (s : List ℕ) (cut : Cut) (k : ℕ) (a : List ℕ) where
-  pub two-layers-x : (below : List ℕ) (bf : ℕ) (here : List ℕ) (hf : ℕ) → TwoLayers n s cut k a below bf here hf → Ready n s cut AxisX k below bf here hf × Planes n s cut X k a a
+  pub two-layers-x : (below : List ℕ) (bf : ℕ) (here : List ℕ) (hf : ℕ) → TwoLayers n s cut k a below bf here hf → PlaneReady n s cut AxisX k below bf here hf × Planes n s cut X k a a
   two-layers-x below bf here hf t = (
     record { accepted = t .accepted; in-z = (t .low, t .high); low-words = t .below-words; low-first = t .below-first; words = t .here-words; first = t .here-first },
     planes-x n s cut k a (t .accepted .limits) (t .low) (t .high) (t .plane),
   )
 
-  pub two-layers-y : (below : List ℕ) (bf : ℕ) (here : List ℕ) (hf : ℕ) → TwoLayers n s cut k a below bf here hf → Ready n s cut AxisY k below bf here hf × Planes n s cut Y k a a
+  pub two-layers-y : (below : List ℕ) (bf : ℕ) (here : List ℕ) (hf : ℕ) → TwoLayers n s cut k a below bf here hf → PlaneReady n s cut AxisY k below bf here hf × Planes n s cut Y k a a
   two-layers-y below bf here hf t = (
     record { accepted = t .accepted; in-z = (t .low, t .high); low-words = t .below-words; low-first = t .below-first; words = t .here-words; first = t .here-first },
     planes-y n s cut k a (t .accepted .limits) (t .low) (t .high) (t .plane),
@@ -198,13 +198,13 @@ module _ (n : Size) (s : List ℕ) (cut : Cut) (k : ℕ) where
           ap (quadsFrom n s cut axis) (plane-index (n .nx) (n .ny) x j k)
           ∙ rw (index-x (n .nx) (n .ny) x j k hx hj, index-y (n .nx) (n .ny) x j k hx hj, index-z (n .nx) (n .ny) x j k hx hj)
 
-  before-first : (along : Along) → below (rows (axisOf along)) (firstRow along) ≡ []
+  before-first : (along : Along) → below (rows (alongAxis along)) (firstRow along) ≡ []
   before-first along =
-      below-empty (rows (axisOf along)) (firstRow along)
-      (λ j hj. below-empty _ (n .nx) (λ x l. quads-none n s cut (axisOf along) x j k (crossed-first n s cut along x j k hj)))
+      below-empty (rows (alongAxis along)) (firstRow along)
+      (λ j hj. below-empty _ (n .nx) (λ x l. quads-none n s cut (alongAxis along) x j k (crossed-first n s cut along x j k hj)))
 
-  pub plane-none : (along : Along) (j from : ℕ) (b : List ℕ) → j ≡ firstRow along → Wrote (below (rows (axisOf along)) j) from b b from
-  plane-none along j from b e = wrote-as (sym (ap (below (rows (axisOf along))) e ∙ before-first along)) (wrote-none from b)
+  pub plane-none : (along : Along) (j from : ℕ) (b : List ℕ) → j ≡ firstRow along → Wrote (below (rows (alongAxis along)) j) from b b from
+  plane-none along j from b e = wrote-as (sym (ap (below (rows (alongAxis along))) e ∙ before-first along)) (wrote-none from b)
 
   pub plane-room : (axis : Axis) (j from at : ℕ) (b v : List ℕ) → j < n .ny → from + length (planeQuads n s cut axis k) ≤ length b
       → Wrote (below (rows axis) j) from b v at → at + length (rows axis j) ≤ length v

@@ -18,10 +18,10 @@ use Rattle.quads.specs.declared.Along.{Along}
 use Rattle.quads.specs.declared.Along.the-variants.{AxisX, AxisY, AxisZ}
 
 -- the axis that a value of the code stands for
-abbrev pub axisOf : Along → Axis
-axisOf AxisX = X
-axisOf AxisY = Y
-axisOf AxisZ = Z
+abbrev pub alongAxis : Along → Axis
+alongAxis AxisX = X
+alongAxis AxisY = Y
+alongAxis AxisZ = Z
 
 -- the edge along the axis from (x,j,k) is inner and crossed
 abbrev pub crossedOn : Size → List ℕ → Cut → Axis → ℕ → ℕ → ℕ → Bool
@@ -64,11 +64,11 @@ PlaneCounted n s cut axis k r = r ≡ count (λ (p : ℕ). crossedInner n s cut 
 -- r is how many crossed inner edges start from the first m samples of row j of a plane, in every block of which a and b hold the signs
 abbrev pub RowCount : Along → List ℕ → List ℕ → ℕ → ℕ → ℕ → ℕ → Type 0
 RowCount along a b nx j m r =
-    (n : Size) (s : List ℕ) (cut : Cut) (k : ℕ) → Planes n s cut (axisOf along) k a b → RowIn n along j → nx ≡ n .nx
-    → r ≡ count (λ (x : ℕ). crossedOn n s cut (axisOf along) j k x) m
+    (n : Size) (s : List ℕ) (cut : Cut) (k : ℕ) → Planes n s cut (alongAxis along) k a b → RowIn n along j → nx ≡ n .nx
+    → r ≡ count (λ (x : ℕ). crossedOn n s cut (alongAxis along) j k x) m
 
 -- the same of the first m samples of a plane
 abbrev pub PlaneCount : Along → List ℕ → List ℕ → ℕ → ℕ → ℕ → ℕ → Type 0
 PlaneCount along a b nx ny m r =
-    (n : Size) (s : List ℕ) (cut : Cut) (k : ℕ) → Planes n s cut (axisOf along) k a b → nx ≡ n .nx → ny ≡ n .ny
-    → r ≡ count (λ (p : ℕ). crossedInner n s cut (axisOf along) (planeSize n * k + p)) m
+    (n : Size) (s : List ℕ) (cut : Cut) (k : ℕ) → Planes n s cut (alongAxis along) k a b → nx ≡ n .nx → ny ≡ n .ny
+    → r ≡ count (λ (p : ℕ). crossedInner n s cut (alongAxis along) (planeSize n * k + p)) m

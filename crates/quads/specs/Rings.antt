@@ -16,26 +16,26 @@ use Rattle.quads.specs.Parts.{leadCube}
 use Rattle.quads.specs.Steps.{Wanted, foundAt}
 
 -- the rows of the first, the second and the fourth cube; the third is in row j of layer k
-abbrev pub row0 : Along → ℕ → ℕ
-row0 AxisX j = j - 1
-row0 AxisY j = j
-row0 AxisZ j = j - 1
+abbrev pub rowOfFirst : Along → ℕ → ℕ
+rowOfFirst AxisX j = j - 1
+rowOfFirst AxisY j = j
+rowOfFirst AxisZ j = j - 1
 
-abbrev pub row1 : Along → ℕ → ℕ
-row1 AxisX j = j
-row1 AxisY j = j
-row1 AxisZ j = j - 1
+abbrev pub rowOfSecond : Along → ℕ → ℕ
+rowOfSecond AxisX j = j
+rowOfSecond AxisY j = j
+rowOfSecond AxisZ j = j - 1
 
-abbrev pub row3 : Along → ℕ → ℕ
-row3 AxisX j = j - 1
-row3 AxisY j = j
-row3 AxisZ j = j
+abbrev pub rowOfFourth : Along → ℕ → ℕ
+rowOfFourth AxisX j = j - 1
+rowOfFourth AxisY j = j
+rowOfFourth AxisZ j = j
 
 -- the layer of the first two
-abbrev pub layer0 : Along → ℕ → ℕ
-layer0 AxisX k = k - 1
-layer0 AxisY k = k - 1
-layer0 AxisZ k = k
+abbrev pub layerOfFirst : Along → ℕ → ℕ
+layerOfFirst AxisX k = k - 1
+layerOfFirst AxisY k = k - 1
+layerOfFirst AxisZ k = k
 
 -- how much less x is for the first and the last
 abbrev pub backOf : Along → ℕ
@@ -50,10 +50,10 @@ edgeOf AxisY = 4
 edgeOf AxisZ = 8
 
 -- the lower sample's sign with which this order is the quad's
-abbrev pub signOf : Along → ℕ
-signOf AxisX = 1
-signOf AxisY = 0
-signOf AxisZ = 1
+abbrev pub orderSign : Along → ℕ
+orderSign AxisX = 1
+orderSign AxisY = 0
+orderSign AxisZ = 1
 
 abbrev pub upOn : Along → Bool → Bool
 upOn AxisX b = b
@@ -83,7 +83,7 @@ ringOf nx ny along j k y0 y1 y3 z0 back e sign = record {
 }
 
 abbrev pub fourOf : ℕ → ℕ → Along → ℕ → ℕ → Four
-fourOf nx ny along j k = ringOf nx ny along j k (row0 along j) (row1 along j) (row3 along j) (layer0 along k) (backOf along) (edgeOf along) (signOf along)
+fourOf nx ny along j k = ringOf nx ny along j k (rowOfFirst along j) (rowOfSecond along j) (rowOfFourth along j) (layerOfFirst along k) (backOf along) (edgeOf along) (orderSign along)
 
 -- ---- one edge
 

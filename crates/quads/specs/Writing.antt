@@ -22,9 +22,9 @@ use Rattle.signs.specs.Signs.{Plane}
 use Rattle.quads.specs.declared.Along.{Along}
 use Rattle.quads.specs.declared.Cursors.{Cursors}
 use Rattle.quads.specs.declared.Four.{Four}
-use Rattle.quads.specs.Edges.{axisOf, crossedOn, RowIn, PlaneIn}
+use Rattle.quads.specs.Edges.{alongAxis, crossedOn, RowIn, PlaneIn}
 use Rattle.quads.specs.Parts.{leadCube}
-use Rattle.quads.specs.Rings.{layer0, fourOf}
+use Rattle.quads.specs.Rings.{layerOfFirst, fourOf}
 
 -- a block that rows 1 to 4 pass
 pub record Accepted (n : Size) (s : List ℕ) (cut : Cut) : Type 0 where
@@ -34,11 +34,11 @@ pub record Accepted (n : Size) (s : List ℕ) (cut : Cut) : Type 0 where
   pub ceiling : ceilingRow s ≡ Passes
 
 -- a and b hold the vertices of the layers round the edges from plane k, and af and bf are the numbers of their first
-pub record Ready (n : Size) (s : List ℕ) (cut : Cut) (along : Along) (k : ℕ) (a : List ℕ) (af : ℕ) (b : List ℕ) (bf : ℕ) : Type 0 where
+pub record PlaneReady (n : Size) (s : List ℕ) (cut : Cut) (along : Along) (k : ℕ) (a : List ℕ) (af : ℕ) (b : List ℕ) (bf : ℕ) : Type 0 where
   pub accepted : Accepted n s cut
-  pub in-z : PlaneIn n (axisOf along) k
-  pub low-words : a ≡ layerWords n s cut (layer0 along k)
-  pub low-first : af ≡ layerFirst n s cut (layer0 along k)
+  pub in-z : PlaneIn n (alongAxis along) k
+  pub low-words : a ≡ layerWords n s cut (layerOfFirst along k)
+  pub low-first : af ≡ layerFirst n s cut (layerOfFirst along k)
   pub words : b ≡ layerWords n s cut k
   pub first : bf ≡ layerFirst n s cut k
 
@@ -56,7 +56,7 @@ pub record InRow (n : Size) (f : Four) : Type 0 where
 
 -- the bits of d are the crossed inner edges from x on, and those of up the signs of their lower samples
 pub record RunOf (n : Size) (s : List ℕ) (cut : Cut) (f : Four) (d up x : ℕ) : Type 0 where
-  pub bits : Word d (λ (i : ℕ). bit (crossedOn n s cut (axisOf (f .along)) (f .j) (f .k) (x + i))) 64
+  pub bits : Word d (λ (i : ℕ). bit (crossedOn n s cut (alongAxis (f .along)) (f .j) (f .k) (x + i))) 64
   pub signs : (i : ℕ) → i < 64 → x + i < n .nx → up / 2 ^ i % 2 ≡ bit (metal n s cut (x + i) (f .j) (f .k))
 
 -- the cursors have left the row, and not gone further

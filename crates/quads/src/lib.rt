@@ -16,11 +16,12 @@ ghost use Rattle.cube_rule.specs.Rule.{firstHolder};
 ghost use Rattle.mesh_rule.specs.Mesh.{quad, turned, flat};
 ghost use Rattle.mesh_rule.specs.Layers.{planeQuads, rowCube, rowSample};
 ghost use Rattle.signs.specs.Signs.{Plane};
-ghost use Rattle.quads.specs.Edges.{axisOf, edgesOf, firstRow, RowIn, PlaneIn, Planes, PlaneCounted, RowCount, PlaneCount};
+ghost use Rattle.quads.specs.Edges.{alongAxis, edgesOf, firstRow, RowIn, PlaneIn, Planes, PlaneCounted, RowCount, PlaneCount};
 ghost use Rattle.quads.specs.Parts.{leadCube};
-ghost use Rattle.quads.specs.Steps.{loopsFrom, OneLoop, FirstOf, foundAt, Wanted};
+ghost use Rattle.vertices.specs.Cubes.{loopsAt};
+ghost use Rattle.quads.specs.Steps.{OneLoop, FirstOf, foundAt, Wanted};
 ghost use Rattle.quads.specs.Rings.{ringOf, fourOf, foundOn, WantedOn, Sought, cursorsAt, FourFit, quadFound, Behind};
-ghost use Rattle.quads.specs.Writing.{Ready, edgeQuads, rowQuads, InRow, RunOf, RowLeft, TwoLayers, OneLayer, Wrote};
+ghost use Rattle.quads.specs.Writing.{PlaneReady, edgeQuads, rowQuads, InRow, RunOf, RowLeft, TwoLayers, OneLayer, Wrote};
 
 // The axis along which edges run.
 enum Along {
@@ -276,7 +277,7 @@ fn seek(part: &[u32], from: usize, c: usize) -> usize
 // Which of a cube's loops holds the edge e, by the cube question.
 fn which_loop(samples: &[u16], cut: Cut, e: u32, i: usize, nx: usize, nxy: usize) -> usize
     requires { ⌜ OneLoop (now samples) cut e i nx nxy ⌝ }
-    ensures { λ r. ⌜ r ≡ firstHolder e (loopsFrom (now (samples .entry)) cut i nx nxy) ⌝ }
+    ensures { λ r. ⌜ r ≡ firstHolder e (loopsAt (now (samples .entry)) cut nx nxy i) ⌝ }
     ensures { λ r. ⌜ r < 4 ⌝ }
 {
     let answer = cell::cube(vertices::corners(samples, i, nx, nxy), cut.t);
@@ -309,7 +310,7 @@ fn holder(
     nxy: usize,
 ) -> usize
     requires { ⌜ OneLoop (now samples) cut e i nx nxy × FirstOf (now part) v (now samples) cut i nx nxy ⌝ }
-    ensures { λ r. ⌜ r ≡ v + firstHolder e (loopsFrom (now (samples .entry)) cut i nx nxy) ⌝ }
+    ensures { λ r. ⌜ r ≡ v + firstHolder e (loopsAt (now (samples .entry)) cut nx nxy i) ⌝ }
 {
     if (part[2 * v + 1] >> e) % 2 == 1 {
         return v;
@@ -415,7 +416,7 @@ fn ring(
 
 // The four cubes round the edges along the axis from row j of plane k.
 fn four_round(size: Size, along: Along, j: usize, k: usize) -> Four
-    requires { ⌜ Limits size × (j < 256) × (k < 256) × RowIn size along j × PlaneIn size (axisOf along) k ⌝ }
+    requires { ⌜ Limits size × (j < 256) × (k < 256) × RowIn size along j × PlaneIn size (alongAxis along) k ⌝ }
     ensures { λ r. ⌜ r ≡ fourOf (size .nx) (size .ny) along j k ⌝ }
 {
     match along {
@@ -597,8 +598,8 @@ fn quad_run(
     quads: &mut [u32],
     cursors: Cursors,
 ) -> Cursors
-    requires { ⌜ Ready size (now samples) cut (four .along) (four .k) (now a) af (now b) bf × InRow size four × RunOf size (now samples) cut four d up x × (x ≤ 192) × Behind size (now a) (now b) four x cursors × (cursors .at + length (below (λ (i : ℕ). edgeQuads size (now samples) cut (axisOf (four .along)) (four .j) (four .k) (x + i)) 64) ≤ length (now quads)) ⌝ }
-    ensures { λ r. ⌜ Wrote (below (λ (i : ℕ). edgeQuads size (now (samples .entry)) cut (axisOf (four .along)) (four .j) (four .k) (x + i)) 64) (cursors .at) (now (quads .entry)) (now (quads .exit)) (r .at) ⌝ }
+    requires { ⌜ PlaneReady size (now samples) cut (four .along) (four .k) (now a) af (now b) bf × InRow size four × RunOf size (now samples) cut four d up x × (x ≤ 192) × Behind size (now a) (now b) four x cursors × (cursors .at + length (below (λ (i : ℕ). edgeQuads size (now samples) cut (alongAxis (four .along)) (four .j) (four .k) (x + i)) 64) ≤ length (now quads)) ⌝ }
+    ensures { λ r. ⌜ Wrote (below (λ (i : ℕ). edgeQuads size (now (samples .entry)) cut (alongAxis (four .along)) (four .j) (four .k) (x + i)) 64) (cursors .at) (now (quads .entry)) (now (quads .exit)) (r .at) ⌝ }
     ensures { λ r. ⌜ Behind size (now (a .entry)) (now (b .entry)) four (x + 64) r ⌝ }
 {
     let mut w = d;
@@ -642,8 +643,8 @@ fn write_row(
     quads: &mut [u32],
     cursors: Cursors,
 ) -> Cursors
-    requires { ⌜ Ready size (now samples) cut (four .along) (four .k) (now a) af (now b) bf × Planes size (now samples) cut (axisOf (four .along)) (four .k) (now p) (now q) × InRow size four × Behind size (now a) (now b) four 0 cursors × (cursors .at + length (rowQuads size (now samples) cut (axisOf (four .along)) (four .k) (four .j)) ≤ length (now quads)) ⌝ }
-    ensures { λ r. ⌜ Wrote (rowQuads size (now (samples .entry)) cut (axisOf (four .along)) (four .k) (four .j)) (cursors .at) (now (quads .entry)) (now (quads .exit)) (r .at) ⌝ }
+    requires { ⌜ PlaneReady size (now samples) cut (four .along) (four .k) (now a) af (now b) bf × Planes size (now samples) cut (alongAxis (four .along)) (four .k) (now p) (now q) × InRow size four × Behind size (now a) (now b) four 0 cursors × (cursors .at + length (rowQuads size (now samples) cut (alongAxis (four .along)) (four .k) (four .j)) ≤ length (now quads)) ⌝ }
+    ensures { λ r. ⌜ Wrote (rowQuads size (now (samples .entry)) cut (alongAxis (four .along)) (four .k) (four .j)) (cursors .at) (now (quads .entry)) (now (quads .exit)) (r .at) ⌝ }
     ensures { λ r. ⌜ RowLeft size (now (a .entry)) (now (b .entry)) four r ⌝ }
 {
     let nx = size.nx();
@@ -689,8 +690,8 @@ fn write_plane(
     quads: &mut [u32],
     at: usize,
 ) -> usize
-    requires { ⌜ Ready size (now samples) cut along k (now a) af (now b) bf × Planes size (now samples) cut (axisOf along) k (now p) (now q) × (at + length (planeQuads size (now samples) cut (axisOf along) k) ≤ length (now quads)) ⌝ }
-    ensures { λ r. ⌜ Wrote (planeQuads size (now (samples .entry)) cut (axisOf along) k) at (now (quads .entry)) (now (quads .exit)) r ⌝ }
+    requires { ⌜ PlaneReady size (now samples) cut along k (now a) af (now b) bf × Planes size (now samples) cut (alongAxis along) k (now p) (now q) × (at + length (planeQuads size (now samples) cut (alongAxis along) k) ≤ length (now quads)) ⌝ }
+    ensures { λ r. ⌜ Wrote (planeQuads size (now (samples .entry)) cut (alongAxis along) k) at (now (quads .entry)) (now (quads .exit)) r ⌝ }
 {
     let ny = size.ny();
     let mut j = first_row(along);

@@ -4,7 +4,7 @@
 use borrow.Author.Needs.{needs}
 use native.Mathlib.Omega.{arith}
 use Prim.Native.Nat.{_+_, _-_, _*_, _≤_, _<_}
-use Rattle.quads.specs.Edges.{firstRow, axisOf, PlaneCount}
+use Rattle.quads.specs.Edges.{firstRow, alongAxis, PlaneCount}
 use Rattle.quads.proofs.Counts.{plane-start, plane-row, plane-whole}
 use Rattle.quads.proofs.count_plane.Statement.{statement}
 use Rattle.quads.proofs.count_plane.Tie as tie
@@ -53,7 +53,7 @@ loop-again c =
       omega arith,
       omega (arith, c .count-row .ensures .1),
       λ n s cut k p ex ey.
-          plane-row n s cut k (a .nx) (a .ny) ex ey (axisOf (a .along)) (h .j) (h .m) _ (omega arith) (h .inv .3 n s cut k p ex ey)
+          plane-row n s cut k (a .nx) (a .ny) ex ey (alongAxis (a .along)) (h .j) (h .m) _ (omega arith) (h .inv .3 n s cut k p ex ey)
           (c .count-row .ensures .0 n s cut k p (h .inv .0, rw ey at l) ex),
     )
 
@@ -61,7 +61,7 @@ returns : tie.Need-returns Inv-loop μ-loop
 returns c =
     let a = c .before .before .before .before .before .args in
     let h = c .before .loop in
-    (λ n s cut k p ex ey. plane-whole n s cut k (a .nx) (a .ny) ex ey (axisOf (a .along)) (h .j) (h .m) (omega (arith, c .loop-test .left)) (h .inv .3 n s cut k p ex ey), omega arith)
+    (λ n s cut k p ex ey. plane-whole n s cut k (a .nx) (a .ny) ex ey (alongAxis (a .along)) (h .j) (h .m) (omega (arith, c .loop-test .left)) (h .inv .3 n s cut k p ex ey), omega arith)
 
 pub count-plane-spec : {M : Type 1} → statement M
 count-plane-spec =

@@ -8,7 +8,7 @@ use denote.Ref.{now}
 use Rattle.laws.specs.Below.{below}
 use Rattle.laws.specs.Bits.{bit}
 use Rattle.laws.proofs.Visit.{Left, left-next}
-use Rattle.quads.specs.Edges.{axisOf, crossedOn}
+use Rattle.quads.specs.Edges.{alongAxis, crossedOn}
 use Rattle.quads.specs.Rings.{Behind}
 use Rattle.quads.specs.Writing.{edgeQuads, Wrote}
 use Rattle.quads.proofs.Run.{run-start, run-none, run-behind, here-lt, step-sought, step-fits, step-room, step-wrote, step-behind, end-wrote, end-behind}
@@ -18,8 +18,8 @@ use Rattle.quads.proofs.quad_run.Tie as tie
 
 abbrev Inv-loop : tie.InvT-loop
 Inv-loop size samples cut a af b bf four d up x quads₀ w₀ i₀ c₀ quads w i c =
-    Left (λ y. bit (crossedOn size samples cut (axisOf (four .along)) (four .j) (four .k) (x + y))) 64 i w
-    × Wrote (below (λ y. edgeQuads size samples cut (axisOf (four .along)) (four .j) (four .k) (x + y)) i) (c₀ .at) quads₀ quads (c .at)
+    Left (λ y. bit (crossedOn size samples cut (alongAxis (four .along)) (four .j) (four .k) (x + y))) 64 i w
+    × Wrote (below (λ y. edgeQuads size samples cut (alongAxis (four .along)) (four .j) (four .k) (x + y)) i) (c₀ .at) quads₀ quads (c .at)
     × Behind size a b four (x + i) c
 
 abbrev μ-loop : tie.MeasureT-loop

@@ -6,7 +6,7 @@ use native.Mathlib.Omega.{arith}
 use Prim.Native.Nat.{_+_, _-_, _≤_, _<_}
 use denote.Ref.{now}
 use Rattle.laws.specs.Below.{below}
-use Rattle.quads.specs.Edges.{axisOf, firstRow}
+use Rattle.quads.specs.Edges.{alongAxis, firstRow}
 use Rattle.quads.specs.Rings.{fourOf, Behind}
 use Rattle.quads.specs.Writing.{rowQuads, Wrote}
 use Rattle.quads.proofs.Rows.{plane-lt}
@@ -19,7 +19,7 @@ abbrev Inv-loop : tie.InvT-loop
 Inv-loop size samples cut along p q k a af b bf quads₀ at ny j₀ c₀ quads j c =
     (firstRow along ≤ j)
     × (j + 1 ≤ ny)
-    × Wrote (below (rowQuads size samples cut (axisOf along) k) j) at quads₀ quads (c .at)
+    × Wrote (below (rowQuads size samples cut (alongAxis along) k) j) at quads₀ quads (c .at)
     × Behind size a b (fourOf (size .nx) (size .ny) along j k) 0 c
 
 abbrev μ-loop : tie.MeasureT-loop
@@ -50,7 +50,7 @@ four-round-requires c κs =
     let a = s .args in
     let l = s .pre .0 .accepted .limits in
     let t : c .before .loop .j + 1 < a .size .ny = omega (arith, c .loop-test .taken, c .before .before .before .ny .ensures) in
-    (l, omega (arith, l .y-high), omega (arith, l .z-high, plane-lt (a .size) (axisOf (a .along)) (a .k) (s .pre .0 .in-z)), (c .before .loop .inv .0, t), s .pre .0 .in-z)
+    (l, omega (arith, l .y-high), omega (arith, l .z-high, plane-lt (a .size) (alongAxis (a .along)) (a .k) (s .pre .0 .in-z)), (c .before .loop .inv .0, t), s .pre .0 .in-z)
 
 write-row-requires : tie.Need-write-row-requires Inv-loop μ-loop
 write-row-requires c κs =
@@ -59,7 +59,7 @@ write-row-requires c κs =
     let h = c .before .before .before .loop in
     let t : h .j + 1 < a .size .ny = omega (arith, c .before .before .loop-test .taken, c .before .before .before .before .before .ny .ensures) in
     row-asked (a .size) (now (a .samples)) (a .cut) (a .along) (h .j) (a .k) _ (c .before .four-round .ensures) (now (a .p)) (now (a .q)) (now (a .a)) (a .af) (now (a .b)) (a .bf) _ (h .c) (s .pre .0) (s .pre .1) (h .inv .0, t) (h .inv .3)
-    (plane-room (a .size) (now (a .samples)) (a .cut) (a .k) (axisOf (a .along)) (h .j) (a .at) (h .c .at) (now (a .quads)) (h .quads) (omega arith) (s .pre .2) (h .inv .2))
+    (plane-room (a .size) (now (a .samples)) (a .cut) (a .k) (alongAxis (a .along)) (h .j) (a .at) (h .c .at) (now (a .quads)) (h .quads) (omega arith) (s .pre .2) (h .inv .2))
 
 add-j : tie.Need-add-j Inv-loop μ-loop
 add-j c = search needs
@@ -76,7 +76,7 @@ loop-again c =
     let w = c .before .before .write-row in (
       omega (arith, h .inv .0),
       omega (arith, c .before .before .before .before .before .loop-test .taken),
-      plane-more (a .size) (now (a .samples)) (a .cut) (a .k) (axisOf (a .along)) (h .j) (a .at) (h .c .at) _ (now (a .quads)) (h .quads) _ (h .inv .2) (row-told (a .size) (now (a .samples)) (a .cut) (a .along) (h .j) (a .k) _ e (w .ensures .0)),
+      plane-more (a .size) (now (a .samples)) (a .cut) (a .k) (alongAxis (a .along)) (h .j) (a .at) (h .c .at) _ (now (a .quads)) (h .quads) _ (h .inv .2) (row-told (a .size) (now (a .samples)) (a .cut) (a .along) (h .j) (a .k) _ e (w .ensures .0)),
       next-row (a .size) (now (a .a)) (now (a .b)) (a .along) (h .j) (a .k) _ _ e (h .inv .0) (w .ensures .1),
     )
 
@@ -88,7 +88,7 @@ returns c =
     let s = c .before .before .before .before .before .before .before .before .before .before in
     let a = s .args in
     let h = c .before .loop in
-    plane-end (a .size) (now (a .samples)) (a .cut) (a .k) (axisOf (a .along)) (h .j) (a .at) (h .c .at) (now (a .quads)) (h .quads) (omega (arith, c .before .before .before .ny .ensures, c .loop-test .left, h .inv .1)) (h .inv .2)
+    plane-end (a .size) (now (a .samples)) (a .cut) (a .k) (alongAxis (a .along)) (h .j) (a .at) (h .c .at) (now (a .quads)) (h .quads) (omega (arith, c .before .before .before .ny .ensures, c .loop-test .left, h .inv .1)) (h .inv .2)
 
 pub write-plane-spec : {M : Type 1} → statement M
 write-plane-spec =

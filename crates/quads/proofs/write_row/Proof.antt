@@ -7,7 +7,7 @@ use mathlib.Core.Path.{refl}
 use Prim.Native.Nat.{_+_, _-_, _*_, _≤_}
 use denote.Ref.{now}
 use Rattle.laws.specs.Below.{below}
-use Rattle.quads.specs.Edges.{axisOf}
+use Rattle.quads.specs.Edges.{alongAxis}
 use Rattle.quads.specs.Rings.{Behind}
 use Rattle.quads.specs.Writing.{edgeQuads, Wrote}
 use Rattle.quads.proofs.Writes.{wrote-length}
@@ -18,7 +18,7 @@ use Rattle.quads.proofs.write_row.Tie as tie
 abbrev Inv-loop : tie.InvT-loop
 Inv-loop size samples cut p q a af b bf four quads₀ nx along w₀ c₀ quads w c =
     (64 * w ≤ nx + 63)
-    × Wrote (below (edgeQuads size samples cut (axisOf (four .along)) (four .j) (four .k)) (64 * w)) (c₀ .at) quads₀ quads (c .at)
+    × Wrote (below (edgeQuads size samples cut (alongAxis (four .along)) (four .j) (four .k)) (64 * w)) (c₀ .at) quads₀ quads (c .at)
     × Behind size a b four (64 * w) c
 
 abbrev μ-loop : tie.MeasureT-loop
