@@ -5,7 +5,7 @@
      counts, mesh            seconds of the library's two calls; mesh writes into memory that was written to before
      whole                   seconds of counts, of taking memory of that size by malloc, and of mesh, in one go
      plain                   the same of the plain implementation
-   A time is the best of 30 runs, or of as many as begin within a second, but at least 3.
+   A time is the best of 15 runs, or of as many as begin within half a second, but at least 2.
    Assumes that both are linked in; built with -DSELF there is no library, and its three times are not printed.
    The counts and the meshes of the two must agree, bit by bit, or there are no times. */
 #define _POSIX_C_SOURCE 199309L
@@ -23,8 +23,8 @@
 #define parsniprow_mesh plain_mesh
 #endif
 
-enum { MOST_RUNS = 30, LEAST_RUNS = 3, ANSWER = 3 };
-static const double long_enough = 1.0;
+enum { MOST_RUNS = 15, LEAST_RUNS = 2, ANSWER = 3 };
+static const double long_enough = 0.5;
 
 typedef void counts_function(uint32_t, uint32_t, uint32_t, const uint16_t *, size_t, uint16_t, uint32_t *, size_t);
 typedef void mesh_function(uint32_t, uint32_t, uint32_t, const uint16_t *, size_t, uint16_t, uint32_t *, size_t,

@@ -3,9 +3,9 @@
   peers.py versions                prints a line for each peer: key, name, package, version ("-" if it is not installed)
   peers.py key file nx ny nz t     prints "points polygons seconds" of the peer on the block
 
-The file is raw little-endian 16-bit numbers, x fastest. A time is the best of 30 runs, or of as many as begin within a
-second, but at least 3. The block is in memory, in the form that the peer takes, before the first run; the peer takes
-the memory of its mesh within the time, and the mesh of the run before is given back outside of it.
+The file is raw little-endian 16-bit numbers, x fastest. A time is the best of 15 runs, or of as many as begin within
+half a second, but at least 2. The block is in memory, in the form that the peer takes, before the first run; the peer
+takes the memory of its mesh within the time, and the mesh of the run before is given back outside of it.
 
 Assumes that the process may run on one processor only (taskset), as OpenVDB takes all that it is allowed; the peers are
 Debian's packages python3-vtk9, python3-skimage and python3-openvdb, in Debian's own python."""
@@ -13,9 +13,9 @@ import os
 import sys
 import time
 
-MOST_RUNS = 30
-LEAST_RUNS = 3
-LONG_ENOUGH = 1.0
+MOST_RUNS = 15
+LEAST_RUNS = 2
+LONG_ENOUGH = 0.5
 
 # read by VTK when it starts, in case that its backend cannot be set from here
 os.environ["VTK_SMP_BACKEND_IN_USE"] = "Sequential"

@@ -3,9 +3,10 @@
 
 Its lines, with tabs between the words: processor, compiler, library (the machine that its module was compiled for, or
 none); peer, key, name, package, version; figure, kind, size, name, value; made, kind, size, key, points, polygons,
-seconds.
+seconds. Of a figure or a time that stands there twice the least counts.
 Ends with status 1 if a peer's mesh is not of the size to be expected from the block's crossed edges, for then the times
 are of different work."""
+import math
 import sys
 
 
@@ -19,10 +20,11 @@ def read_results(name):
                 peers[rest[0]] = {"name": rest[1], "package": rest[2], "version": rest[3]}
             elif head == "figure":
                 block = blocks.setdefault((rest[0], int(rest[1])), {"made": {}})
-                block[rest[2]] = float(rest[3])
+                block[rest[2]] = min(float(rest[3]), block.get(rest[2], math.inf))
             elif head == "made":
                 made = blocks[rest[0], int(rest[1])]["made"]
-                made[rest[2]] = {"points": int(rest[3]), "polygons": int(rest[4]), "seconds": float(rest[5])}
+                seconds = min(float(rest[5]), made.get(rest[2], {"seconds": math.inf})["seconds"])
+                made[rest[2]] = {"points": int(rest[3]), "polygons": int(rest[4]), "seconds": seconds}
             else:
                 words[head] = rest[0]
     return words, peers, blocks
@@ -151,9 +153,9 @@ def print_heading(words, peers, missing):
 
 
 TIMES_TEXT = """
-Seconds; best of 30 runs, or of as many as begin within a second, at least 3. In brackets: the library's counts + mesh
-divided by that time, so under 1 the library is the faster. `housing` has a few pores and nearly no noise, `noisy` is
-the same housing with strong detector noise, `noise` is noise alone.
+Seconds; best of two rounds through all programs, each of 15 runs, or of as many as begin within half a second, at least
+2. In brackets: the library's counts + mesh divided by that time, so under 1 the library is the faster. `housing` has a
+few pores and nearly no noise, `noisy` is the same housing with strong detector noise, `noise` is noise alone.
 
 - Before the time begins the block is in memory in each program's own form: 16-bit numbers, for scikit-image an array of
   32-bit floats, for OpenVDB a grid that holds every sample.
