@@ -10,10 +10,10 @@ use lib.Ieee.{Float}
 use Rattle.laws.specs.Below.{over}
 use Rattle.block.specs.declared.Refusal.{Refusal}
 use Rattle.lines.specs.Text.{digits, numberAt, hexOf, LF}
-use Rattle.lines.specs.Output.{refusalLine, headLine, meshText}
+use Rattle.lines.specs.Output.{refusalLine, headLine, meshText, Prints}
 use Rattle.lines.proofs.Rules.{number-back}
 use Rattle.lines.proofs.Writing.{hex-length}
-use Rattle.demands.specs.Entries.{Tellable, Prints}
+use Rattle.demands.specs.Entries.{Tellable}
 
 -- ---- the first byte
 
@@ -69,4 +69,4 @@ refusal-same r q hr hq e =
 pub prints-one : {text other out out′ : List ℕ} {r : ℕ} → Prints text out r out′ → Prints other out r out′ → text ≡ other
 unfolding over
 prints-one {text} {other} {out} {out′} {r} p q =
-    parts text other (drop (length text) out) (drop (length other) out) (sym (p .count) ∙ q .count) (sym (p .front) ∙ q .front) .0
+    parts text other (drop (length text) out) (drop (length other) out) (sym (p .count) ∙ q .count) (sym (p .text) ∙ q .text) .0

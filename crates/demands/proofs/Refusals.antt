@@ -28,9 +28,9 @@ use Rattle.mesh.specs.Answer.{sizeOf, vertexCount, quadCount, countsOf, saidCou
 use Rattle.closed.specs.declared.Closure.{Closure}
 use Rattle.closed.specs.Closed.{Finding, findingOf, saidClosure, ClosedAnswered}
 use Rattle.lines.specs.Input.{sizeRead, cutRead, samplesRead, firstLineRow, linesRow, largeRow, inputVerdict}
-use Rattle.lines.specs.Output.{refusalLine, blockText, printed, outputOf, Ran}
+use Rattle.lines.specs.Output.{refusalLine, blockText, printed, outputOf, Prints, Ran}
 use Rattle.demands.specs.Table.{Row, NoRow, FirstRow}
-use Rattle.demands.specs.Entries.{sizeRows, edgeRows, cubeRows, countsRows, meshRows, closedRows, rowsRead, runRows, Prints, Tellable}
+use Rattle.demands.specs.Entries.{sizeRows, edgeRows, cubeRows, countsRows, meshRows, closedRows, rowsRead, runRows, Tellable}
 use Rattle.demands.proofs.Order.{Tried, first-exactly, none-exactly, refused-exactly, accepted-exactly, judged-refused}
 use Rattle.demands.proofs.Table.{axis-row, count-row, threshold-row, ceiling-row, vertex-row, quad-row, length-row, first-line-row, lines-row, large-row}
 use Rattle.demands.proofs.Numbers.{run-tellable}
@@ -168,7 +168,7 @@ module _ (bytes : List ℕ) where
 
   module _ (out : List ℕ) (r : ℕ) (out′ : List ℕ) (promise : Ran bytes out r out′) where
     prints : (text : List ℕ) → outputOf bytes ≡ text → Prints text out r out′
-    prints text e = record { count = promise .count ∙ ap length e; front = promise .text ∙ ap (λ (xs : List ℕ). over xs out) e }
+    prints text e = record { count = promise .count ∙ ap length e; text = promise .text ∙ ap (λ (xs : List ℕ). over xs out) e }
 
     printed-is : (text : List ℕ) → Prints text out r out′ → outputOf bytes ≡ text
     printed-is text p = prints-one (prints (outputOf bytes) refl) p

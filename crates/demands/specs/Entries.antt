@@ -1,10 +1,8 @@
--- Which rows of the table each entry point tries, in its order (document 01, "Numbers of refusal" and "The program"); and what it means that
--- the program prints a text. Assumes nothing.
+-- Which rows of the table each entry point tries, in its order (document 01, "Numbers of refusal" and "The program"); and which refusals the
+-- program can tell. Assumes nothing.
 use Prim.Native.Nat.{ℕ, _*_, _≤_, _<_}
 use mathlib.Core.Path.{_≡_}
 use mathlib.Core.List.{List, [], _∷_}
-use lib.ListN.{length}
-use Rattle.laws.specs.Below.{over}
 use Rattle.block.specs.declared.Cut.{Cut}
 use Rattle.block.specs.declared.Refusal.{Refusal}
 use Rattle.block.specs.declared.Size.{Size}
@@ -45,11 +43,6 @@ rowsRead bytes n cut s =
 
 abbrev pub runRows : List ℕ → List Row
 runRows bytes = rowsRead bytes (sizeRead bytes) (cutRead bytes) (samplesRead bytes (sizeRead bytes))
-
--- `run` prints a text: it answers its length, and its buffer, out at entry and out′ at exit, has it at the front
-pub record Prints (text out : List ℕ) (r : ℕ) (out′ : List ℕ) : Type 0 where
-  pub count : r ≡ length text
-  pub front : out′ ≡ over text out
 
 -- a refusal that two digits and eight digits can tell: "FF, number (2 digits), value (8)"
 pub record Tellable (r : Refusal) : Type 0 where

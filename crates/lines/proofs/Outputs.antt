@@ -89,9 +89,9 @@ output-fits bytes = go (inputVerdict bytes) refl
 -- ---- the promise
 
 -- the output put at the start of a buffer that has room for it
-pub ran : {bytes out text out′ : List ℕ} {r : ℕ} → 112917 ≤ length out → Put out 0 text out′ r → text ≡ outputOf bytes
+pub ran : (bytes : List ℕ) {out text out′ : List ℕ} {r : ℕ} → 112917 ≤ length out → Put out 0 text out′ r → text ≡ outputOf bytes
     → Ran bytes out r out′ × ((r ≤ length out′) × (r ≡ length (take r out′)))
-ran {bytes} {out} {text} {out′} {r} room p e =
+ran bytes {out} {text} {out′} {r} room p e =
     let fits : length text ≤ 112917 = rw e (output-fits bytes) in
     let behind : r ≡ length text = p .behind ∙ zero-add (length text) in
     let in-out : r ≤ length out′ = omega (arith, fits, behind, put-length p, room) in (

@@ -65,7 +65,11 @@ printed (Refuses r) text = refusalLine r
 unfoldable pub outputOf : List ℕ → List ℕ
 outputOf bytes = printed (inputVerdict bytes) (blockText (sizeRead bytes) (samplesRead bytes (sizeRead bytes)) (cutRead bytes))
 
--- the promise of `run`: how many bytes it answers, and the buffer at entry and at exit
-pub record Ran (bytes out : List ℕ) (r : ℕ) (out′ : List ℕ) : Type 0 where
-  pub count : r ≡ length (outputOf bytes)
-  pub text : out′ ≡ over (outputOf bytes) out
+-- `run` prints these bytes: it answers how many they are, and its buffer, out at entry and out′ at exit, has them at the front
+pub record Prints (bytes out : List ℕ) (r : ℕ) (out′ : List ℕ) : Type 0 where
+  pub count : r ≡ length bytes
+  pub text : out′ ≡ over bytes out
+
+-- the promise of `run`: the program's output for its input
+abbrev pub Ran : List ℕ → List ℕ → ℕ → List ℕ → Type 0
+Ran bytes out r out′ = Prints (outputOf bytes) out r out′

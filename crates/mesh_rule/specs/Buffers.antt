@@ -1,5 +1,5 @@
--- What the lent buffers hold of a mesh, whole and layer by layer (document 01, "The mesh"): "A vertex takes two u32 (cube number, mask) in
--- one buffer and three f64 in another", four u32 a quad. Layer k has the cubes (i,j,k), plane k the samples (i,j,k). Assumes nothing.
+-- What the lent buffers hold of a mesh (document 01, "The mesh"): "A vertex takes two u32 (cube number, mask) in one buffer and three f64 in
+-- another", four u32 a quad. Assumes nothing.
 use Prim.Native.Nat.{ℕ}
 use mathlib.Core.List.{List, [], _∷_, map}
 use lib.Ieee.{Float}

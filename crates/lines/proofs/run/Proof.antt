@@ -53,12 +53,12 @@ answer-requires c κs = (
 
 returns : tie.Need-returns
 returns c =
-    ran (search needs) (c .put-refusal .ensures)
+    ran (c .before .before .before .before .before .before .before .before .before .before .before .args .input .now) (search needs) (c .put-refusal .ensures)
     (output-refused (c .before .before .before .before .before .before .before .before .before .before .before .args .input .now) _ _ _ _ (c .before .before .before .before .before .before .before .before .before .number .ensures) (c .before .before .before .before .before .before .before .before .number2 .ensures) (c .before .before .before .before .before .before .before .number3 .ensures) (c .before .before .before .before .before .before .number4 .ensures) _ (sym (c .before .before .before .before .before .check .ensures) ∙ c .before .before .before .r .given .1))
 
 returns-2 : tie.Need-returns-2
 returns-2 c =
-    ran (search needs) (c .answer .ensures)
+    ran (c .before .before .before .before .before .before .before .before .before .before .args .input .now) (search needs) (c .answer .ensures)
     (output-block (c .before .before .before .before .before .before .before .before .before .before .args .input .now) _ _ _ _ (c .before .before .before .before .before .before .before .before .number .ensures) (c .before .before .before .before .before .before .before .number2 .ensures) (c .before .before .before .before .before .before .number3 .ensures) (c .before .before .before .before .before .number4 .ensures) (sym (c .before .before .before .before .check .ensures) ∙ c .before .before .enum-told .given .1))
 
 pub run-spec : {M : Type 1} → statement M
