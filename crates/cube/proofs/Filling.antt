@@ -1,6 +1,6 @@
 -- The loops of a cube, found one after the other and written into four places.
 -- Assumes nothing.
-use mathlib.Core.Path.{_≡_, refl, sym, ap, ap₂, _∙_}
+use mathlib.Core.Path.{_≡_, refl, sym, ap, ap₂, _∙_, subst}
 use mathlib.Core.Logic.{_⊎_, inl, inr}
 use mathlib.Core.List.{List, [], _∷_, _++_}
 use Prim.Native.Nat.{ℕ, zero, suc, _+_, _-_, _≤_, _<_}
@@ -8,12 +8,15 @@ use native.Mathlib.Numerals.{add-one}
 use native.Mathlib.Omega.{arith}
 use borrow.Author.Tests.{ne-eqb}
 use lib.Bits.{bitXor}
+use lib.Count.{ones}
+use lib.Dec.{T}
 use lib.ListN.{length, getD, take, drop, set, length-drop}
 use lib.Seq.{take-suc, drop-cons, take-all, length-take-le}
 use Rattle.laws.specs.Filled.{filled}
 use Rattle.laws.proofs.Filled.{filled-more}
 use Rattle.cube_rule.specs.Loops.{loopFrom, loopsFrom}
 use Rattle.cube_rule.specs.Rule.{lowestEdge}
+use Rattle.cube_rule.proofs.Tested.{lasts, lasts-now, lasts-more}
 use Rattle.cube.specs.declared.Loops.{Loops}
 use Rattle.cube.specs.Answer.{answered}
 
@@ -48,11 +51,21 @@ module _ (ls : List ℕ) (m₀ : ℕ) where
     pub within : n ≤ length all
     pub rest : drop n all ≡ loopsFrom (4 - n) ls m
     pub front : places ≡ filled 4 0 (take n all)
+    pub last : T (lasts m (drop n all))
 
   -- at first
-  pub found-none : Found m₀ (0 ∷ 0 ∷ 0 ∷ 0 ∷ []) 0
+  pub found-none : T (lasts m₀ all) → Found m₀ (0 ∷ 0 ∷ 0 ∷ 0 ∷ []) 0
   unfolding filled
-  found-none = record { room = omega arith; within = omega arith; rest = refl; front = refl }
+  found-none t = record { room = omega arith; within = omega arith; rest = refl; front = refl; last = t }
+
+  -- the next loop is what is left, where that has at most five edges
+  pub found-last : (m n : ℕ) (places : List ℕ) → Found m places n → n < 4 → 0 < m → ones m ≤ 5 → m ≡ loopFrom ls (lowestEdge m)
+  found-last m n places s h p five =
+      lasts-now m (loopFrom ls (lowestEdge m)) (loopsFrom (4 - (n + 1)) ls (bitXor m (loopFrom ls (lowestEdge m))))
+      (subst (λ (xs : List ℕ). T (lasts m xs)) (s .rest ∙ ap (λ (k : ℕ). loopsFrom k ls m) less ∙ some-left (4 - (n + 1)) ls m p) (s .last)) five
+    where
+      less : 4 - n ≡ suc (4 - (n + 1))
+      less = omega arith
 
   -- after one loop more
   pub found-more : (m n l : ℕ) (places : List ℕ) → Found m places n → n < 4 → 0 < m → l ≡ loopFrom ls (lowestEdge m)
@@ -62,14 +75,19 @@ module _ (ls : List ℕ) (m₀ : ℕ) where
     within = omega (arith, next .0);
     rest = next .2;
     front = ap (λ (ps : List ℕ). set ps n l) (s .front) ∙ written;
+    last =
+        subst (λ (xs : List ℕ). T (lasts (bitXor m l) xs)) (sym (next .2))
+        (lasts-more m l (loopsFrom (4 - (n + 1)) ls (bitXor m l)) (subst (λ (xs : List ℕ). T (lasts m xs)) from (s .last)));
   }
     where
       less : 4 - n ≡ suc (4 - (n + 1))
       less = omega arith
 
+      from : drop n all ≡ l ∷ loopsFrom (4 - (n + 1)) ls (bitXor m l)
+      from = s .rest ∙ ap (λ (k : ℕ). loopsFrom k ls m) less ∙ rw q (some-left (4 - (n + 1)) ls m p)
+
       next : (n < length all) × (take (n + 1) all ≡ take n all ++ l ∷ []) × (drop (n + 1) all ≡ loopsFrom (4 - (n + 1)) ls (bitXor m l))
-      next = goes-on n all (loopsFrom (4 - (n + 1)) ls (bitXor m l)) l
-          (s .rest ∙ ap (λ (k : ℕ). loopsFrom k ls m) less ∙ rw q (some-left (4 - (n + 1)) ls m p))
+      next = goes-on n all (loopsFrom (4 - (n + 1)) ls (bitXor m l)) l from
 
       taken : length (take n all) ≡ n
       taken = length-take-le n all (s .within)

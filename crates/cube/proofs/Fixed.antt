@@ -1,12 +1,14 @@
 -- Each promise of the crate fixes its answer: any two answers that it allows are equal.
 -- Assumes nothing.
 use mathlib.Core.Path.{_≡_}
+use mathlib.Core.Bool.{Bool}
 use mathlib.Core.List.{List}
 use Prim.Native.Nat.{ℕ, _≤_, _<_}
 use Rattle.laws.specs.Fixed.{Fixes}
 use Rattle.laws.proofs.Fixed.{equation-fixes}
 use Rattle.block.specs.declared.Cut.{Cut}
 use Rattle.cube_rule.specs.Edges.{patternOf, crossedMask}
+use Rattle.cube_rule.specs.Decider.{joined}
 use Rattle.cube.specs.declared.Loops.{Loops}
 use Rattle.cube.specs.Answer.{loopsGiven}
 use Rattle.cube.specs.Table.{maskTable}
@@ -22,6 +24,10 @@ masks-fixed = equation-fixes maskTable
 -- of `crossed_edges`
 pub crossed-edges-fixed : (p : ℕ) → p < 256 → Fixes (λ (r : ℕ). (r ≡ crossedMask p) × (r < 4096))
 crossed-edges-fixed p h a b x y = equation-fixes (crossedMask p) a b (x .0) (y .0)
+
+-- of `decide`
+pub decide-fixed : (cut : Cut) (p q r s : ℕ) → Fixes (λ (j : Bool). j ≡ joined cut p q r s)
+decide-fixed cut p q r s = equation-fixes (joined cut p q r s)
 
 -- of `loops_of`
 pub loops-fixed : (corners : List ℕ) (cut : Cut) → Fixes (λ (r : Loops). (r ≡ loopsGiven cut corners) × (r .count ≤ 4))

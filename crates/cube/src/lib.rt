@@ -4,6 +4,7 @@ use block::Cut;
 ghost use mathlib.Core.Path.{_≡_};
 ghost use Prim.Native.Nat.{_≤_, _<_};
 ghost use lib.Bits.{bitAnd};
+ghost use lib.Count.{ones};
 ghost use lib.IntN.{_*ℤ_};
 ghost use Rattle.laws.specs.Bits.{differ};
 ghost use Rattle.block.specs.Grey.{positive};
@@ -377,7 +378,7 @@ fn product(x: i32, y: i32) -> i64
 }
 
 // Whether the positive corners of a face with four crossed edges are joined; p, q, r, s are the samples round it.
-fn decide(cut: Cut, p: u16, q: u16, r: u16, s: u16) -> bool
+pub fn decide(cut: Cut, p: u16, q: u16, r: u16, s: u16) -> bool
     ensures { λ j. ⌜ j ≡ joined cut p q r s ⌝ }
 {
     let pr = product(difference(cut, p), difference(cut, r));
@@ -504,11 +505,17 @@ fn round(links: [u32; 12], m: u32) -> u32
     x
 }
 
-// The loop of the lowest edge of a set of edges, in three rounds of its links; a round that adds nothing is the last.
+// Up to this many edges of whole loops are one loop: two loops have six.
+const SINGLE: u32 = 5;
+
+// The loop of the lowest edge of a set of edges, those of whole loops, in three rounds of its links; a round that adds nothing is the last.
 fn loop_from(links: [u32; 12], m: u32) -> u32
-    requires { ⌜ 0 < m ⌝ }
+    requires { ⌜ (0 < m) × (ones m ≤ 5 → m ≡ loopFrom links (lowestEdge m)) ⌝ }
     ensures { λ r. ⌜ r ≡ loopFrom links (lowestEdge m) ⌝ }
 {
+    if u32::count_ones(m) <= SINGLE {
+        return m;
+    }
     let e = u32::trailing_zeros(m);
     let x = round(links, 1u32 << e);
     let y = round(links, x);
@@ -541,12 +548,12 @@ pub fn loops_among(m: u32, corners: [u16; 8], cut: Cut) -> Loops
     }
 }
 
-// The loops of a cube of samples.
-pub fn loops_of(corners: [u16; 8], cut: Cut) -> Loops
+// The loops of a cube of samples, by the table of 256 masks.
+pub fn loops_of(table: &[u32; 256], corners: [u16; 8], cut: Cut) -> Loops
+    requires { ⌜ now table ≡ maskTable ⌝ }
     ensures { λ r. ⌜ r ≡ loopsGiven cut corners ⌝ }
     ensures { λ r. ⌜ r .count ≤ 4 ⌝ }
 {
-    let table = masks();
-    let m = crossed_edges(&table, pattern(corners, cut));
+    let m = crossed_edges(table, pattern(corners, cut));
     loops_among(m, corners, cut)
 }

@@ -6,10 +6,10 @@ use mathlib.Core.Logic.{_⊎_, inl, inr, ⊎-elim}
 use mathlib.Core.List.{List, [], _∷_, List·Memᴰ, List·Memᴰ·head, List·Memᴰ·tail}
 use Prim.Native.Nat.{ℕ, zero, suc, _+_, _^_, _≤_, _<_}
 use native.Mathlib.Omega.{arith}
+use lib.Dec.{T}
 use lib.ListN.{length}
-use lib.Count.{ones}
 use Rattle.laws.specs.Bits.{bit, differ, holds, maskOf}
-use Rattle.laws.proofs.Bits.{mask-lt, mask-none, holds-mask, some-ones}
+use Rattle.laws.proofs.Bits.{mask-lt, mask-none, holds-mask}
 use Rattle.block.specs.declared.Cut.{Cut}
 use Rattle.block.specs.Grey.{positive}
 use Rattle.cube_rule.specs.Edges.{cornerSample, lower, upper, patternOf, crossed, crossedMask, crossedAt}
@@ -18,9 +18,11 @@ use Rattle.cube_rule.specs.Links.{linkedIf, linkedAt, Decider, decisions
 use Rattle.cube_rule.specs.Loops.{linksOf, loopsFrom, loopsIn, loopsBy}
 use Rattle.cube_rule.specs.Rule.{linkedOn, Linked, holders, firstHolder, Loop, Rule}
 use Rattle.cube_rule.specs.Laws.{CubeLaws}
+use Rattle.cube_rule.specs.Plain.{mixed, plain}
+use Rattle.cube_rule.specs.Sorts.{joinedOn, one, two}
 use Rattle.cube_rule.proofs.Tables.{lower-lt, upper-lt, ring-corner-lt}
-use Rattle.cube_rule.proofs.Tested.{good-single}
-use Rattle.cube_rule.proofs.Ways.{good-always}
+use Rattle.cube_rule.proofs.Tested.{lasts, good, good-one, good-two, good-some, good-lasts}
+use Rattle.cube_rule.proofs.Ways.{sortOf, good-always}
 use Rattle.cube_rule.proofs.Ruled.{ruled, loops-four}
 use Rattle.cube_rule.proofs.Unique.{rule-unique}
 
@@ -76,6 +78,11 @@ no-loops : (ls : List ℕ) (m : ℕ) → m ≡ 0 → loopsFrom 4 ls m ≡ []
 unfolding loopsFrom
 no-loops ls m e = rw e
 
+-- a plain cube is one with exactly one loop
+plain-one : (s j : ℕ → Bool) → plain s ≡ true → one s j ≡ true
+unfolding one
+plain-one s j e = rw e
+
 module _ (D : Decider) where
   quiet : (cut : Cut) (cs : List ℕ) (s : Bool) → ((c : ℕ) → c < 8 → positive cut (cornerSample cs c) ≡ s) → loopsBy D cut cs ≡ []
   unfolding loopsBy crossedMask
@@ -84,13 +91,39 @@ module _ (D : Decider) where
       (mask-none (crossed (patternOf cut cs)) 12
       (λ e he. pattern-crossed cut cs e he ∙ differ-self _ _ s (h (lower e) (lower-lt e he)) (h (upper e) (upper-lt e he))))
 
-  single : (cut : Cut) (cs : List ℕ) → 1 ≤ ones (crossedMask (patternOf cut cs)) → ones (crossedMask (patternOf cut cs)) ≤ 5
-      → loopsBy D cut cs ≡ crossedMask (patternOf cut cs) ∷ []
-  unfolding loopsBy
-  single cut cs low high =
-      let p = patternOf cut cs in
-      let j = decisions D cut cs in
-      good-single (crossedMask p) (linksOf p j) (loopsIn p j) (good-always p (pattern-lt cut cs) j) (crossed-mask-lt cut cs) (some-ones (crossedMask p) low) high
+  module _ (cut : Cut) (cs : List ℕ) where
+    abbrev pattern : ℕ
+    pattern = patternOf cut cs
+
+    -- the doubtful faces with joined positive corners
+    abbrev joins : ℕ → Bool
+    joins = joinedOn (holds pattern) (decisions D cut cs)
+
+    tested : T (good (sortOf pattern joins) (crossedMask pattern) (linksOf pattern (decisions D cut cs)) (loopsBy D cut cs))
+    unfolding loopsBy
+    tested = good-always pattern (pattern-lt cut cs) (decisions D cut cs)
+
+    -- a cube with exactly one loop, by the tests: its mask is that of all crossed edges
+    pub cube-one : one (holds pattern) joins ≡ true → loopsBy D cut cs ≡ crossedMask pattern ∷ []
+    unfolding sortOf
+    cube-one = good-one (sortOf pattern joins) (crossedMask pattern) (linksOf pattern (decisions D cut cs)) (loopsBy D cut cs) tested
+
+    -- one with exactly two
+    pub cube-two : two (holds pattern) joins ≡ true → length (loopsBy D cut cs) ≡ 2
+    unfolding sortOf
+    cube-two = good-two (sortOf pattern joins) (crossedMask pattern) (linksOf pattern (decisions D cut cs)) (loopsBy D cut cs) tested
+
+    -- one with any
+    pub cube-some : mixed (holds pattern) ≡ true → 0 < length (loopsBy D cut cs)
+    unfolding sortOf
+    cube-some = good-some (sortOf pattern joins) (crossedMask pattern) (linksOf pattern (decisions D cut cs)) (loopsBy D cut cs) tested
+
+    cube-single : plain (holds pattern) ≡ true → loopsBy D cut cs ≡ crossedMask pattern ∷ []
+    cube-single e = cube-one (plain-one (holds pattern) joins e)
+
+    -- where at most five edges are left, they are the next loop
+    pub cube-lasts : T (lasts (crossedMask pattern) (loopsBy D cut cs))
+    cube-lasts = good-lasts (sortOf pattern joins) (crossedMask pattern) (linksOf pattern (decisions D cut cs)) (loopsBy D cut cs) tested
 
   pub cube-laws : CubeLaws D (loopsBy D)
   cube-laws = record {
@@ -110,5 +143,6 @@ module _ (D : Decider) where
     sized = λ cut cs m d. let l = cube-ruled D cut cs .loop m d in (l .three, l .twelve, l .small);
     four = λ cut cs. cube-ruled D cut cs .four;
     quiet = quiet;
-    single = single;
+    some = cube-some;
+    single = cube-single;
   }

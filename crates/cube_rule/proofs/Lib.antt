@@ -2,6 +2,7 @@ pub mod Tables
 pub mod Rings
 pub mod Trails
 pub mod Tested
+pub mod Alike
 pub mod Ways
 pub mod Ruled
 pub mod Unique

@@ -23,8 +23,9 @@ use Rattle.cube_rule.specs.Rule.{linkedOn, Linked, Loop, Rule}
 use Rattle.cube_rule.proofs.Tables.{ring-edge-lt, ring-edge-crossed, lower-lt, upper-lt}
 use Rattle.cube_rule.proofs.Rings.{sets, linked-sets, first-lt, second-lt, one-link, placed-at, placed-from}
 use Rattle.cube_rule.proofs.Trails.{has, linksOn, linked, hangs-same}
-use Rattle.cube_rule.proofs.Tested.{kept, keptOn, kept-or-not, good, good-loop, loop-sized, loop-kept, loop-hangs, good-each, good-loops, good-order, good-single}
-use Rattle.cube_rule.proofs.Ways.{good-always}
+use Rattle.cube_rule.proofs.Tested.{kept, keptOn, kept-or-not, good, good-loop, loop-sized, loop-kept, loop-hangs, good-each, good-loops, good-order}
+use Rattle.cube_rule.specs.Sorts.{joinedOn}
+use Rattle.cube_rule.proofs.Ways.{sortOf, good-always}
 
 module _ (p : ℕ) (j : ℕ → Bool) where
   -- ---- the twelve links are those of the faces, two for each
@@ -198,9 +199,9 @@ pub ruled : (p : ℕ) → p < 256 → (j : ℕ → Bool) → Rule p j (loopsIn p
 ruled p h j =
     let t = good-always p h j in
     record {
-      each = λ e he. good-each (crossedMask p) (linksOf p j) (loopsIn p j) t e he ∙ ap bit (crossed-mask p e he);
-      loop = λ m d. loop-of p j m (good-loops (crossedMask p) (linksOf p j) (loopsIn p j) t m d);
+      each = λ e he. good-each (sortOf p (joinedOn (holds p) j)) (crossedMask p) (linksOf p j) (loopsIn p j) t e he ∙ ap bit (crossed-mask p e he);
+      loop = λ m d. loop-of p j m (good-loops (sortOf p (joinedOn (holds p) j)) (crossedMask p) (linksOf p j) (loopsIn p j) t m d);
       four = loops-four 4 (linksOf p j) (crossedMask p);
-      order = good-order (crossedMask p) (linksOf p j) (loopsIn p j) t;
+      order = good-order (sortOf p (joinedOn (holds p) j)) (crossedMask p) (linksOf p j) (loopsIn p j) t;
       links = one-link-each p j;
     }

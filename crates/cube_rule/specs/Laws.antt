@@ -6,13 +6,14 @@ use mathlib.Core.Bool.{Bool, true}
 use mathlib.Core.List.{List, [], _∷_, List·Memᴰ}
 use lib.Count.{ones}
 use lib.ListN.{length}
-use Rattle.laws.specs.Bits.{bit}
+use Rattle.laws.specs.Bits.{bit, holds}
 use Rattle.block.specs.declared.Cut.{Cut}
 use Rattle.block.specs.Grey.{positive}
 use Rattle.cube_rule.specs.Edges.{cornerSample, patternOf, crossedMask, crossedAt}
 use Rattle.cube_rule.specs.Faces.{ringEdge}
 use Rattle.cube_rule.specs.Links.{Decider, linkedAt}
 use Rattle.cube_rule.specs.Rule.{holders, firstHolder}
+use Rattle.cube_rule.specs.Plain.{mixed, plain}
 
 pub record CubeLaws (D : Decider) (loopsOf : Cut → List ℕ → List ℕ) : Type 0 where
   -- an edge of the cube is in exactly one loop if it is crossed, else in none
@@ -26,6 +27,7 @@ pub record CubeLaws (D : Decider) (loopsOf : Cut → List ℕ → List ℕ) : Ty
   pub four : (cut : Cut) (cs : List ℕ) → length (loopsOf cut cs) ≤ 4
   -- equal signs: no loop
   pub quiet : (cut : Cut) (cs : List ℕ) (s : Bool) → ((c : ℕ) → c < 8 → positive cut (cornerSample cs c) ≡ s) → loopsOf cut cs ≡ []
-  -- one to five crossed edges: one loop, the mask itself
-  pub single : (cut : Cut) (cs : List ℕ) → 1 ≤ ones (crossedMask (patternOf cut cs)) → ones (crossedMask (patternOf cut cs)) ≤ 5
-      → loopsOf cut cs ≡ crossedMask (patternOf cut cs) ∷ []
+  -- mixed signs: a loop
+  pub some : (cut : Cut) (cs : List ℕ) → mixed (holds (patternOf cut cs)) ≡ true → 0 < length (loopsOf cut cs)
+  -- a plain cube: one loop, the mask itself
+  pub single : (cut : Cut) (cs : List ℕ) → plain (holds (patternOf cut cs)) ≡ true → loopsOf cut cs ≡ crossedMask (patternOf cut cs) ∷ []

@@ -3,6 +3,8 @@ pub mod Faces
 pub mod Links
 pub mod Loops
 pub mod Rule
+pub mod Plain
+pub mod Sorts
 pub mod Laws
 pub mod Decider
 pub mod Saddle

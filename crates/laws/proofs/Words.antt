@@ -1,14 +1,15 @@
 -- A number as a word of bits: each operation's word, from its operands' words, and the single bits of a word.
 -- Assumes nothing.
 use mathlib.Core.Path.{_≡_, refl, sym, ap, ap₂, _∙_}
-use mathlib.Core.Bool.{Bool, true, false, _&&_}
+use mathlib.Core.Bool.{Bool, true, false, _&&_, _||_}
 use Prim.Native.Nat.{ℕ, zero, suc, _+_, _-_, _*_, _/_, _%_, _^_, _≤_, _<_}
 use native.Mathlib.Nat.{add-zero, mod-one, mod-eq-of-lt}
 use native.Mathlib.Omega.{arith}
 use lib.Bits.{bitAnd, bitOr, bitXor, or-shifted-r, and-zero-r, and-mask, and-shr, or-shr, xor-shr, and-mod, or-mod, xor-mod}
 use lib.Count.{ones}
+use lib.Dec.{eqb}
 use lib.Pow.{mod-pow-add}
-use Rattle.laws.specs.Bits.{bit, differ}
+use Rattle.laws.specs.Bits.{bit, differ, holds}
 use Rattle.laws.specs.Pack.{pack, total}
 use Rattle.laws.proofs.Bits.{bit-le}
 use Rattle.laws.proofs.Pack.{pack-lt, pack-cong, pack-more, pack-high, pack-low, pack-or, pack-and, pack-xor, pack-ones, or-bit, and-bit, xor-bit, or-none, xor-none}
@@ -143,6 +144,39 @@ and-tests true true = refl
 and-tests true false = refl
 and-tests false true = refl
 and-tests false false = refl
+
+-- a bit is 1 where the number holds its place
+digit-one : (d : ℕ) → d < 2 → d ≡ bit (eqb d 1)
+digit-one zero h = refl
+digit-one (suc zero) h = refl
+digit-one (suc (suc d)) h = absurd (omega arith)
+
+pub digit-holds : (a i : ℕ) → a / 2 ^ i % 2 ≡ bit (holds a i)
+digit-holds a i = digit-one (a / 2 ^ i % 2) (small (a / 2 ^ i))
+  where
+    small : (x : ℕ) → x % 2 < 2
+    small x = omega arith
+
+-- a test of the bits of two numbers, told by their bits
+by-tests : (op : ℕ → ℕ → ℕ) (test : Bool → Bool → Bool) → ((x y : Bool) → op (bit x) (bit y) ≡ bit (test x y)) → (a b i c : ℕ)
+    → c / 2 ^ i % 2 ≡ op (a / 2 ^ i % 2) (b / 2 ^ i % 2) → holds c i ≡ test (holds a i) (holds b i)
+by-tests op test e a b i c d =
+    bit-same (holds c i) (test (holds a i) (holds b i)) (sym (digit-holds c i) ∙ d ∙ ap₂ op (digit-holds a i) (digit-holds b i) ∙ e (holds a i) (holds b i))
+
+or-tests : (a b : Bool) → bitOr (bit a) (bit b) ≡ bit (a || b)
+or-tests true true = refl
+or-tests true false = refl
+or-tests false true = refl
+or-tests false false = refl
+
+pub or-holds : (a b i : ℕ) → holds (bitOr a b) i ≡ (holds a i || holds b i)
+or-holds a b i = by-tests bitOr _||_ or-tests a b i (bitOr a b) (or-digit a b i)
+
+pub xor-holds : (a b i : ℕ) → holds (bitXor a b) i ≡ differ (holds a i) (holds b i)
+xor-holds a b i = by-tests bitXor differ xor-tests a b i (bitXor a b) (xor-digit a b i)
+
+pub and-holds : (a b i : ℕ) → holds (bitAnd a b) i ≡ (holds a i && holds b i)
+and-holds a b i = by-tests bitAnd _&&_ and-tests a b i (bitAnd a b) (and-digit a b i)
 
 -- the word of a test
 pub word-tests : (p : ℕ → Bool) (n : ℕ) → Word (pack (λ i. bit (p i)) n) (λ i. bit (p i)) n

@@ -1,21 +1,27 @@
--- What the words of two planes say of the cubes between them: their sign patterns, and that a cube whose bit is not active has one sign.
+-- What the words of two planes say of a row of cubes between them: their sign patterns, and that a cube whose bit is not active has one sign.
 -- Assumes nothing.
 use mathlib.Core.Path.{_≡_, refl, sym, ap, _∙_}
-use mathlib.Core.Bool.{Bool}
+use mathlib.Core.Bool.{Bool, true, false, _&&_}
 use mathlib.Core.List.{List}
-use Prim.Native.Nat.{ℕ, zero, suc, _+_, _*_, _/_, _%_, _^_, _<_}
+use Prim.Native.Nat.{ℕ, zero, suc, _+_, _*_, _-_, _/_, _%_, _^_, _≤_, _<_}
+use native.Mathlib.Nat.{add-zero}
 use native.Mathlib.Omega.{arith}
-use lib.ListN.{getD}
+use borrow.Author.Tests.{lt-ltb, ltb-true}
+use lib.Dec.{ltb}
+use lib.ListN.{length, getD, take, drop, length-drop}
+use lib.Seq.{getD-take, getD-drop, length-take-le}
 use Rattle.laws.specs.Bits.{bit}
+use Rattle.laws.proofs.Bits.{bit-le}
 use Rattle.laws.proofs.Pack.{pack-cong, pack-mask}
-use Rattle.laws.proofs.Words.{or-quiet, xor-quiet, bit-same}
+use Rattle.laws.proofs.Words.{Word, word-bit, word-further, or-quiet, xor-quiet, bit-same}
 use Rattle.block.specs.declared.Cut.{Cut}
 use Rattle.block.specs.declared.Size.{Size}
 use Rattle.block.specs.Grey.{positive}
 use Rattle.cube_rule.specs.Edges.{cornerSample, patternOf}
-use Rattle.mesh_rule.specs.Grid.{metal, cornersAt}
-use Rattle.signs.specs.Signs.{Plane, furtherAt, eightOf, activeOf, patternAt, apart}
-use Rattle.signs.proofs.Planes.{sign-bit, further-bit}
+use Rattle.mesh_rule.specs.Layers.{rowSample}
+use Rattle.signs.specs.Signs.{Plane, furtherOf, furtherAt, eightOf, activeOf, patternAt, apart, rowSign}
+use Rattle.signs.specs.Steps.{rowFrom}
+use Rattle.signs.specs.Windows.{windowCorners, TwoRows, Part}
 
 -- what holds of 0 to 7 holds of each corner
 corner-cases : (P : ℕ → Type 0) → P 0 → P 1 → P 2 → P 3 → P 4 → P 5 → P 6 → P 7 → (c : ℕ) → c < 8 → P c
@@ -45,44 +51,124 @@ quiet-words ws i e =
     same : (c : ℕ) → apart ws c / 2 ^ i % 2 ≡ 0 → getD ws c 0 / 2 ^ i % 2 ≡ getD ws 0 0 / 2 ^ i % 2
     same c q = sym (xor-quiet (getD ws 0 0) (getD ws c 0) i q)
 
--- the row above, five words further on
-module _ {n : Size} {s : List ℕ} {cut : Cut} {k : ℕ} {ws : List ℕ} (p : Plane n s cut k ws) (j w i : ℕ) (hj : j + 1 < n .ny) (hw : w < 4) (hi : i < 64) where
-  five : 5 * j + w + 5 ≡ 5 * (j + 1) + w
+-- five words from q on are the signs of the nx samples from `base` on
+module _ (s : List ℕ) (cut : Cut) (base nx : ℕ) (ws : List ℕ) (q : ℕ) (is : (w : ℕ) → w < 5 → getD ws (q + w) 0 ≡ rowFrom s (cut .t) base nx w) where
+  abbrev sign : ℕ → ℕ
+  sign x = bit (ltb x nx && positive cut (getD s (x + base) 0))
+
+  word-of-row : (w : ℕ) → w < 5 → Word (getD ws (q + w) 0) (λ i. sign (64 * w + i)) 64
+  unfolding rowFrom
+  word-of-row w h = record { is = is w h; bit = λ i. bit-le (ltb (64 * w + i) nx && positive cut (getD s (64 * w + i + base) 0)) }
+
+  further-of-row : (w : ℕ) → w < 4 → Word (furtherAt ws (q + w)) (λ i. sign (64 * w + (1 + i))) 64
+  unfolding furtherOf rowFrom
+  further-of-row w h =
+      word-further (word-of-row w (omega arith))
+      (record { is = ap (λ (p : ℕ). getD ws p 0) next ∙ is (w + 1) (omega arith); bit = λ i. bit-le (ltb (64 * (w + 1) + i) nx && positive cut (getD s (64 * (w + 1) + i + base) 0)) })
+      (ap sign seam)
+    where
+      next : q + w + 1 ≡ q + (w + 1)
+      next = omega arith
+
+      seam : 64 * w + 64 ≡ 64 * (w + 1) + 0
+      seam = omega arith
+
+  sign-in : (x : ℕ) → x < nx → sign x ≡ bit (positive cut (getD s (x + base) 0))
+  sign-in x h = simp (lt-ltb x nx h)
+
+  row-bit-is : (w i : ℕ) → w < 4 → i < 64 → 64 * w + i < nx → getD ws (q + w) 0 / 2 ^ i % 2 ≡ bit (positive cut (getD s (64 * w + i + base) 0))
+  row-bit-is w i hw hi hx = word-bit (word-of-row w (omega arith)) i hi ∙ sign-in (64 * w + i) hx
+
+  row-further-is : (w i : ℕ) → w < 4 → i < 64 → 64 * w + i + 1 < nx → furtherAt ws (q + w) / 2 ^ i % 2 ≡ bit (positive cut (getD s (64 * w + i + 1 + base) 0))
+  row-further-is w i hw hi hx = word-bit (further-of-row w hw) i hi ∙ ap sign next ∙ sign-in (64 * w + i + 1) hx
+    where
+      next : 64 * w + (1 + i) ≡ 64 * w + i + 1
+      next = omega arith
+
+-- the two rows of a window
+module _ {cut : Cut} {nx : ℕ} {window : List ℕ} {j : ℕ} {ws : List ℕ} (r : TwoRows cut nx window j ws) (w i : ℕ) (hw : w < 4) (hi : i < 64) where
+  five : 5 * j + w + 5 ≡ 5 * j + 5 + w
   five = omega arith
 
-  pub row-sign-bit : 64 * w + i < n .nx → getD ws (5 * j + w + 5) 0 / 2 ^ i % 2 ≡ bit (metal n s cut (64 * w + i) (j + 1) k)
-  row-sign-bit hx = ap (λ (q : ℕ). getD ws q 0 / 2 ^ i % 2) five ∙ sign-bit p (j + 1) w hj i (omega arith) hi hx
+  low-bit : 64 * w + i < nx → getD ws (5 * j + w) 0 / 2 ^ i % 2 ≡ bit (positive cut (getD window (64 * w + i) 0))
+  low-bit hx = row-bit-is window cut 0 nx ws (5 * j) (r .low) w i hw hi hx ∙ ap (λ (x : ℕ). bit (positive cut (getD window x 0))) (add-zero (64 * w + i))
 
-  pub row-further-bit : 64 * w + i + 1 < n .nx → furtherAt ws (5 * j + w + 5) / 2 ^ i % 2 ≡ bit (metal n s cut (64 * w + i + 1) (j + 1) k)
-  row-further-bit hx = ap (λ (q : ℕ). furtherAt ws q / 2 ^ i % 2) five ∙ further-bit p (j + 1) w hj i hw hi hx
+  low-further : 64 * w + i + 1 < nx → furtherAt ws (5 * j + w) / 2 ^ i % 2 ≡ bit (positive cut (getD window (64 * w + i + 1) 0))
+  low-further hx = row-further-is window cut 0 nx ws (5 * j) (r .low) w i hw hi hx ∙ ap (λ (x : ℕ). bit (positive cut (getD window x 0))) (add-zero (64 * w + i + 1))
 
-module _ {n : Size} {s : List ℕ} {cut : Cut} {k : ℕ} {a b : List ℕ} (lower : Plane n s cut k a) (upper : Plane n s cut (k + 1) b)
-    (j w i : ℕ) (hj : j + 1 < n .ny) (hw : w < 4) (hi : i < 64) (hx : 64 * w + i + 1 < n .nx) where
+  high-bit : 64 * w + i < nx → getD ws (5 * j + w + 5) 0 / 2 ^ i % 2 ≡ bit (positive cut (getD window (64 * w + i + nx) 0))
+  high-bit hx = ap (λ (q : ℕ). getD ws q 0 / 2 ^ i % 2) five ∙ row-bit-is window cut nx nx ws (5 * j + 5) (r .high) w i hw hi hx
+
+  high-further : 64 * w + i + 1 < nx → furtherAt ws (5 * j + w + 5) / 2 ^ i % 2 ≡ bit (positive cut (getD window (64 * w + i + 1 + nx) 0))
+  high-further hx = ap (λ (q : ℕ). furtherAt ws q / 2 ^ i % 2) five ∙ row-further-is window cut nx nx ws (5 * j + 5) (r .high) w i hw hi hx
+
+module _ {cut : Cut} {nx : ℕ} {lo hi : List ℕ} {j : ℕ} {a b : List ℕ} (lower : TwoRows cut nx lo j a) (upper : TwoRows cut nx hi j b)
+    (w i : ℕ) (hw : w < 4) (hi64 : i < 64) (hx : 64 * w + i + 1 < nx) where
   -- bit i of word c is the sign of corner c of the cube
   pub corner-bit : (c : ℕ) → c < 8
-      → getD (eightOf a b (5 * j + w)) c 0 / 2 ^ i % 2 ≡ bit (positive cut (cornerSample (cornersAt n s (64 * w + i) j k) c))
-  unfolding eightOf
+      → getD (eightOf a b (5 * j + w)) c 0 / 2 ^ i % 2 ≡ bit (positive cut (cornerSample (windowCorners nx lo hi (64 * w + i)) c))
+  unfolding eightOf windowCorners
   corner-bit =
-      corner-cases (λ c. getD (eightOf a b (5 * j + w)) c 0 / 2 ^ i % 2 ≡ bit (positive cut (cornerSample (cornersAt n s (64 * w + i) j k) c)))
-      (sign-bit lower j w (omega arith) i (omega arith) hi (omega arith))
-      (further-bit lower j w (omega arith) i hw hi hx)
-      (row-sign-bit lower j w i hj hw hi (omega arith))
-      (row-further-bit lower j w i hj hw hi hx)
-      (sign-bit upper j w (omega arith) i (omega arith) hi (omega arith))
-      (further-bit upper j w (omega arith) i hw hi hx)
-      (row-sign-bit upper j w i hj hw hi (omega arith))
-      (row-further-bit upper j w i hj hw hi hx)
+      corner-cases (λ c. getD (eightOf a b (5 * j + w)) c 0 / 2 ^ i % 2 ≡ bit (positive cut (cornerSample (windowCorners nx lo hi (64 * w + i)) c)))
+      (low-bit lower w i hw hi64 (omega arith))
+      (low-further lower w i hw hi64 hx)
+      (high-bit lower w i hw hi64 (omega arith))
+      (high-further lower w i hw hi64 hx)
+      (low-bit upper w i hw hi64 (omega arith))
+      (low-further upper w i hw hi64 hx)
+      (high-bit upper w i hw hi64 (omega arith))
+      (high-further upper w i hw hi64 hx)
 
   -- the sign pattern of the cube
-  pub pattern-is : patternAt (eightOf a b (5 * j + w)) i ≡ patternOf cut (cornersAt n s (64 * w + i) j k)
+  pub pattern-is : patternAt (eightOf a b (5 * j + w)) i ≡ patternOf cut (windowCorners nx lo hi (64 * w + i))
   unfolding patternAt patternOf
   pattern-is =
-      pack-cong (λ c. getD (eightOf a b (5 * j + w)) c 0 / 2 ^ i % 2) (λ c. bit (sign c)) 8 corner-bit ∙ pack-mask sign 8
+      pack-cong (λ c. getD (eightOf a b (5 * j + w)) c 0 / 2 ^ i % 2) (λ c. bit (sign-of c)) 8 corner-bit ∙ pack-mask sign-of 8
     where
-      sign : ℕ → Bool
-      sign c = positive cut (cornerSample (cornersAt n s (64 * w + i) j k) c)
+      sign-of : ℕ → Bool
+      sign-of c = positive cut (cornerSample (windowCorners nx lo hi (64 * w + i)) c)
 
   -- a cube whose bit is 0 has the sign of corner 0 at all its corners
   pub active-quiet : activeOf (eightOf a b (5 * j + w)) / 2 ^ i % 2 ≡ 0
-      → (c : ℕ) → c < 8 → positive cut (cornerSample (cornersAt n s (64 * w + i) j k) c) ≡ metal n s cut (64 * w + i) j k
+      → (c : ℕ) → c < 8 → positive cut (cornerSample (windowCorners nx lo hi (64 * w + i)) c) ≡ positive cut (cornerSample (windowCorners nx lo hi (64 * w + i)) 0)
   active-quiet e c h = bit-same _ _ (sym (corner-bit c h) ∙ quiet-words (eightOf a b (5 * j + w)) i e c h ∙ corner-bit 0 (omega arith))
+
+-- ---- windows of a block
+
+-- a part as it is lent
+pub part-of : (s : List ℕ) (p e m : ℕ) → e - p ≡ m → p + m ≤ length s → Part s p m (take (e - p) (drop p s))
+part-of s p e m d h = rw d (record {
+  long = length-take-le m (drop p s) (omega (arith, length-drop p s));
+  at = λ x l. getD-take m (drop p s) x 0 l ∙ getD-drop p s x 0;
+})
+
+-- the words of a row by a window in the place of the block
+pub same-row : (s window : List ℕ) (cut : Cut) (p base nx w : ℕ) → ((x : ℕ) → x < nx → getD window (x + base) 0 ≡ getD s (x + p) 0) → rowFrom s (cut .t) p nx w ≡ rowFrom window (cut .t) base nx w
+unfolding rowFrom
+same-row s window cut p base nx w e = pack-cong _ _ 64 (λ i h. go (64 * w + i) (ltb (64 * w + i) nx) refl)
+  where
+    go : (x : ℕ) (b : Bool) → ltb x nx ≡ b → bit (b && positive cut (getD s (x + p) 0)) ≡ bit (b && positive cut (getD window (x + base) 0))
+    go x true t = ap (λ (v : ℕ). bit (positive cut v)) (sym (e x (ltb-true x nx t)))
+    go x false t = refl
+
+-- the rows j and j + 1 of plane k, by their window
+pub two-rows : {n : Size} {s : List ℕ} {cut : Cut} {k : ℕ} {ws : List ℕ} → Plane n s cut k ws → (j : ℕ) → j + 1 < n .ny → n .ny ≤ 256
+    → (window : List ℕ) → Part s (rowSample (n .nx) (n .ny) j k) (2 * n .nx) window → TwoRows cut (n .nx) window j ws
+unfolding rowFrom rowSign
+two-rows {n} {s} {cut} {k} {ws} p j hj small window part = record {
+  room = omega (arith, p .room);
+  low = λ w h. p .word j w (omega arith) h ∙ same-row s window cut (n .nx * (j + n .ny * k)) 0 (n .nx) w (λ x l. part .at (x + 0) (omega arith) ∙ ap (λ (q : ℕ). getD s q 0) (at-low (n .nx * (j + n .ny * k)) x));
+  high = λ w h.
+      ap (λ (q : ℕ). getD ws q 0) (five w)
+      ∙ p .word (j + 1) w hj h
+      ∙ same-row s window cut (n .nx * (j + 1 + n .ny * k)) (n .nx) (n .nx) w (λ x l. part .at (x + n .nx) (omega arith) ∙ ap (λ (q : ℕ). getD s q 0) (at-high (n .nx) (n .ny) x));
+}
+  where
+    five : (w : ℕ) → 5 * j + 5 + w ≡ 5 * (j + 1) + w
+    five w = omega arith
+
+    at-low : (r x : ℕ) → r + (x + 0) ≡ x + r
+    at-low r x = omega arith
+
+    at-high : (m h x : ℕ) → m * (j + h * k) + (x + m) ≡ x + m * (j + 1 + h * k)
+    at-high m h x = omega arith

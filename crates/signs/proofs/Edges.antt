@@ -17,9 +17,8 @@ use Rattle.block.specs.declared.Size.{Size}
 use Rattle.block.specs.Numbering.{X, Y, Z}
 use Rattle.mesh_rule.specs.Grid.{metal, crossedFrom, between}
 use Rattle.signs.specs.Signs.{rowSign, Plane, furtherAt, alongX, alongY, alongZ, limitOf, innerOf}
-use Rattle.signs.proofs.Cubes.{row-sign-bit}
 use Rattle.signs.proofs.Masks.{below-last, word-limited, word-inner, inner-in, inner-past}
-use Rattle.signs.proofs.Planes.{word-at, further-word, above-word, sign-bit, further-bit}
+use Rattle.signs.proofs.Planes.{word-at, further-word, above-word, sign-bit, further-bit, row-sign-bit}
 
 -- the bits of two words that stand for signs: whether the signs differ
 apart-bit : (a b i : ℕ) (p q : Bool) → a / 2 ^ i % 2 ≡ bit p → b / 2 ^ i % 2 ≡ bit q → bitXor a b / 2 ^ i % 2 ≡ bit (differ p q)

@@ -95,3 +95,11 @@ module _ {n : Size} {s : List ℕ} {cut : Cut} {k : ℕ} {ws : List ℕ} (p : Pl
     where
       next : 64 * w + (1 + i) ≡ 64 * w + i + 1
       next = omega arith
+
+-- the row above, five words further on
+pub row-sign-bit : {n : Size} {s : List ℕ} {cut : Cut} {k : ℕ} {ws : List ℕ} (p : Plane n s cut k ws) (j w i : ℕ) → j + 1 < n .ny → w < 4 → i < 64 → 64 * w + i < n .nx
+    → getD ws (5 * j + w + 5) 0 / 2 ^ i % 2 ≡ bit (metal n s cut (64 * w + i) (j + 1) k)
+row-sign-bit {n} {s} {cut} {k} {ws} p j w i hj hw hi hx = ap (λ (q : ℕ). getD ws q 0 / 2 ^ i % 2) five ∙ sign-bit p (j + 1) w hj i (omega arith) hi hx
+  where
+    five : 5 * j + w + 5 ≡ 5 * (j + 1) + w
+    five = omega arith

@@ -1,25 +1,28 @@
--- The words of a row: from the signs of the samples that it has, and inside and past its end.
+-- The words of a row: from the bytes of its signs, and inside and past its end.
 -- Assumes nothing.
 use mathlib.Core.Path.{_≡_, refl, sym, ap, _∙_}
 use mathlib.Core.Bool.{_&&_}
-use mathlib.Core.List.{List}
-use Prim.Native.Nat.{ℕ, _+_, _-_, _*_, _%_, _^_, _≤_, _<_}
-use native.Mathlib.Nat.{add-assoc, mul-add, mul-one, mul-le-mul-left}
+use mathlib.Core.Logic.{_⊎_, inl, inr, ⊎-elim}
+use mathlib.Core.List.{List, [], _∷_}
+use Prim.Native.Nat.{ℕ, _+_, _*_, _%_, _^_, _≤_, _<_}
+use native.Mathlib.Nat.{add-zero, mul-add, mul-one, mul-le-mul-left, eq-or-lt-of-le}
 use native.Mathlib.Omega.{arith}
 use borrow.Author.Tests.{lt-ltb, le-ltb}
 use lib.Bits.{bitOr}
 use lib.Dec.{leb, ltb}
-use lib.ListN.{getD}
+use lib.ListN.{length, getD, set, replicate, length-replicate, getD-replicate, List·getD-eq-default}
+use lib.Seq.{getD-set-same, getD-set-other}
 use Rattle.laws.specs.Bits.{bit}
 use Rattle.laws.specs.Pack.{pack}
 use Rattle.laws.proofs.Bits.{bit-le}
 use Rattle.laws.proofs.Index.{pair-lt}
-use Rattle.laws.proofs.Pack.{pack-more, pack-cong, pack-join}
+use Rattle.laws.proofs.Pack.{pack-none, pack-more, pack-cong, pack-join}
+use Rattle.laws.proofs.Tests.{lt-or-ge}
 use Rattle.block.specs.declared.Cut.{Cut}
 use Rattle.block.specs.declared.Size.{Size}
 use Rattle.mesh_rule.specs.Grid.{metal}
 use Rattle.signs.specs.Signs.{rowSign, rowWord}
-use Rattle.signs.specs.Steps.{signsFrom, rowFrom}
+use Rattle.signs.specs.Steps.{signByte, SignBytes, BitBytes, rowFrom, fiveWords}
 
 module _ (n : Size) (s : List ℕ) (cut : Cut) (j k : ℕ) where
   pub row-bit : (x : ℕ) → rowSign n s cut j k x ≤ 1
@@ -39,41 +42,93 @@ module _ (n : Size) (s : List ℕ) (cut : Cut) (j k : ℕ) where
   unfolding rowFrom rowSign
   row-from w = refl
 
-pub signs-bit : (s : List ℕ) (t from i : ℕ) → signsFrom s t from i ≤ 1
-signs-bit s t from i = bit-le (leb t (getD s (from + i) 0))
+-- no byte yet
+pub bytes-none : (row : List ℕ) (t n : ℕ) → SignBytes row t 0 (replicate n 0)
+bytes-none row t n x = zeros ∙ sym hollow
+  where
+    zeros : _≡_ {A = ℕ} (getD (replicate n 0) x 0) 0
+    zeros = ⊎-elim (λ (l : x < n). getD-replicate n x 0 0 l) (λ (g : n ≤ x). List·getD-eq-default (replicate n 0) 0 (rw length-replicate g)) (lt-or-ge x n)
 
--- the signs of 64 samples from those of 32 and of the next 32
-pub halves : (s : List ℕ) (t from : ℕ)
-    → bitOr (pack (signsFrom s t from) 32) (pack (signsFrom s t (from + 32)) 32 * 2 ^ 32 % 2 ^ 64) ≡ pack (signsFrom s t from) 64
-halves s t from =
-    ap (λ (x : ℕ). bitOr (pack (signsFrom s t from) 32) (x * 2 ^ 32 % 2 ^ 64))
-    (pack-cong (signsFrom s t (from + 32)) (λ j. signsFrom s t from (32 + j)) 32 (λ j h. ap (λ (x : ℕ). bit (leb t (getD s x 0))) (add-assoc from 32 j)))
-    ∙ pack-join (signsFrom s t from) (signs-bit s t from) 32 32 64 (omega arith)
+    hollow : signByte row t 0 x ≡ 0
+    hollow = simp (le-ltb x 0 (omega arith))
 
--- word w of a row, of which m samples are there
-pub row-part : (s : List ℕ) (t base nx w m : ℕ) → m ≤ 64 → ((i : ℕ) → i < m → 64 * w + i < nx)
-    → ((i : ℕ) → m ≤ i → i < 64 → nx ≤ 64 * w + i)
-    → pack (signsFrom s t (base + 64 * w)) m ≡ rowFrom s t base nx w
+-- one byte more
+pub bytes-more : (row : List ℕ) (t n b : ℕ) (bytes : List ℕ) → n < length bytes → SignBytes row t n bytes → b ≡ bit (leb t (getD row n 0)) → SignBytes row t (n + 1) (set bytes n b)
+bytes-more row t n b bytes room is e x = go (lt-or-ge x n)
+  where
+    here : signByte row t (n + 1) n ≡ bit (leb t (getD row n 0))
+    here = simp (lt-ltb n (n + 1) (omega arith))
+
+    before : x < n → signByte row t n x ≡ signByte row t (n + 1) x
+    before l = simp (lt-ltb x n l, lt-ltb x (n + 1) (omega arith))
+
+    past : n < x → signByte row t n x ≡ signByte row t (n + 1) x
+    past g = simp (le-ltb x n (omega arith), le-ltb x (n + 1) (omega arith))
+
+    there : (n ≡ x) ⊎ (n < x) → getD (set bytes n b) x 0 ≡ signByte row t (n + 1) x
+    there (inl q) = rw (← q) (getD-set-same bytes n b 0 room ∙ e ∙ sym here)
+    there (inr g) = getD-set-other bytes n x b 0 (λ q. omega arith) ∙ is x ∙ past g
+
+    go : (x < n) ⊎ (n ≤ x) → getD (set bytes n b) x 0 ≡ signByte row t (n + 1) x
+    go (inl l) = getD-set-other bytes n x b 0 (λ q. omega arith) ∙ is x ∙ before l
+    go (inr g) = there (eq-or-lt-of-le g)
+
+-- the signs are 0 or 1
+pub bytes-bits : (row : List ℕ) (t n : ℕ) (bytes : List ℕ) → SignBytes row t n bytes → BitBytes bytes
+bytes-bits row t n bytes is x = rw (is x) (bit-le (ltb x n && leb t (getD row x 0)))
+
+-- eight bits more of word w
+pub eight-more : (bytes : List ℕ) (w k : ℕ) → BitBytes bytes → k < 8 → (r : ℕ)
+    → (let p = 64 * w + 8 * k in r ≡ getD bytes p 0 + 2 * getD bytes (p + 1) 0 + 4 * getD bytes (p + 2) 0 + 8 * getD bytes (p + 3) 0 + 16 * getD bytes (p + 4) 0 + 32 * getD bytes (p + 5) 0 + 64 * getD bytes (p + 6) 0 + 128 * getD bytes (p + 7) 0)
+    → bitOr (pack (λ (i : ℕ). getD bytes (64 * w + i) 0) (8 * k)) (r * 2 ^ (8 * k) % 2 ^ 64) ≡ pack (λ (i : ℕ). getD bytes (64 * w + i) 0) (8 * (k + 1))
+unfolding pack
+eight-more bytes w k small h r e =
+    ap (λ (x : ℕ). bitOr (pack f (8 * k)) (x * 2 ^ (8 * k) % 2 ^ 64)) eight
+    ∙ pack-join f (λ i. small (64 * w + i)) (8 * k) 8 64 (omega arith)
+    ∙ ap (pack f) next
+  where
+    f : ℕ → ℕ
+    f = λ i. getD bytes (64 * w + i) 0
+
+    next : 8 * k + 8 ≡ 8 * (k + 1)
+    next = omega arith
+
+    at : (i : ℕ) → getD bytes (64 * w + (8 * k + i)) 0 ≡ getD bytes (64 * w + 8 * k + i) 0
+    at i = ap (λ (x : ℕ). getD bytes x 0) (place i)
+      where
+        place : (i : ℕ) → 64 * w + (8 * k + i) ≡ 64 * w + 8 * k + i
+        place i = omega arith
+
+    first : getD bytes (64 * w + (8 * k + 0)) 0 ≡ getD bytes (64 * w + 8 * k) 0
+    first = ap (λ (x : ℕ). getD bytes (64 * w + x) 0) (add-zero (8 * k))
+
+    eight : r ≡ pack (λ j. f (8 * k + j)) 8
+    eight = omega (arith, e, first, at 1, at 2, at 3, at 4, at 5, at 6, at 7)
+
+-- the bits of word w, from the bytes of the whole row
+row-gathered : (row : List ℕ) (t : ℕ) (bytes : List ℕ) (w r : ℕ) → SignBytes row t (length row) bytes → r ≡ pack (λ (i : ℕ). getD bytes (64 * w + i) 0) 64
+    → r ≡ rowFrom row t 0 (length row) w
 unfolding rowFrom
-row-part s t base nx w m h ins out =
-    pack-cong (signsFrom s t (base + 64 * w)) r m (λ i a. ap (λ (x : ℕ). bit (leb t (getD s x 0))) (at i) ∙ sym (there i (ins i a)))
-    ∙ sym (pack-more r m (64 - m) (λ i a b. past i (out i a (omega arith))))
-    ∙ ap (pack r) all
+row-gathered row t bytes w r is e =
+    e ∙ pack-cong _ _ 64 (λ i h. is (64 * w + i) ∙ ap (λ (x : ℕ). bit (ltb (64 * w + i) (length row) && leb t (getD row x 0))) (sym (add-zero (64 * w + i))))
+
+-- a word past the row's end is 0
+row-past : (row : List ℕ) (t w : ℕ) → length row ≤ 64 * w → 0 ≡ rowFrom row t 0 (length row) w
+unfolding rowFrom
+row-past row t w h = sym (pack-more r 0 64 (λ i a b. past i) ∙ pack-none r)
   where
     r : ℕ → ℕ
-    r = λ i. bit (ltb (64 * w + i) nx && leb t (getD s (64 * w + i + base) 0))
+    r = λ i. bit (ltb (64 * w + i) (length row) && leb t (getD row (64 * w + i + 0) 0))
 
-    at : (i : ℕ) → base + 64 * w + i ≡ 64 * w + i + base
-    at i = omega arith
+    past : (i : ℕ) → r i ≡ 0
+    past i = simp (le-ltb (64 * w + i) (length row) (omega arith))
 
-    there : (i : ℕ) → 64 * w + i < nx → r i ≡ bit (leb t (getD s (64 * w + i + base) 0))
-    there i a = simp (lt-ltb (64 * w + i) nx a)
-
-    past : (i : ℕ) → nx ≤ 64 * w + i → r i ≡ 0
-    past i a = simp (le-ltb (64 * w + i) nx a)
-
-    all : m + (64 - m) ≡ 64
-    all = omega arith
+-- the five words of a row of at most 256 samples
+pub five-words : (row : List ℕ) (cut : Cut) (bytes : List ℕ) (a b c d : ℕ) → length row ≤ 256 → SignBytes row (cut .t) (length row) bytes
+    → a ≡ pack (λ (i : ℕ). getD bytes (64 * 0 + i) 0) 64 → b ≡ pack (λ (i : ℕ). getD bytes (64 * 1 + i) 0) 64 → c ≡ pack (λ (i : ℕ). getD bytes (64 * 2 + i) 0) 64 → d ≡ pack (λ (i : ℕ). getD bytes (64 * 3 + i) 0) 64
+    → a ∷ b ∷ c ∷ d ∷ 0 ∷ [] ≡ fiveWords row cut
+five-words row cut bytes a b c d h is ea eb ec ed =
+    rw (← row-gathered row (cut .t) bytes 0 a is ea, ← row-gathered row (cut .t) bytes 1 b is eb, ← row-gathered row (cut .t) bytes 2 c is ec, ← row-gathered row (cut .t) bytes 3 d is ed, ← row-past row (cut .t) 4 (omega arith)) refl
 
 -- a row of plane k is inside the samples
 pub row-room : (nx ny nz j k : ℕ) → j < ny → k < nz → nx * (j + ny * k) + nx ≤ nx * (ny * nz)

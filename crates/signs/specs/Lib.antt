@@ -1,2 +1,4 @@
 pub mod Signs
+pub mod Sorting
 pub mod Steps
+pub mod Windows

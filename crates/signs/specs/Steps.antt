@@ -1,24 +1,35 @@
--- The steps by which the words are made: the signs of samples from an index on, and four bits of a sign pattern.
+-- The steps by which the words are made: the signs of a row's samples as bytes, and the words of rows from an index on.
 -- Assumes nothing.
-use Prim.Native.Nat.{ℕ, _+_, _*_, _/_, _%_, _^_}
+use Prim.Native.Nat.{ℕ, _+_, _*_, _/_, _%_, _≤_}
+use mathlib.Core.Path.{_≡_}
 use mathlib.Core.Bool.{_&&_}
-use mathlib.Core.List.{List}
+use mathlib.Core.List.{List, [], _∷_}
 use lib.Dec.{leb, ltb}
-use lib.ListN.{getD}
+use lib.ListN.{length, getD}
 use Rattle.laws.specs.Bits.{bit}
 use Rattle.laws.specs.Pack.{pack}
+use Rattle.block.specs.declared.Cut.{Cut}
 
--- the signs of the samples from an index on
-abbrev pub signsFrom : List ℕ → ℕ → ℕ → ℕ → ℕ
-signsFrom s t from i = bit (leb t (getD s (from + i) 0))
+-- the sign of sample x of a row, if it is one of the first n, else 0
+abbrev pub signByte : List ℕ → ℕ → ℕ → ℕ → ℕ
+signByte row t n x = bit (ltb x n && leb t (getD row x 0))
+
+-- the signs of the first n samples of a row, a byte each, and 0 past them
+abbrev pub SignBytes : List ℕ → ℕ → ℕ → List ℕ → Type 0
+SignBytes row t n bytes = (x : ℕ) → getD bytes x 0 ≡ signByte row t n x
+
+-- bytes of 0 or 1
+abbrev pub BitBytes : List ℕ → Type 0
+BitBytes bytes = (x : ℕ) → getD bytes x 0 ≤ 1
 
 -- word w of a row of nx samples whose first has the index base
 unfoldable pub rowFrom : List ℕ → ℕ → ℕ → ℕ → ℕ → ℕ
 rowFrom s t base nx w = pack (λ (i : ℕ). bit (ltb (64 * w + i) nx && leb t (getD s (64 * w + i + base) 0))) 64
 
--- bit i of four words
-abbrev pub fourAt : ℕ → ℕ → ℕ → ℕ → ℕ → ℕ
-fourAt p q r s i = p / 2 ^ i % 2 + 2 * (q / 2 ^ i % 2) + 4 * (r / 2 ^ i % 2) + 8 * (s / 2 ^ i % 2)
+-- the five words of a row of samples
+abbrev pub fiveWords : List ℕ → Cut → List ℕ
+fiveWords row cut =
+    rowFrom row (cut .t) 0 (length row) 0 ∷ rowFrom row (cut .t) 0 (length row) 1 ∷ rowFrom row (cut .t) 0 (length row) 2 ∷ rowFrom row (cut .t) 0 (length row) 3 ∷ rowFrom row (cut .t) 0 (length row) 4 ∷ []
 
 -- word q of plane k, five to a row
 abbrev pub planeFrom : List ℕ → ℕ → ℕ → ℕ → ℕ → ℕ → ℕ

@@ -1,6 +1,6 @@
 -- `cube::loops_among` meets its contract. The loop's invariant: the first `n` loops are found, and `left` has the edges of the others.
 -- The measure is what is left of the four places. Assumes nothing.
-use mathlib.Core.Path.{ap, ap₂, _∙_}
+use mathlib.Core.Path.{ap₂, _∙_}
 use mathlib.Core.Logic.{_⊎_, inl, inr, ⊎-elim}
 use mathlib.Core.List.{List}
 use Prim.Native.Nat.{ℕ, _-_, _<_}
@@ -8,9 +8,11 @@ use native.Mathlib.Omega.{arith}
 use lib.Dec.{eqb}
 use borrow.Author.Needs.{needs}
 use borrow.Author.Tests.{not-true, not-false, eqb-true, eqb-false}
+use Rattle.cube_rule.specs.Decider.{joined}
 use Rattle.cube_rule.specs.Loops.{loopsFrom, loopsBy}
+use Rattle.cube_rule.proofs.Laws.{cube-lasts}
 use Rattle.cube.specs.Answer.{answered}
-use Rattle.cube.proofs.Filling.{Found, found-none, found-more, found-all}
+use Rattle.cube.proofs.Filling.{Found, found-none, found-last, found-more, found-all}
 use Rattle.cube.proofs.loops_among.Statement.{statement}
 use Rattle.cube.proofs.loops_among.Tie as tie
 
@@ -30,10 +32,16 @@ links-of-requires : tie.Need-links-of-requires Inv-loop μ-loop
 links-of-requires c κs = c .pre
 
 loop-holds : tie.Need-loop-holds Inv-loop μ-loop
-loop-holds c = found-none _ _
+unfolding loopsBy
+loop-holds c =
+    let a = c .before in
+    found-none _ _
+    (rw (c .links-of .ensures, a .pre) (cube-lasts joined (a .args .cut) (a .args .corners)))
 
 loop-from-requires : tie.Need-loop-from-requires Inv-loop μ-loop
-loop-from-requires c κs = some-left c
+loop-from-requires c κs =
+    let s = c .before .before in
+    (some-left c, found-last _ _ (s .loop .left) (s .loop .n) (s .loop .masks) (s .loop .inv) (c .before .loop-test .taken) (some-left c))
 
 loop-again : tie.Need-loop-again Inv-loop μ-loop
 loop-again c =

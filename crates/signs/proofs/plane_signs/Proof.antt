@@ -1,71 +1,94 @@
--- `plane_signs` meets its contract. The loop's invariant: the first q words stand at the front of the buffer, and the rest is as it was.
--- The measure is the number of words left. Assumes nothing.
+-- `plane_signs` meets its contract. The loop's invariant: the words of the first j rows stand at the front of the buffer, and the rest is as it
+-- was. The measure is the number of rows left. Assumes nothing.
 use mathlib.Core.Path.{_≡_, ap, _∙_}
 use mathlib.Core.List.{List}
-use Prim.Native.Nat.{ℕ, _-_, _*_, _/_, _≤_}
-use native.Mathlib.Omega.{arith}
-use borrow.Author.Needs.{needs}
+use Prim.Native.Nat.{ℕ, _+_, _-_, _*_, _≤_}
 use denote.Ref.{now}
 use lib.ListN.{length}
 use Rattle.laws.specs.Below.{over}
-use Rattle.laws.proofs.Over.{each, over-none, over-put}
+use Rattle.laws.proofs.Over.{each, over-none}
 use Rattle.signs.specs.Steps.{planeFrom}
 use Rattle.signs.proofs.Planes.{rows-small, rows-room, plane-made}
+use Rattle.signs.proofs.RowSigns.{row-short, row-stored}
+use borrow.Author.Needs.{needs}
+use native.Mathlib.Omega.{arith}
 use Rattle.signs.proofs.plane_signs.Statement.{statement}
 use Rattle.signs.proofs.plane_signs.Tie as tie
 
 abbrev Inv-loop : tie.InvT-loop
-Inv-loop samples k plane₀ nx ny t q₀ plane q = (q ≤ 5 * ny) × (length plane ≡ 1280) × (plane ≡ over (each (planeFrom samples t nx ny k) q) plane₀)
+Inv-loop samples cut k plane₀ nx ny j₀ plane j =
+    (j ≤ ny) × (length plane ≡ 1280) × (plane ≡ over (each (planeFrom samples (cut .t) nx ny k) (5 * j)) plane₀)
 
 abbrev μ-loop : tie.MeasureT-loop
-μ-loop samples k plane₀ nx ny t q₀ plane q = 5 * ny - q
+μ-loop samples cut k plane₀ nx ny j₀ plane j = ny - j
+
+-- the row is inside the samples
+inside : (d : tie.In-loop Inv-loop μ-loop) → let a = d .before .before .before .before .before .before .args in d .before .before .before .nx .result * (d .before .loop .j + d .before .before .ny .result * a .k) + d .before .before .before .nx .result ≤ length (now (a .samples))
+inside d =
+    let s = d .before .before .before .before .before .before in
+    omega (arith, s .pre .1, rows-room (s .args .size) _ _ (s .args .k) (d .before .before .before .nx .ensures) (d .before .before .ny .ensures) (s .pre .2) (d .before .loop .j) (d .loop-test .taken))
+
+few : (d : tie.In-loop Inv-loop μ-loop) → (d .before .before .ny .result * d .before .before .before .before .before .before .args .k ≤ 65536) × (d .before .before .ny .result ≤ 256)
+few d = let s = d .before .before .before .before .before .before in (rows-small (s .args .size) _ (s .args .k) (d .before .before .ny .ensures) (s .pre .0) (s .pre .2), omega (arith, d .before .before .ny .ensures, s .pre .0 .y-high))
 
 loop-holds : tie.Need-loop-holds Inv-loop μ-loop
-loop-holds c = (search needs, search needs, over-none _ _)
+loop-holds c = (omega arith, c .before .before .before .before .pre .3, over-none _ _)
 
-mul-row-word : tie.Need-mul-row-word Inv-loop μ-loop
-mul-row-word c =
-    let y = c .before .before in
-    let s = y .before .before .before .before in
-    omega (arith, rows-small (s .args .size) (y .ny .result) (s .args .k) (y .ny .ensures) (s .pre .0) (s .pre .2))
+mul-p : tie.Need-mul-p Inv-loop μ-loop
+mul-p c = omega (arith, few c)
 
-add-row-word : tie.Need-add-row-word Inv-loop μ-loop
-add-row-word c =
-    let y = c .before .before in
-    let s = y .before .before .before .before in
-    omega (arith, rows-small (s .args .size) (y .ny .result) (s .args .k) (y .ny .ensures) (s .pre .0) (s .pre .2))
+add-p : tie.Need-add-p Inv-loop μ-loop
+add-p c = omega (arith, few c, c .loop-test .taken)
 
-mul-row-word-2 : tie.Need-mul-row-word-2 Inv-loop μ-loop
-mul-row-word-2 c =
-    let y = c .before .before in
-    let s = y .before .before .before .before in
-    omega (arith, rows-room (s .args .size) _ _ (s .args .k) (y .before .nx .ensures) (y .ny .ensures) (s .pre .2) (c .before .loop .q / 5) (omega arith))
+mul-p-2 : tie.Need-mul-p-2 Inv-loop μ-loop
+mul-p-2 c = omega (arith, inside c, c .before .before .before .before .before .before .good)
 
-row-word-requires : tie.Need-row-word-requires Inv-loop μ-loop
-row-word-requires c κs =
-    let y = c .before .before in
-    let s = y .before .before .before .before in
-    (omega arith, omega (arith, rows-room (s .args .size) _ _ (s .args .k) (y .before .nx .ensures) (y .ny .ensures) (s .pre .2) (c .before .loop .q / 5) (omega arith)))
+add-row-signs : tie.Need-add-row-signs Inv-loop μ-loop
+add-row-signs c = omega (arith, inside c, c .before .before .before .before .before .before .good)
+
+mul-row-signs : tie.Need-mul-row-signs Inv-loop μ-loop
+mul-row-signs c = omega (arith, inside c, c .before .before .before .before .before .before .good)
+
+sub-row-signs : tie.Need-sub-row-signs Inv-loop μ-loop
+sub-row-signs c = omega arith
+
+part-row-signs-start : tie.Need-part-row-signs-start Inv-loop μ-loop
+part-row-signs-start c = omega arith
+
+part-row-signs-end : tie.Need-part-row-signs-end Inv-loop μ-loop
+part-row-signs-end c = inside c
+
+row-signs-requires : tie.Need-row-signs-requires Inv-loop μ-loop
+row-signs-requires c κs =
+    let d = c .before .before in
+    let s = d .before .before .before .before .before .before in
+    (row-short (now (s .args .samples)) (s .args .cut) (d .before .before .before .nx .result) (d .before .before .ny .result) (d .before .loop .j) (s .args .k) (inside d) (omega (arith, d .before .before .before .nx .ensures, s .pre .0 .x-high)), omega (arith, few d, d .loop-test .taken, d .before .loop .inv .1))
+
+add-j : tie.Need-add-j Inv-loop μ-loop
+add-j c = omega (arith, few (c .before .before .before .before .before), c .before .before .before .before .before .loop-test .taken)
+
+loop-less : tie.Need-loop-less Inv-loop μ-loop
+loop-less c = omega (arith, c .before .before .before .before .before .loop-test .taken)
 
 loop-again : tie.Need-loop-again Inv-loop μ-loop
 loop-again c =
-    let h = c .before .before .loop in
-    let y = c .before .before .before in
-    let s = y .before .before .before .before in (
-      search needs,
-      search needs,
-      over-put (planeFrom (now (s .args .samples)) (s .args .cut .t) (y .before .nx .result) (y .ny .result) (s .args .k)) (now (s .args .plane))
-          (h .plane) (h .q) (c .row-word .result) (h .inv .2) (c .row-word .ensures) (omega arith),
+    let s = c .before .before .before .before .before .before .before .before .before .before .before in
+    let h = c .before .before .before .before .before .before .loop in (
+      omega (arith, c .before .before .before .before .before .loop-test .taken),
+      c .before .before .row-signs .kept .1 .1 .0 ∙ h .inv .1,
+      row-stored (now (s .args .samples)) (s .args .cut) (c .before .before .before .before .before .before .before .before .nx .result) (c .before .before .before .before .before .before .before .ny .result) (h .j) (s .args .k) (inside (c .before .before .before .before .before)) _ _ _ (h .inv .2) (c .before .before .row-signs .ensures) (omega (arith, few (c .before .before .before .before .before), c .before .before .before .before .before .loop-test .taken, s .pre .3)),
     )
+
+same-length : tie.Need-same-length Inv-loop μ-loop
+same-length c = omega (arith, c .before .loop .inv .1, c .before .before .before .before .before .before .pre .3)
 
 returns : tie.Need-returns Inv-loop μ-loop
 returns c =
     let h = c .before .loop in
-    let y = c .before .before in
-    let s = y .before .before .before .before in
+    let s = c .before .before .before .before .before .before in
     h .inv .2
     ∙ ap (λ (ws : List ℕ). over ws (now (s .args .plane)))
-    (plane-made (s .args .size) (now (s .args .samples)) (s .args .cut) (s .args .k) _ _ (h .q) (y .before .nx .ensures) (y .ny .ensures) (omega arith))
+    (plane-made (s .args .size) (now (s .args .samples)) (s .args .cut) (s .args .k) _ _ (5 * h .j) (c .before .before .before .nx .ensures) (c .before .before .ny .ensures) (omega (arith, c .loop-test .left, h .inv .0)))
 
 pub plane-signs-spec : {M : Type 1} → statement M
 plane-signs-spec =
@@ -76,15 +99,17 @@ plane-signs-spec =
     (λ c κs. search needs)
     (λ c κs. search needs)
     loop-holds
-    (λ c. search needs)
-    mul-row-word
-    add-row-word
-    mul-row-word-2
-    row-word-requires
-    (λ c. search needs)
-    (λ c. search needs)
-    (λ c. search needs)
-    (λ c. search needs)
+    mul-p
+    add-p
+    mul-p-2
+    add-row-signs
+    mul-row-signs
+    sub-row-signs
+    part-row-signs-start
+    part-row-signs-end
+    row-signs-requires
+    add-j
+    loop-less
     loop-again
-    (λ c. search needs)
+    same-length
     returns)
