@@ -1,28 +1,24 @@
 -- What the cube question's answer is made of: the verdict of rows 3 and 4, places for every loop of an accepted cube, and that its
 -- promise fixes it.
 -- Assumes nothing.
-use mathlib.Core.Path.{_≡_, refl, ap, ap₂, sym, _∙_, subst}
-use mathlib.Core.Bool.{Bool, true, false, cond}
-use mathlib.Core.Logic.{_⊎_, inl, inr, ⊎-elim}
-use mathlib.Core.List.{List, [], _∷_, map, List·Memᴰ, List·Memᴰ·not-nil, List·Memᴰ·cases-cons}
-use Prim.Native.Nat.{ℕ, zero, suc, _+_, _≤_, _<_}
+use mathlib.Core.Path.{_≡_, refl, ap, ap₂, sym, _∙_}
+use mathlib.Core.Bool.{Bool, true, false}
+use mathlib.Core.List.{List, [], _∷_, map, List·Memᴰ}
+use Prim.Native.Nat.{ℕ, _<_}
 use native.Mathlib.Omega.{arith}
-use lib.Count.{ones}
 use lib.ListN.{length, getD}
-use Rattle.laws.specs.Bits.{bit, holds}
+use Rattle.laws.specs.Bits.{bit}
 use Rattle.laws.specs.Filled.{filled}
 use Rattle.laws.specs.Fixed.{Fixes, Injective}
 use Rattle.laws.proofs.Bits.{some-ones}
-use Rattle.laws.proofs.Fixed.{said-fixes}
 use Rattle.block.specs.declared.Cut.{Cut}
 use Rattle.block.specs.declared.Refusal.{Refusal}
 use Rattle.block.specs.declared.Checked.{Checked}
 use Rattle.block.specs.declared.Checked.the-variants.{Passes, Refuses}
-use Rattle.block.specs.Answer.{Answer, accepted, refused, inOrder, judged}
+use Rattle.block.specs.Answer.{inOrder, judged}
 use Rattle.block.specs.Rows.{thresholdRow, ceilingRow}
 use Rattle.cube_rule.specs.Decider.{joined, loopsOf}
 use Rattle.cube_rule.specs.Edges.{crossedAt}
-use Rattle.cube_rule.specs.Rule.{holders}
 use Rattle.cube_rule.proofs.Laws.{cube-laws}
 use Rattle.cube_rule.proofs.Unique.{holding}
 use Rattle.place.specs.declared.Offset.{Offset}

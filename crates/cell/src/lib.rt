@@ -7,6 +7,8 @@ ghost use mathlib.Core.Path.{_≡_};
 ghost use mathlib.Core.Bool.{cond};
 ghost use Prim.Native.Nat.{_<_};
 ghost use lib.Dec.{eqb};
+ghost use Rattle.block.specs.Grey.{SixteenBit};
+ghost use Rattle.cube.specs.Table.{maskTable};
 ghost use Rattle.place.specs.Place.{Placeable, placeOf};
 ghost use Rattle.cell.specs.Answer.{CubeAnswered, cubeVerdict, origin};
 ghost use Rattle.cell.specs.Steps.{emptyAnswer};
@@ -28,17 +30,27 @@ pub struct CubeAnswer {
 pub fn cube(corners: [u16; 8], t: u16) -> CubeAnswer
     ensures { λ r. ⌜ CubeAnswered corners t r ⌝ }
 {
+    let table = cube::masks();
+    cube_by(&table, corners, t)
+}
+
+// The same by a lent table of 256 masks: a caller that asks often makes it once.
+pub fn cube_by(table: &[u32; 256], corners: [u16; 8], t: u16) -> CubeAnswer
+    requires { ⌜ now table ≡ maskTable ⌝ }
+    ensures { λ r. ⌜ CubeAnswered corners t r ⌝ }
+{
     let cut = Cut { t: t };
     let checked = check(corners, cut);
     if let Checked::Refuses(r) = checked {
         return refuse(r);
     }
-    let loops = cube::loops_of(corners, cut);
+    let loops = cube::loops_of(table, corners, cut);
     let masks = loops.masks;
-    let a = place_or_zero(masks[0], corners, cut);
-    let b = place_or_zero(masks[1], corners, cut);
-    let c = place_or_zero(masks[2], corners, cut);
-    let d = place_or_zero(masks[3], corners, cut);
+    let samples = place::wide(corners);
+    let a = place_or_zero(masks[0], samples, cut);
+    let b = place_or_zero(masks[1], samples, cut);
+    let c = place_or_zero(masks[2], samples, cut);
+    let d = place_or_zero(masks[3], samples, cut);
     CubeAnswer {
         found: Found::Loops(loops.count),
         words: masks,
@@ -80,8 +92,8 @@ fn refuse(r: Refusal) -> CubeAnswer
 }
 
 // The place of a loop, or zeros where there is none.
-fn place_or_zero(mask: u32, corners: [u16; 8], cut: Cut) -> Offset
-    requires { ⌜ (0 < mask → Placeable cut corners mask) ⌝ }
+fn place_or_zero(mask: u32, corners: [u32; 8], cut: Cut) -> Offset
+    requires { ⌜ (0 < mask → Placeable cut corners mask) × SixteenBit corners ⌝ }
     ensures { λ r. ⌜ r ≡ cond (eqb mask 0) origin (placeOf cut corners mask) ⌝ }
 {
     if mask == 0 {

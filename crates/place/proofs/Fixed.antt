@@ -1,12 +1,13 @@
--- The promises of `edge` and `place` fix their answers.
+-- The promises of `edge`, `place` and `wide` fix their answers.
 -- Assumes nothing.
-use mathlib.Core.Path.{_≡_}
+use mathlib.Core.Path.{_≡_, sym, _∙_}
 use mathlib.Core.List.{List}
 use Prim.Native.Nat.{ℕ}
 use native.Mathlib.Omega.{arith}
 use Rattle.laws.specs.Fixed.{Fixes, Injective}
 use Rattle.laws.proofs.Fixed.{equation-fixes, said-fixes}
 use Rattle.block.specs.declared.Cut.{Cut}
+use Rattle.block.specs.Grey.{SixteenBit}
 use Rattle.place.specs.declared.Crossing.the-variants.{Nothing, At, Refused}
 use Rattle.place.specs.declared.Offset.{Offset}
 use Rattle.place.specs.Crossing.{saidEdge, edgeAnswer, EdgeAnswered}
@@ -31,3 +32,7 @@ edge-fixed p q t = said-fixes saidEdge (edgeAnswer p q t) said-edge-injective
 -- any two answers that the promise of `place` allows are equal
 pub place-fixed : (cut : Cut) (corners : List ℕ) (m : ℕ) → Fixes (λ (o : Offset). o ≡ placeOf cut corners m)
 place-fixed cut corners m = equation-fixes (placeOf cut corners m)
+
+-- and so of `wide`
+pub wide-fixed : (corners : List ℕ) → Fixes (λ (r : List ℕ). (r ≡ corners) × SixteenBit r)
+wide-fixed corners r r′ p q = p .0 ∙ sym (q .0)

@@ -1,6 +1,6 @@
 -- `check` meets its contract: row 3 decides if it refuses, else row 4 does.
 -- Assumes nothing.
-use mathlib.Core.Path.{_≡_, sym, _∙_}
+use mathlib.Core.Path.{sym, _∙_}
 use borrow.Author.Needs.{needs}
 use Rattle.cell.proofs.Answers.{verdict-first, verdict-second}
 use Rattle.cell.proofs.check.Statement.{statement}

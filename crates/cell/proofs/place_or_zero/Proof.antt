@@ -1,6 +1,5 @@
 -- `place_or_zero` meets its contract.
 -- Assumes nothing.
-use mathlib.Core.Path.{_≡_, sym, _∙_}
 use native.Mathlib.Omega.{arith}
 use borrow.Author.Needs.{needs}
 use borrow.Author.Tests.{eq-eqb, ne-eqb}
@@ -18,7 +17,7 @@ returns : tie.Need-returns
 returns c = rw (eq-eqb _ _ (c .before .if1 .taken)) (c .zero .ensures)
 
 place-requires : tie.Need-place-requires
-place-requires c κs = c .before .pre (omega (arith, c .if1 .left))
+place-requires c κs = (c .before .pre .0 (omega (arith, c .if1 .left)), c .before .pre .1)
 
 returns-2 : tie.Need-returns-2
 returns-2 c = rw (ne-eqb _ _ (c .before .if1 .left)) (c .place .ensures)

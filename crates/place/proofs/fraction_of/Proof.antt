@@ -11,8 +11,8 @@ use Rattle.place.proofs.fraction_of.Tie as tie
 apart-requires : tie.Need-apart-requires
 apart-requires c κs = search needs
 
-apart-requires-2 : tie.Need-apart-requires-2
-apart-requires-2 c κs = search needs
+span-requires : tie.Need-span-requires
+span-requires c κs = search needs
 
 int-to-float-result : tie.Need-int-to-float-result
 int-to-float-result c = search needs
@@ -25,9 +25,9 @@ quotient n d = div binary64 (float n) (float d)
 
 returns : tie.Need-returns
 unfolding fraction
-returns c = ap₂ quotient (c .before .before .before .apart .ensures) (c .before .before .apart2 .ensures)
+returns c = ap₂ quotient (c .before .before .before .apart .ensures) (c .before .before .span .ensures)
 
 pub fraction-of-spec : {M : Type 1} → statement M
 fraction-of-spec =
     tie.close
-    (tie.spec apart-requires apart-requires-2 int-to-float-result int-to-float-result-2 returns)
+    (tie.spec apart-requires span-requires int-to-float-result int-to-float-result-2 returns)

@@ -2,6 +2,7 @@
 -- the return of the other cases is never reached.
 -- Assumes nothing.
 use mathlib.Core.Path.{_≡_, _∙_, ap}
+use native.Mathlib.Omega.{arith}
 use lib.Ieee.{Float}
 use borrow.Author.Needs.{needs}
 use Rattle.place.specs.declared.Crossing.the-variants.{At}
@@ -29,11 +30,18 @@ mul-p c = search needs
 array-read-p : tie.Need-array-read-p
 array-read-p c = search needs
 
+-- a sample has 16 bits
+cast-p : tie.Need-cast-p
+cast-p c = omega (arith, c .before .before .pre .1 (c .before .lower-corner .result))
+
 mul-q : tie.Need-mul-q
 mul-q c = search needs
 
 array-read-q : tie.Need-array-read-q
 array-read-q c = search needs
+
+cast-q : tie.Need-cast-q
+cast-q c = omega (arith, c .before .before .pre .1 (c .upper-corner .result))
 
 edge-requires : tie.Need-edge-requires
 edge-requires c κs = search needs
@@ -45,7 +53,7 @@ enum-known-f c = search needs
 answer : (c : tie.After-edge) → let a = c .before .before .before .args in c .edge .result ≡ At (fractionAt (a .cut) (a .t2) (a .e))
 answer c =
     let a = c .before .before .before .args in
-    edge-at (a .cut) (a .t2) (a .e) (c .before .before .before .pre) _ _ (c .before .before .lower-corner .ensures .0) (c .before .upper-corner .ensures .0) (c .edge .result) (c .edge .ensures)
+    edge-at (a .cut) (a .t2) (a .e) (c .before .before .before .pre .0) _ _ (c .before .before .lower-corner .ensures .0) (c .before .upper-corner .ensures .0) (c .edge .result) (c .edge .ensures)
 
 -- so the other cases are never met
 returns : tie.Need-returns
@@ -71,8 +79,10 @@ with-edge-spec =
     cast-u
     mul-p
     array-read-p
+    cast-p
     mul-q
     array-read-q
+    cast-q
     edge-requires
     enum-known-f
     returns

@@ -1,26 +1,21 @@
--- `cube` meets its promise: a refusal with zeros, or the loops and the place of each.
+-- `cube_by` meets its promise: a refusal with zeros, or the loops and the place of each.
 -- Assumes nothing.
-use mathlib.Core.Path.{_≡_, refl, ap, ap₂, sym, _∙_, subst}
-use mathlib.Core.List.{List, [], _∷_, map}
+use mathlib.Core.Path.{_≡_, ap, sym, _∙_, subst}
+use mathlib.Core.List.{List}
 use Prim.Native.Nat.{ℕ, _<_}
 use lib.ListN.{length, getD}
 use borrow.Author.Needs.{needs}
 use Rattle.laws.specs.Filled.{filled}
 use Rattle.block.specs.declared.Cut.{Cut}
+use Rattle.block.specs.Grey.{SixteenBit}
 use Rattle.block.specs.declared.Checked.the-variants.{Passes}
 use Rattle.cube.specs.declared.Loops.{Loops}
 use Rattle.cube_rule.specs.Decider.{loopsOf}
-use Rattle.place.specs.Place.{Placeable, placeOf}
-use Rattle.cell.specs.Answer.{origin, cubeVerdict}
+use Rattle.place.specs.Place.{Placeable}
+use Rattle.cell.specs.Answer.{cubeVerdict}
 use Rattle.cell.proofs.Answers.{refused-answer, accepted-answer, mask-placeable}
-use Rattle.cell.proofs.cube.Statement.{statement}
-use Rattle.cell.proofs.cube.Tie as tie
-use Rattle.cell.proofs.cube.Reads as reads
-use Rattle.cell.proofs.cube.Lts as lts
-use Rattle.cell.proofs.check.Reads as check-reads
-use Rattle.cell.proofs.place_or_zero.Reads as place-or-zero-reads
-use Rattle.cell.proofs.refuse.Reads as refuse-reads
-use Rattle.cube.proofs.loops_of.Reads as loops-of-reads
+use Rattle.cell.proofs.cube_by.Statement.{statement}
+use Rattle.cell.proofs.cube_by.Tie as tie
 
 check-requires : tie.Need-check-requires
 check-requires c κs = search needs
@@ -43,9 +38,6 @@ enum-told c = search needs
 loops-of-requires : tie.Need-loops-of-requires
 loops-of-requires c κs = search needs
 
-array-read-place-or-zero : tie.Need-array-read-place-or-zero
-array-read-place-or-zero c = search needs
-
 abbrev start : tie.After-masks → tie.Start
 start m = m .before .before .before .before .before
 
@@ -65,35 +57,34 @@ count-is m = ap (λ (l : Loops). l .count) (m .before .loops-of .ensures .0)
 placeable : (m : tie.After-masks) (i : ℕ) → 0 < getD (m .before .loops-of .result .masks) i 0 → Placeable (cutOf m) (start m .args .corners) (getD (m .before .loops-of .result .masks) i 0)
 placeable m i = mask-placeable (cutOf m) (start m .args .corners) (passed m) (m .before .loops-of .result .masks) (masks-are m) i
 
-place-or-zero-requires : tie.Need-place-or-zero-requires
-place-or-zero-requires c κs = placeable c 0
+-- the corners as `place` takes them
+asks : (w : tie.After-wide) (i : ℕ) → let x = getD (w .before .before .loops-of .result .masks) i 0 in
+    (0 < x → Placeable (cutOf (w .before)) (w .wide .result) x) × SixteenBit (w .wide .result)
+asks w i =
+    let x = getD (w .before .before .loops-of .result .masks) i 0 in
+    (subst (λ (l : List ℕ). 0 < x → Placeable (cutOf (w .before)) l x) (sym (w .wide .ensures .0)) (placeable (w .before) i), w .wide .ensures .1)
 
-array-read-place-or-zero-2 : tie.Need-array-read-place-or-zero-2
-array-read-place-or-zero-2 c = search needs
+place-or-zero-requires : tie.Need-place-or-zero-requires
+place-or-zero-requires c κs = asks c 0
 
 place-or-zero-requires-2 : tie.Need-place-or-zero-requires-2
-place-or-zero-requires-2 c κs = placeable (c .before) 1
-
-array-read-place-or-zero-3 : tie.Need-array-read-place-or-zero-3
-array-read-place-or-zero-3 c = search needs
+place-or-zero-requires-2 c κs = asks (c .before) 1
 
 place-or-zero-requires-3 : tie.Need-place-or-zero-requires-3
-place-or-zero-requires-3 c κs = placeable (c .before .before) 2
-
-array-read-place-or-zero-4 : tie.Need-array-read-place-or-zero-4
-array-read-place-or-zero-4 c = search needs
+place-or-zero-requires-3 c κs = asks (c .before .before) 2
 
 place-or-zero-requires-4 : tie.Need-place-or-zero-requires-4
-place-or-zero-requires-4 c κs = placeable (c .before .before .before) 3
+place-or-zero-requires-4 c κs = asks (c .before .before .before) 3
 
 returns-2 : tie.Need-returns-2
 returns-2 c =
-    let m = c .before .before .before .before in
-    rw (c .before .before .before .place-or-zero .ensures, c .before .before .place-or-zero2 .ensures, c .before .place-or-zero3 .ensures, c .place-or-zero4 .ensures)
+    let w = c .before .before .before .before in
+    let m = w .before in
+    rw (c .before .before .before .place-or-zero .ensures, c .before .before .place-or-zero2 .ensures, c .before .place-or-zero3 .ensures, c .place-or-zero4 .ensures, w .wide .ensures .0)
     (accepted-answer (cutOf m) (start m .args .corners) (passed m) (m .before .loops-of .result .count) (m .before .loops-of .result .masks) (count-is m) (masks-are m))
 
-pub cube-spec : {M : Type 1} → statement M
-cube-spec =
+pub cube-by-spec : {M : Type 1} → statement M
+cube-by-spec =
     tie.close
     (tie.spec
     check-requires
@@ -102,12 +93,13 @@ cube-spec =
     returns
     enum-told
     loops-of-requires
-    array-read-place-or-zero
+    (λ c κs. search needs)
+    (λ c. search needs)
     place-or-zero-requires
-    array-read-place-or-zero-2
+    (λ c. search needs)
     place-or-zero-requires-2
-    array-read-place-or-zero-3
+    (λ c. search needs)
     place-or-zero-requires-3
-    array-read-place-or-zero-4
+    (λ c. search needs)
     place-or-zero-requires-4
     returns-2)
