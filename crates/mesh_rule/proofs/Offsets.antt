@@ -55,19 +55,19 @@ triples-in-unit f (m ∷ ms) h (suc (suc (suc k))) l = triples-in-unit f ms (λ 
 
 module _ (n : Size) (s : List ℕ) (cut : Cut) where
   -- of one cube
-  cube-in-unit : SixteenBit s → (c k : ℕ) → k < length (cubeOffsets n s cut c) → InUnit (getD (cubeOffsets n s cut c) k nan)
+  cube-in-unit : SixteenBit s → (c k : ℕ) → k < length (cubeOffsets loopsOf n s cut c) → InUnit (getD (cubeOffsets loopsOf n s cut c) k nan)
   unfolding cubeOffsets
   cube-in-unit g c =
       triples-in-unit (placeOf cut (cornersOf n s c)) (cubeLoops loopsOf n s cut c)
       (λ m d. place-in-unit cut (cornersOf n s c) m (corners-grey n s g c) (loop-crossed cut (cornersOf n s c) m d))
 
   -- of the whole mesh
-  pub offsets-in-unit : SixteenBit s → (k : ℕ) → k < length (meshOffsets n s cut) → InUnit (getD (meshOffsets n s cut) k nan)
+  pub offsets-in-unit : SixteenBit s → (k : ℕ) → k < length (meshOffsets loopsOf n s cut) → InUnit (getD (meshOffsets loopsOf n s cut) k nan)
   unfolding meshOffsets
   offsets-in-unit g k h =
-      let r = split (cubeOffsets n s cut) (cubeCount n) k h in
+      let r = split (cubeOffsets loopsOf n s cut) (cubeCount n) k h in
       subst InUnit
-      (sym (ap (λ (j : ℕ). getD (meshOffsets n s cut) j nan) (r .4) ∙ getD-below (cubeOffsets n s cut) nan (cubeCount n) (r .0) (r .1) (r .2) (r .3)))
+      (sym (ap (λ (j : ℕ). getD (meshOffsets loopsOf n s cut) j nan) (r .4) ∙ getD-below (cubeOffsets loopsOf n s cut) nan (cubeCount n) (r .0) (r .1) (r .2) (r .3)))
       (cube-in-unit g (r .0) (r .1) (r .3))
 
 -- ---- how many there are
@@ -78,7 +78,7 @@ triples-length (o ∷ os) = omega (arith, triples-length os)
 
 module _ (n : Size) (s : List ℕ) (cut : Cut) where
   -- three for each vertex of a cube
-  cube-three : (c : ℕ) → length (cubeOffsets n s cut c) ≡ 3 * length (verticesOf loopsOf n s cut c)
+  cube-three : (c : ℕ) → length (cubeOffsets loopsOf n s cut c) ≡ 3 * length (verticesOf loopsOf n s cut c)
   unfolding cubeOffsets
   cube-three c =
       omega (
@@ -88,19 +88,19 @@ module _ (n : Size) (s : List ℕ) (cut : Cut) where
         one-for-each-loop loopsOf n s cut c,
       )
 
-  before-three : (c : ℕ) → length (below (cubeOffsets n s cut) c) ≡ 3 * length (verticesBefore loopsOf n s cut c)
+  before-three : (c : ℕ) → length (below (cubeOffsets loopsOf n s cut) c) ≡ 3 * length (verticesBefore loopsOf n s cut c)
   unfolding below verticesBefore
   before-three zero = refl
   before-three (suc c) =
       omega (
         arith,
-        length-append (below (cubeOffsets n s cut) c) (cubeOffsets n s cut c),
+        length-append (below (cubeOffsets loopsOf n s cut) c) (cubeOffsets loopsOf n s cut c),
         length-append (below (verticesOf loopsOf n s cut) c) (verticesOf loopsOf n s cut c),
         before-three c,
         cube-three c,
       )
 
   -- and for each of the mesh
-  pub mesh-offsets-length : length (meshOffsets n s cut) ≡ 3 * length (vertices loopsOf n s cut)
+  pub mesh-offsets-length : length (meshOffsets loopsOf n s cut) ≡ 3 * length (vertices loopsOf n s cut)
   unfolding meshOffsets vertices
   mesh-offsets-length = before-three (cubeCount n)

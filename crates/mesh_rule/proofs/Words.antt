@@ -28,15 +28,15 @@ of-cube : (c : ℕ) (corners ms : List ℕ) → flatVertices (map (λ (m : ℕ).
 of-cube c corners [] = refl
 of-cube c corners (m ∷ ms) = ap (λ (l : List ℕ). c ∷ m ∷ l) (of-cube c corners ms)
 
-pub words-are-vertices : (n : Size) (s : List ℕ) (cut : Cut) → flatVertices (vertices loopsOf n s cut) ≡ meshWords n s cut
+pub words-are-vertices : (n : Size) (s : List ℕ) (cut : Cut) → flatVertices (vertices loopsOf n s cut) ≡ meshWords loopsOf n s cut
 unfolding vertices verticesBefore verticesOf cubeWords meshWords
 words-are-vertices n s cut =
-    flat-below (verticesOf loopsOf n s cut) (cubeWords n s cut) (λ (c : ℕ). of-cube c (cornersOf n s c) (loopsOf cut (cornersOf n s c))) (cubeCount n)
+    flat-below (verticesOf loopsOf n s cut) (cubeWords loopsOf n s cut) (λ (c : ℕ). of-cube c (cornersOf n s c) (loopsOf cut (cornersOf n s c))) (cubeCount n)
 
 -- so it has two words for each vertex
 flat-length : (vs : List Vertex) → length (flatVertices vs) ≡ 2 * length vs
 flat-length [] = refl
 flat-length (v ∷ vs) = omega (arith, flat-length vs)
 
-pub mesh-words-length : (n : Size) (s : List ℕ) (cut : Cut) → length (meshWords n s cut) ≡ 2 * length (vertices loopsOf n s cut)
+pub mesh-words-length : (n : Size) (s : List ℕ) (cut : Cut) → length (meshWords loopsOf n s cut) ≡ 2 * length (vertices loopsOf n s cut)
 mesh-words-length n s cut = ap length (sym (words-are-vertices n s cut)) ∙ flat-length (vertices loopsOf n s cut)

@@ -1,5 +1,5 @@
 -- What the lent buffers hold of a mesh (document 01, "The mesh"): "A vertex takes two u32 (cube number, mask) in one buffer and three f64 in
--- another", four u32 a quad. Assumes nothing.
+-- another", four u32 a quad, over the loops of a cube. Assumes nothing.
 use Prim.Native.Nat.{ℕ}
 use mathlib.Core.List.{List, [], _∷_, map}
 use lib.Ieee.{Float}
@@ -7,7 +7,6 @@ use Rattle.laws.specs.Below.{below}
 use Rattle.block.specs.declared.Cut.{Cut}
 use Rattle.block.specs.declared.Size.{Size}
 use Rattle.block.specs.Numbering.{cubeCount}
-use Rattle.cube_rule.specs.Decider.{loopsOf}
 use Rattle.place.specs.declared.Offset.{Offset}
 use Rattle.place.specs.Place.{placeOf}
 use Rattle.cell.specs.Answer.{wordOf}
@@ -23,7 +22,7 @@ abbrev pub triples : List Offset → List Float
 triples [] = []
 triples (o ∷ os) = o .x ∷ o .y ∷ o .z ∷ triples os
 
-module _ (n : Size) (s : List ℕ) (cut : Cut) where
+module _ (loopsOf : Cut → List ℕ → List ℕ) (n : Size) (s : List ℕ) (cut : Cut) where
   -- what the vertex buffers hold of the cube c
   unfoldable pub cubeWords : ℕ → List ℕ
   cubeWords c = pairs c (map (wordOf (cornersOf n s c)) (cubeLoops loopsOf n s cut c))

@@ -8,7 +8,6 @@ use Rattle.laws.specs.Below.{below}
 use Rattle.block.specs.declared.Cut.{Cut}
 use Rattle.block.specs.declared.Size.{Size}
 use Rattle.block.specs.Numbering.{Axis}
-use Rattle.cube_rule.specs.Decider.{loopsOf}
 use Rattle.mesh_rule.specs.Mesh.{cubeLoops, verticesBefore, quadAt, flat}
 use Rattle.mesh_rule.specs.Buffers.{cubeWords, cubeOffsets}
 
@@ -26,16 +25,16 @@ rowCube nx ny y z = (nx - 1) * (y + (ny - 1) * z)
 abbrev pub rowSample : ℕ → ℕ → ℕ → ℕ → ℕ
 rowSample nx ny y z = nx * (y + ny * z)
 
-module _ (n : Size) (s : List ℕ) (cut : Cut) where
+module _ (loopsOf : Cut → List ℕ → List ℕ) (n : Size) (s : List ℕ) (cut : Cut) where
   -- of the m cubes from c on
   abbrev pub runMasks : ℕ → ℕ → List ℕ
   runMasks c m = below (λ (x : ℕ). cubeLoops loopsOf n s cut (c + x)) m
 
   abbrev pub runWords : ℕ → ℕ → List ℕ
-  runWords c m = below (λ (x : ℕ). cubeWords n s cut (c + x)) m
+  runWords c m = below (λ (x : ℕ). cubeWords loopsOf n s cut (c + x)) m
 
   abbrev pub runOffsets : ℕ → ℕ → List Float
-  runOffsets c m = below (λ (x : ℕ). cubeOffsets n s cut (c + x)) m
+  runOffsets c m = below (λ (x : ℕ). cubeOffsets loopsOf n s cut (c + x)) m
 
   -- of the layer k: its words, its offsets, how many vertices it has, and the number of its first vertex
   abbrev pub layerWords : ℕ → List ℕ
