@@ -1,54 +1,81 @@
--- The corners of a cube by the index of its corner 0: they are those of the cube (i,j,k), and samples of the block.
+-- The corners of a cube by the windows of its row: they are those of the cube in its block, and samples of the windows.
 -- Assumes nothing.
-use Prim.Native.Nat.{ℕ, _+_, _*_, _-_, _<_}
-use mathlib.Core.Path.{_≡_, ap, sym, _∙_, subst}
+use Prim.Native.Nat.{ℕ, _+_, _*_, _-_, _<_, _≤_}
+use mathlib.Core.Path.{_≡_, ap, sym, _∙_}
 use mathlib.Core.List.{List}
+use native.Mathlib.Nat.{mul-le-mul-left}
 use native.Mathlib.Omega.{arith}
-use Rattle.laws.proofs.Index.{index-lt}
+use lib.ListN.{length, getD}
+use Rattle.laws.proofs.Index.{pair-lt}
 use Rattle.block.specs.declared.Size.{Size}
-use Rattle.block.specs.Numbering.{sampleIndex, sampleCount, cubeNumber}
+use Rattle.block.specs.declared.Checked.the-variants.{Passes}
+use Rattle.block.specs.Grey.{isCeiling}
+use Rattle.block.specs.Numbering.{sampleCount}
+use Rattle.block.specs.Rows.{ceilingRow}
+use Rattle.block.proofs.Lowest.{row-clear}
 use Rattle.mesh_rule.specs.Grid.{cornersAt, cornersOf}
+use Rattle.mesh_rule.specs.Layers.{rowCube, rowSample}
 use Rattle.mesh_rule.proofs.Numbers.{corners-of-number}
-use Rattle.vertices.specs.Cubes.{cornersFrom}
+use Rattle.signs.specs.Windows.{windowCorners, Part}
+use Rattle.vertices.specs.Layers.{Clear}
 
--- they are those of the cube (i,j,k)
-pub corners-at : (n : Size) (s : List ℕ) (p i j k : ℕ) → p ≡ sampleIndex n i j k → cornersFrom s (n .nx) (n .nx * n .ny) p ≡ cornersAt n s i j k
-unfolding cornersFrom
-corners-at n s p i j k e =
-    rw (e, at-xyz (n .nx) (n .ny), at-yz (n .nx) (n .ny), at-xz (n .nx) (n .ny), at-z (n .nx) (n .ny), at-xy (n .nx) (n .ny), at-y (n .nx) (n .ny), at-x (n .nx) (n .ny))
+-- two rows are inside the samples
+pub rows-in : (nx ny nz j k : ℕ) → j + 1 < ny → k < nz → nx * (j + ny * k) + 2 * nx ≤ nx * (ny * nz)
+rows-in nx ny nz j k hj hk = omega (arith, mul-le-mul-left nx (next (ny * k) (ny * nz) (pair-lt ny nz (j + 1) k hj hk)))
   where
-    at-x : (w h : ℕ) → i + w * (j + h * k) + 1 ≡ i + 1 + w * (j + h * k)
-    at-x w h = omega arith
+    next : (a b : ℕ) → j + 1 + a < b → j + a + 2 ≤ b
+    next a b h = omega arith
 
-    at-y : (w h : ℕ) → i + w * (j + h * k) + w ≡ i + w * (j + 1 + h * k)
-    at-y w h = omega arith
+-- the windows of the row j of layer k
+pub record Windows (n : Size) (s : List ℕ) (j k : ℕ) (lo hi : List ℕ) : Type 0 where
+  pub low : Part s (rowSample (n .nx) (n .ny) j k) (2 * n .nx) lo
+  pub high : Part s (rowSample (n .nx) (n .ny) j (k + 1)) (2 * n .nx) hi
 
-    at-xy : (w h : ℕ) → i + w * (j + h * k) + w + 1 ≡ i + 1 + w * (j + 1 + h * k)
-    at-xy w h = omega arith
+module _ (n : Size) (s : List ℕ) (j k : ℕ) (lo hi : List ℕ) (p : Windows n s j k lo hi) where
+  abbrev at : ℕ → ℕ
+  at q = getD s q 0
 
-    at-z : (w h : ℕ) → i + w * (j + h * k) + w * h ≡ i + w * (j + h * (k + 1))
-    at-z w h = omega arith
+  window-at : (x : ℕ) → x + 1 < n .nx → windowCorners (n .nx) lo hi x ≡ cornersAt n s x j k
+  unfolding windowCorners
+  window-at x h =
+      rw (
+        p .low .at x (omega arith),
+        p .low .at (x + 1) (omega arith),
+        p .low .at (x + n .nx) (omega arith),
+        p .low .at (x + 1 + n .nx) (omega arith),
+        p .high .at x (omega arith),
+        p .high .at (x + 1) (omega arith),
+        p .high .at (x + n .nx) (omega arith),
+        p .high .at (x + 1 + n .nx) (omega arith),
+        here (rowSample (n .nx) (n .ny) j k) x,
+        here (rowSample (n .nx) (n .ny) j k) (x + 1),
+        above (n .nx) (n .ny) k x,
+        above (n .nx) (n .ny) k (x + 1),
+        here (rowSample (n .nx) (n .ny) j (k + 1)) x,
+        here (rowSample (n .nx) (n .ny) j (k + 1)) (x + 1),
+        above (n .nx) (n .ny) (k + 1) x,
+        above (n .nx) (n .ny) (k + 1) (x + 1),
+      )
+    where
+      here : (r i : ℕ) → r + i ≡ i + r
+      here r i = omega arith
 
-    at-xz : (w h : ℕ) → i + w * (j + h * k) + w * h + 1 ≡ i + 1 + w * (j + h * (k + 1))
-    at-xz w h = omega arith
+      above : (w h z i : ℕ) → w * (j + h * z) + (i + w) ≡ i + w * (j + 1 + h * z)
+      above w h z i = omega arith
 
-    at-yz : (w h : ℕ) → i + w * (j + h * k) + w * h + w ≡ i + w * (j + 1 + h * (k + 1))
-    at-yz w h = omega arith
+  -- they are those of the cube with its number
+  pub window-corners : (x : ℕ) → x < n .nx - 1 → j < n .ny - 1 → windowCorners (n .nx) lo hi x ≡ cornersOf n s (rowCube (n .nx) (n .ny) j k + x)
+  window-corners x hx hj =
+      window-at x (omega arith) ∙ sym (corners-of-number n s x j k hx hj) ∙ ap (cornersOf n s) (number (n .nx - 1) (n .ny - 1))
+    where
+      number : (w h : ℕ) → x + w * (j + h * k) ≡ w * (j + h * k) + x
+      number w h = omega arith
 
-    at-xyz : (w h : ℕ) → i + w * (j + h * k) + w * h + w + 1 ≡ i + 1 + w * (j + 1 + h * (k + 1))
-    at-xyz w h = omega arith
-
--- and of the cube with its number
-pub corners-of : (n : Size) (s : List ℕ) (p i j k : ℕ) → p ≡ sampleIndex n i j k → i < n .nx - 1 → j < n .ny - 1
-    → cornersFrom s (n .nx) (n .nx * n .ny) p ≡ cornersOf n s (cubeNumber n i j k)
-corners-of n s p i j k e hi hj = corners-at n s p i j k e ∙ sym (corners-of-number n s i j k hi hj)
-
--- its last corner is a sample of the block
-pub corners-inside : (n : Size) (p i j k : ℕ) → p ≡ sampleIndex n i j k → i + 1 < n .nx → j + 1 < n .ny → k + 1 < n .nz
-    → p + n .nx * n .ny + n .nx + 1 < sampleCount n
-corners-inside n p i j k e hi hj hk =
-    subst (λ (q : ℕ). q < sampleCount n) (sym (ap (λ (q : ℕ). q + n .nx * n .ny + n .nx + 1) e ∙ last (n .nx) (n .ny)))
-    (index-lt (n .nx) (n .ny) (i + 1) (j + 1) (k + 1) hi hj (n .nz) hk)
-  where
-    last : (w h : ℕ) → i + w * (j + h * k) + w * h + w + 1 ≡ i + 1 + w * (j + 1 + h * (k + 1))
-    last w h = omega arith
+  -- no sample of theirs is at the ceiling, where none of the block is
+  pub windows-clear : ceilingRow s ≡ Passes → length s ≡ sampleCount n → j + 1 < n .ny → k + 1 < n .nz → Clear lo × Clear hi
+  windows-clear e count hj hk = (clear lo k (p .low) (omega arith), clear hi (k + 1) (p .high) hk)
+    where
+      clear : (w : List ℕ) (z : ℕ) → Part s (rowSample (n .nx) (n .ny) j z) (2 * n .nx) w → z < n .nz → Clear w
+      clear w z part hz q l =
+          ap isCeiling (part .at q (omega (arith, part .long)))
+          ∙ row-clear isCeiling 4 s e (rowSample (n .nx) (n .ny) j z + q) (omega (arith, count, part .long, rows-in (n .nx) (n .ny) (n .nz) j z hj hz))

@@ -1,26 +1,30 @@
--- A layer of cubes, row by row: the vertices of one row more are counted and stored, and there is room for them.
+-- A row of cubes in its block: the row's windows give what the block's numbers give.
 -- Assumes nothing.
 use Prim.Native.Nat.{ℕ, _+_, _*_, _-_, _≤_, _<_}
-use mathlib.Core.Path.{_≡_, ap, _∙_}
+use mathlib.Core.Path.{_≡_, ap, sym, _∙_, subst}
 use mathlib.Core.List.{List, _++_}
-use native.Mathlib.Nat.{mul-add, mul-assoc, mul-le-mul-left, mul-zero}
+use native.Mathlib.Nat.{mul-add, mul-assoc, mul-le-mul}
 use native.Mathlib.Omega.{arith}
-use lib.ListN.{length, length-append}
-use lib.Ieee.{Float}
+use lib.ListN.{length, take, drop}
 use Rattle.laws.specs.Below.{below}
 use Rattle.laws.proofs.Below.{below-add, below-same}
 use Rattle.block.specs.declared.Cut.{Cut}
 use Rattle.block.specs.declared.Size.{Size}
+use Rattle.block.specs.Numbering.{sampleCount}
+use Rattle.block.specs.Size.{Limits}
 use Rattle.mesh_rule.specs.Buffers.{cubeWords, cubeOffsets}
-use Rattle.mesh_rule.specs.Layers.{runMasks, runWords, runOffsets, layerSize, layerCount, rowCube}
-use Rattle.cube_rule.specs.Decider.{loopsOf}
+use Rattle.mesh_rule.specs.Grid.{cornersOf}
+use Rattle.mesh_rule.specs.Layers.{runMasks, runWords, runOffsets, rowCube}
 use Rattle.mesh_rule.specs.Mesh.{cubeLoops}
-use Rattle.vertices.specs.Cubes.{Stored}
-use Rattle.vertices.specs.Layers.{Room, rowCount, RowWritten, LayerWritten}
-use Rattle.vertices.proofs.Stored.{stored-none, stored-join, stored-words, stored-offsets}
+use Rattle.signs.specs.Windows.{windowCorners, Part}
+use Rattle.signs.proofs.Cubes.{part-of, two-rows}
+use Rattle.vertices.specs.Cubes.{namesBy, wordsBy, offsetsBy, loopsAt, namesAt}
+use Rattle.vertices.specs.Layers.{rowMasks, rowWords, rowOffsets, Ready, RowReady}
+use Rattle.vertices.specs.Tables.{whichOf, Numbered}
+use Rattle.vertices.proofs.CubeCorners.{Windows, rows-in, window-corners}
 
 -- rows of m in layers of h: one row more
-rows-next : {A : Type 0} (f : ℕ → List A) (m h j k : ℕ)
+pub rows-next : {A : Type 0} (f : ℕ → List A) (m h j k : ℕ)
     → below (λ (x : ℕ). f (m * h * k + x)) (m * (j + 1)) ≡ below (λ (x : ℕ). f (m * h * k + x)) (m * j) ++ below (λ (x : ℕ). f (m * (j + h * k) + x)) m
 rows-next {A} f m h j k =
     ap (below (λ (x : ℕ). f (m * h * k + x))) next
@@ -33,77 +37,95 @@ rows-next {A} f m h j k =
     at : (x : ℕ) → m * h * k + (m * j + x) ≡ m * (j + h * k) + x
     at x = rw (mul-add m j (h * k), ← mul-assoc m h k) (omega arith)
 
--- fewer rows, no more elements
-fewer : {A : Type 0} (f : ℕ → List A) (a b : ℕ) → a ≤ b → length (below f a) ≤ length (below f b)
-fewer f a b h = omega (arith, ap length (ap (below f) parts ∙ below-add f a (b - a)), length-append (below f a) (below (λ (x : ℕ). f (a + x)) (b - a)))
-  where
-    parts : b ≡ a + (b - a)
-    parts = omega arith
+-- the numbers of a row fit
+pub row-bounds : (n : Size) (nx ny j k : ℕ) → Limits n → nx ≡ n .nx → ny ≡ n .ny → j + 1 < n .ny → k + 1 < n .nz
+    → (nx * ny ≤ 65536) × (ny * k ≤ 65024) × (nx * (j + ny * k) ≤ 16711168) × ((ny - 1) * k ≤ 64770) × ((nx - 1) * (j + (ny - 1) * k) ≤ 16581120)
+row-bounds n nx ny j k l ex ey hj hk =
+    let x : nx ≤ 256 = omega (arith, l .x-high) in
+    let y : ny ≤ 256 = omega (arith, l .y-high) in
+    let x1 : nx - 1 ≤ 255 = omega arith in
+    let y1 : ny - 1 ≤ 255 = omega arith in
+    let z : k ≤ 254 = omega (arith, l .z-high) in
+    let a : ny * k ≤ 256 * 254 = mul-le-mul y z in
+    let b : (ny - 1) * k ≤ 255 * 254 = mul-le-mul y1 z in
+    let c : j + ny * k ≤ 65278 = omega arith in
+    let d : j + (ny - 1) * k ≤ 65024 = omega arith in
+    (mul-le-mul x y, a, mul-le-mul x c, b, mul-le-mul x1 d)
 
-module _ (n : Size) (s : List ℕ) (cut : Cut) (k : ℕ) where
-  -- the masks, words and offsets of the first j rows of layer k
-  abbrev pub masksIn : ℕ → List ℕ
-  masksIn j = runMasks n s cut (layerSize n * k) ((n .nx - 1) * j)
+-- ---- a row's windows
 
-  abbrev pub wordsIn : ℕ → List ℕ
-  wordsIn j = runWords n s cut (layerSize n * k) ((n .nx - 1) * j)
+-- the parts that are lent
+module _ (n : Size) (s : List ℕ) (j k : ℕ) (nx ny : ℕ) (ex : nx ≡ n .nx) (ey : ny ≡ n .ny) (count : length s ≡ sampleCount n) (hj : j + 1 < n .ny) (hk : k + 1 < n .nz) where
+  abbrev p : ℕ
+  p = nx * (j + ny * k)
 
-  abbrev pub offsetsIn : ℕ → List Float
-  offsetsIn j = runOffsets n s cut (layerSize n * k) ((n .nx - 1) * j)
+  up : p + nx * ny ≡ nx * (j + ny * (k + 1))
+  up = omega arith
 
-  masks-row : (j : ℕ) → masksIn (j + 1) ≡ masksIn j ++ runMasks n s cut (rowCube (n .nx) (n .ny) j k) (n .nx - 1)
-  masks-row j = rows-next (cubeLoops loopsOf n s cut) (n .nx - 1) (n .ny - 1) j k
+  pub low-fits : p + 2 * nx ≤ length s
+  low-fits = rw (ex, ey) (omega (arith, count, rows-in (n .nx) (n .ny) (n .nz) j k hj (omega arith)))
 
-  words-row : (j : ℕ) → wordsIn (j + 1) ≡ wordsIn j ++ runWords n s cut (rowCube (n .nx) (n .ny) j k) (n .nx - 1)
-  words-row j = rows-next (cubeWords n s cut) (n .nx - 1) (n .ny - 1) j k
+  pub high-fits : p + nx * ny + 2 * nx ≤ length s
+  high-fits = rw (up, ex, ey) (omega (arith, count, rows-in (n .nx) (n .ny) (n .nz) j (k + 1) hj hk))
 
-  offsets-row : (j : ℕ) → offsetsIn (j + 1) ≡ offsetsIn j ++ runOffsets n s cut (rowCube (n .nx) (n .ny) j k) (n .nx - 1)
-  offsets-row j = rows-next (cubeOffsets n s cut) (n .nx - 1) (n .ny - 1) j k
+  pub lent : Windows n s j k (take (p + 2 * nx - p) (drop p s)) (take (p + nx * ny + 2 * nx - (p + nx * ny)) (drop (p + nx * ny) s))
+  lent = record {
+    low = subst (λ (q : ℕ). Part s q (2 * n .nx) (take (p + 2 * nx - p) (drop p s))) (rw (ex, ey)) (part-of s p (p + 2 * nx) (2 * n .nx) (omega arith) (omega (arith, low-fits)));
+    high = subst (λ (q : ℕ). Part s q (2 * n .nx) (take (p + nx * ny + 2 * nx - (p + nx * ny)) (drop (p + nx * ny) s))) (up ∙ rw (ex, ey)) (part-of s (p + nx * ny) (p + nx * ny + 2 * nx) (2 * n .nx) (omega arith) (omega (arith, high-fits)));
+  }
 
-  -- ---- counting
+-- what a pass over the row requires
+pub row-ready : {n : Size} {s : List ℕ} {cut : Cut} {table a b : List ℕ} {j k : ℕ} {lo hi : List ℕ} → Ready n s cut table a b k → j + 1 < n .ny → Windows n s j k lo hi
+    → RowReady lo hi cut table a b (n .nx) j
+row-ready {n} {s} {cut} {table} {a} {b} {j} {k} {lo} {hi} r hj p = record {
+  short = r .limits .x-low;
+  long = r .limits .x-high;
+  low-long = p .low .long;
+  high-long = p .high .long;
+  masks = r .masks;
+  lower = two-rows (r .lower) j hj (r .limits .y-high) lo (p .low);
+  upper = two-rows (r .upper) j hj (r .limits .y-high) hi (p .high);
+}
 
-  pub count-start : 0 ≡ length (masksIn 0)
-  unfolding below
-  count-start = rw (mul-zero (n .nx - 1))
+-- ---- what the windows give is what the block gives
 
-  pub counted-row : (j m r : ℕ) → m ≡ length (masksIn j) → r ≡ rowCount n s cut j k → m + r ≡ length (masksIn (j + 1))
-  counted-row j m r p q = rw (masks-row j, length-append) (omega arith)
+module _ (loopsOf : Cut → List ℕ → List ℕ) {n : Size} {s : List ℕ} {j k : ℕ} {lo hi : List ℕ} (p : Windows n s j k lo hi) (cut : Cut) (hj : j + 1 < n .ny) where
+  abbrev pub first : ℕ
+  first = rowCube (n .nx) (n .ny) j k
 
-  pub count-rows : (j : ℕ) → j ≡ n .ny - 1 → length (masksIn j) ≡ layerCount n s cut k
-  count-rows j e = rw e
+  corners : (x : ℕ) → x < n .nx - 1 → windowCorners (n .nx) lo hi x ≡ cornersOf n s (first + x)
+  corners x h = window-corners n s j k lo hi p x h (omega arith)
 
-  -- ---- writing
+  pub masks-are : rowMasks loopsOf lo hi cut (n .nx) ≡ runMasks loopsOf n s cut first (n .nx - 1)
+  masks-are = below-same _ _ (n .nx - 1) (λ x h. ap (loopsOf cut) (corners x h))
 
-  -- the vertices of the first j rows were stored from the vertex v on
-  pub record LayerPart (j v : ℕ) (w₀ ws : List ℕ) (o₀ os : List Float) (r : ℕ) : Type 0 where
-    pub stored : Stored v (masksIn j) (wordsIn j) (offsetsIn j) w₀ ws o₀ os r
+  pub words-are : rowWords loopsOf lo hi cut (n .nx) first ≡ runWords loopsOf n s cut first (n .nx - 1)
+  unfolding cubeWords
+  words-are = below-same _ _ (n .nx - 1) (λ x h. ap (λ (cs : List ℕ). wordsBy loopsOf cut cs (first + x)) (corners x h))
 
-  pub layer-start : (v : ℕ) (ws : List ℕ) (os : List Float) → LayerPart 0 v ws ws os os v
-  unfolding below
-  layer-start v ws os = record { stored = rw (mul-zero (n .nx - 1)) (stored-none v ws os) }
+  pub offsets-are : rowOffsets loopsOf lo hi cut (n .nx) ≡ runOffsets loopsOf n s cut first (n .nx - 1)
+  unfolding cubeOffsets
+  offsets-are = below-same _ _ (n .nx - 1) (λ x h. ap (offsetsBy loopsOf cut) (corners x h))
 
-  module _ {j v m : ℕ} {w₀ ws : List ℕ} {o₀ os : List Float} (p : LayerPart j v w₀ ws o₀ os m) where
-    pub layer-next : {r : ℕ} {ws′ : List ℕ} {os′ : List Float} → RowWritten n s cut j k m ws ws′ os os′ r → LayerPart (j + 1) v w₀ ws′ o₀ os′ r
-    layer-next q = record { stored = rw (masks-row j, words-row j, offsets-row j) (stored-join (p .stored) q) }
+  -- the table too
+  pub numbers-are : {v : ℕ} {at : List ℕ} → Numbered (loopsAt loopsOf lo hi cut (n .nx)) (namesAt loopsOf lo hi cut (n .nx)) (n .nx - 1) v at
+      → Numbered (λ (x : ℕ). cubeLoops loopsOf n s cut (first + x)) (λ (x : ℕ). namesBy loopsOf cut (cornersOf n s (first + x))) (n .nx - 1) v at
+  numbers-are {v} {at} q = record {
+    first = λ x l h. q .first x l (there x l h) ∙ ap (λ (ms : List ℕ). v + length ms) (below-same _ _ x (λ y k. ap (loopsOf cut) (corners y (omega arith))));
+    which = λ x l h. q .which x l (there x l h) ∙ ap (λ (cs : List ℕ). whichOf (namesBy loopsOf cut cs)) (corners x l);
+  }
+    where
+      there : (x : ℕ) → x < n .nx - 1 → 0 < length (namesBy loopsOf cut (cornersOf n s (first + x))) → 0 < length (namesAt loopsOf lo hi cut (n .nx) x)
+      there x l h = subst (λ (cs : List ℕ). 0 < length (namesBy loopsOf cut cs)) (sym (corners x l)) h
 
-    -- for which there is room, if there is for the layer's
-    pub layer-room : j < n .ny - 1 → Room s cut v (layerCount n s cut k) w₀ o₀ → Room s cut m (rowCount n s cut j k) ws os
-    layer-room h room =
-        let more = ap length (masks-row j) ∙ length-append (masksIn j) (runMasks n s cut (rowCube (n .nx) (n .ny) j k) (n .nx - 1)) in
-        let all = fewer (λ (x : ℕ). cubeLoops loopsOf n s cut (layerSize n * k + x)) ((n .nx - 1) * (j + 1)) ((n .nx - 1) * (n .ny - 1)) (mul-le-mul-left (n .nx - 1) (up h)) in
-        record {
-          threshold = room .threshold;
-          ceiling = room .ceiling;
-          words-room = omega (arith, p .stored .number, stored-words (p .stored), room .words-room);
-          offsets-room = omega (arith, p .stored .number, stored-offsets (p .stored), room .offsets-room);
-        }
-      where
-        up : {a b : ℕ} → a < b → a + 1 ≤ b
-        up h = omega arith
+-- ---- the row's windows as they are lent
 
-    pub layer-end : j ≡ n .ny - 1 → LayerWritten n s cut k v w₀ ws o₀ os m
-    layer-end e = record {
-      number = p .stored .number ∙ rw e;
-      words-are = p .stored .words-are ∙ rw e;
-      offsets-are = p .stored .offsets-are ∙ rw e;
-    }
+module _ {n : Size} {s : List ℕ} {cut : Cut} {table a b : List ℕ} {k : ℕ} (r : Ready n s cut table a b k) (j nx ny : ℕ) (ex : nx ≡ n .nx) (ey : ny ≡ n .ny) (hj : j + 1 < n .ny) where
+  abbrev pub lentLow : List ℕ
+  lentLow = take (nx * (j + ny * k) + 2 * nx - nx * (j + ny * k)) (drop (nx * (j + ny * k)) s)
+
+  abbrev pub lentHigh : List ℕ
+  lentHigh = take (nx * (j + ny * k) + nx * ny + 2 * nx - (nx * (j + ny * k) + nx * ny)) (drop (nx * (j + ny * k) + nx * ny) s)
+
+  pub lent-windows : Windows n s j k lentLow lentHigh
+  lent-windows = lent n s j k nx ny ex ey (r .samples) hj (r .inside)

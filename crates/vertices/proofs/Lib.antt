@@ -1,8 +1,12 @@
+pub mod CubeCorners
 pub mod Stored
+pub mod Notes
+pub mod ReadBack
 pub mod Cubes
 pub mod Visits
-pub mod CubeCorners
 pub mod Words
 pub mod Rows
 pub mod Layers
+pub mod JoinedFaces
+pub mod CountedWords
 pub mod Fixed

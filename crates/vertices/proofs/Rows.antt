@@ -1,9 +1,8 @@
--- A row of cubes, word by word: the vertices of one word more are counted and stored, and there is room for them.
+-- A row of cubes, word by word: the vertices of one word more are counted, stored and noted, and there is room for them.
 -- Assumes nothing.
 use Prim.Native.Nat.{ℕ, _+_, _*_, _-_, _≤_, _<_}
-use mathlib.Core.Path.{_≡_, ap, _∙_}
+use mathlib.Core.Path.{_≡_, ap, _∙_, subst}
 use mathlib.Core.List.{List, _++_}
-use native.Mathlib.Nat.{mul-le-mul}
 use native.Mathlib.Omega.{arith}
 use lib.Bits.{bitAnd}
 use lib.ListN.{length, length-append}
@@ -11,141 +10,129 @@ use lib.Ieee.{Float}
 use Rattle.laws.specs.Below.{below}
 use Rattle.laws.proofs.Below.{below-add, at-most}
 use Rattle.block.specs.declared.Cut.{Cut}
-use Rattle.block.specs.declared.Size.{Size}
-use Rattle.block.specs.Size.{Limits}
-use Rattle.cube_rule.specs.Decider.{joined, loopsOf}
-use Rattle.cube_rule.proofs.Laws.{cube-laws}
-use Rattle.mesh_rule.specs.Grid.{cornersOf}
-use Rattle.mesh_rule.specs.Buffers.{cubeWords, cubeOffsets}
-use Rattle.mesh_rule.specs.Layers.{rowCube}
-use Rattle.mesh_rule.specs.Mesh.{cubeLoops}
+use Rattle.cube_rule.specs.Laws.{CubeLaws}
+use Rattle.cube_rule.specs.Links.{Decider}
 use Rattle.signs.specs.Signs.{eightOf, activeOf, limitOf}
-use Rattle.vertices.specs.Cubes.{Stored}
-use Rattle.vertices.specs.Layers.{wordLoops, wordWords, wordOffsets, WordReady, WordRoom, WordWritten, Ready, Room, rowCount, RowWritten}
+use Rattle.signs.specs.Windows.{windowCorners}
+use Rattle.vertices.specs.Cubes.{loopsAt, namesAt, wordsAt, offsetsAt, Stored}
+use Rattle.vertices.specs.Layers.{wordLoops, WordReady, WordRoom, WordWritten, rowMasks, RowReady, RowRoom, RowWritten}
+use Rattle.vertices.specs.Tables.{Noted}
+use Rattle.vertices.proofs.Notes.{noted-none, noted-as, noted-join, noted-fewer}
 use Rattle.vertices.proofs.Stored.{stored-none, stored-join, stored-words, stored-offsets}
-use Rattle.vertices.proofs.Words.{upTo, upTo-all, upTo-word, word-ready, loops-word, words-word, offsets-word}
+use Rattle.vertices.proofs.Words.{upTo, upTo-in, upTo-out, upTo-all, upTo-word, set-in, word-ready, loops-same, names-same, loops-word, words-word, offsets-word}
 
--- the names that the code has for a row's word: two of the size's lengths, the first of them twice, the eight words, the active bits, and the limit
-pub record WordTold (n : Size) (a b : List ℕ) (j w nx ny mx : ℕ) (eight : List ℕ) (active limit : ℕ) : Type 0 where
-  pub nx-is : nx ≡ n .nx
-  pub ny-is : ny ≡ n .ny
-  pub mx-is : mx ≡ n .nx
+-- the names that the code has for a row's word: the eight words, the active bits, and the limit
+pub record WordTold (a b : List ℕ) (nx j w : ℕ) (eight : List ℕ) (active limit : ℕ) : Type 0 where
   pub eight-is : eight ≡ eightOf a b (5 * j + w)
   pub active-is : active ≡ activeOf eight
-  pub limit-is : limit ≡ limitOf (mx - 1) w
+  pub limit-is : limit ≡ limitOf (nx - 1) w
 
-module _ (n : Size) (s : List ℕ) (cut : Cut) (j k : ℕ) where
+module _ (loopsOf : Cut → List ℕ → List ℕ) (lo hi : List ℕ) (cut : Cut) (nx : ℕ) where
   -- the masks, words and offsets of the row's cubes before x
   abbrev pub masksTo : ℕ → List ℕ
-  masksTo x = below (upTo (n .nx - 1) (λ (y : ℕ). cubeLoops loopsOf n s cut (rowCube (n .nx) (n .ny) j k + y))) x
+  masksTo x = below (upTo (nx - 1) (loopsAt loopsOf lo hi cut nx)) x
 
-  abbrev pub wordsTo : ℕ → List ℕ
-  wordsTo x = below (upTo (n .nx - 1) (λ (y : ℕ). cubeWords n s cut (rowCube (n .nx) (n .ny) j k + y))) x
+  abbrev pub wordsTo : ℕ → ℕ → List ℕ
+  wordsTo c x = below (upTo (nx - 1) (λ (y : ℕ). wordsAt loopsOf lo hi cut nx (c + y) y)) x
 
   abbrev pub offsetsTo : ℕ → List Float
-  offsetsTo x = below (upTo (n .nx - 1) (λ (y : ℕ). cubeOffsets n s cut (rowCube (n .nx) (n .ny) j k + y))) x
+  offsetsTo x = below (upTo (nx - 1) (offsetsAt loopsOf lo hi cut nx)) x
 
   -- no more than all
-  pub masks-le : (x : ℕ) → length (masksTo x) ≤ rowCount n s cut j k
+  pub masks-le : (x : ℕ) → length (masksTo x) ≤ length (rowMasks loopsOf lo hi cut nx)
   masks-le x =
       omega (
         arith,
-        ap length (below-add f x (n .nx - 1)),
-        length-append (below f x) (below (λ (y : ℕ). f (x + y)) (n .nx - 1)),
-        ap length (upTo-all (n .nx - 1) (λ (y : ℕ). cubeLoops loopsOf n s cut (rowCube (n .nx) (n .ny) j k + y)) (x + (n .nx - 1)) (omega arith)),
+        ap length (below-add f x (nx - 1)),
+        length-append (below f x) (below (λ (y : ℕ). f (x + y)) (nx - 1)),
+        ap length (upTo-all (nx - 1) (loopsAt loopsOf lo hi cut nx) (x + (nx - 1)) (omega arith)),
       )
     where
       f : ℕ → List ℕ
-      f = upTo (n .nx - 1) (λ (y : ℕ). cubeLoops loopsOf n s cut (rowCube (n .nx) (n .ny) j k + y))
+      f = upTo (nx - 1) (loopsAt loopsOf lo hi cut nx)
 
   -- all of them
-  pub count-end : (w : ℕ) → n .nx - 1 ≤ 64 * w → length (masksTo (64 * w)) ≡ rowCount n s cut j k
-  count-end w h = ap length (upTo-all (n .nx - 1) (λ (y : ℕ). cubeLoops loopsOf n s cut (rowCube (n .nx) (n .ny) j k + y)) (64 * w) h)
+  pub count-end : (w : ℕ) → nx - 1 ≤ 64 * w → length (masksTo (64 * w)) ≡ length (rowMasks loopsOf lo hi cut nx)
+  count-end w h = ap length (upTo-all (nx - 1) (loopsAt loopsOf lo hi cut nx) (64 * w) h)
 
-  pub row-count-le : rowCount n s cut j k ≤ 4 * (n .nx - 1)
-  row-count-le = at-most (λ (y : ℕ). cubeLoops loopsOf n s cut (rowCube (n .nx) (n .ny) j k + y)) 4 (n .nx - 1) (λ m l. cube-laws joined .four cut (cornersOf n s (rowCube (n .nx) (n .ny) j k + m)))
+  pub row-count-le : ((cs : List ℕ) → length (loopsOf cut cs) ≤ 4) → length (rowMasks loopsOf lo hi cut nx) ≤ 4 * (nx - 1)
+  row-count-le four = at-most (loopsAt loopsOf lo hi cut nx) 4 (nx - 1) (λ m l. four (windowCorners nx lo hi m))
 
--- the vertices of the cubes of the words before w were stored from the vertex v on
-pub record RowPart (n : Size) (s : List ℕ) (cut : Cut) (j k w v : ℕ) (w₀ ws : List ℕ) (o₀ os : List Float) (r : ℕ) : Type 0 where
-  pub stored : Stored v (masksTo n s cut j k (64 * w)) (wordsTo n s cut j k (64 * w)) (offsetsTo n s cut j k (64 * w)) w₀ ws o₀ os r
+-- the vertices of the cubes of the words before w were stored and noted, from the vertex v on
+pub record RowPart (loopsOf : Cut → List ℕ → List ℕ) (lo hi : List ℕ) (cut : Cut) (nx c w v : ℕ) (w₀ ws : List ℕ) (o₀ os : List Float) (old new : List ℕ) (r : ℕ) : Type 0 where
+  pub stored : Stored v (masksTo loopsOf lo hi cut nx (64 * w)) (wordsTo loopsOf lo hi cut nx c (64 * w)) (offsetsTo loopsOf lo hi cut nx (64 * w)) w₀ ws o₀ os r
+  pub noted : Noted (upTo (nx - 1) (loopsAt loopsOf lo hi cut nx)) (upTo (nx - 1) (namesAt loopsOf lo hi cut nx)) 0 (64 * w) v old new
 
-pub row-start : (n : Size) (s : List ℕ) (cut : Cut) (j k v : ℕ) (ws : List ℕ) (os : List Float) → RowPart n s cut j k 0 v ws ws os os v
+pub row-start : (loopsOf : Cut → List ℕ → List ℕ) (lo hi : List ℕ) (cut : Cut) (nx c v : ℕ) (ws : List ℕ) (os : List Float) (numbers : List ℕ) → RowPart loopsOf lo hi cut nx c 0 v ws ws os os numbers numbers v
 unfolding below
-row-start n s cut j k v ws os = record { stored = stored-none v ws os }
+row-start loopsOf lo hi cut nx c v ws os numbers = record { stored = stored-none v ws os; noted = noted-none _ _ 0 v numbers }
 
-pub row-end : {n : Size} {s : List ℕ} {cut : Cut} {j k w v : ℕ} {w₀ ws : List ℕ} {o₀ os : List Float} {r : ℕ}
-    → RowPart n s cut j k w v w₀ ws o₀ os r → n .nx - 1 ≤ 64 * w → RowWritten n s cut j k v w₀ ws o₀ os r
-row-end {n} {s} {cut} {j} {k} {w} p h =
-    rw (
-      ← upTo-all (n .nx - 1) (λ (y : ℕ). cubeLoops loopsOf n s cut (rowCube (n .nx) (n .ny) j k + y)) (64 * w) h,
-      ← upTo-all (n .nx - 1) (λ (y : ℕ). cubeWords n s cut (rowCube (n .nx) (n .ny) j k + y)) (64 * w) h,
-      ← upTo-all (n .nx - 1) (λ (y : ℕ). cubeOffsets n s cut (rowCube (n .nx) (n .ny) j k + y)) (64 * w) h,
-    ) (p .stored)
+pub row-end : {loopsOf : Cut → List ℕ → List ℕ} {lo hi : List ℕ} {cut : Cut} {nx c w v : ℕ} {w₀ ws : List ℕ} {o₀ os : List Float} {old new : List ℕ} {r : ℕ}
+    → RowPart loopsOf lo hi cut nx c w v w₀ ws o₀ os old new r → nx - 1 ≤ 64 * w → RowWritten loopsOf lo hi cut nx c v w₀ ws o₀ os old new r
+row-end {loopsOf} {lo} {hi} {cut} {nx} {c} {w} {v} {w₀} {ws} {o₀} {os} {old} {new} p h = record {
+  stored =
+      rw (
+        ← upTo-all (nx - 1) (loopsAt loopsOf lo hi cut nx) (64 * w) h,
+        ← upTo-all (nx - 1) (λ (y : ℕ). wordsAt loopsOf lo hi cut nx (c + y) y) (64 * w) h,
+        ← upTo-all (nx - 1) (offsetsAt loopsOf lo hi cut nx) (64 * w) h,
+      ) (p .stored);
+  noted =
+      noted-as (noted-fewer h (λ z k l. upTo-out (nx - 1) (namesAt loopsOf lo hi cut nx) z k) (p .noted)) (loopsAt loopsOf lo hi cut nx) (namesAt loopsOf lo hi cut nx)
+      (λ y k. upTo-in (nx - 1) (loopsAt loopsOf lo hi cut nx) y k) (λ y k. upTo-in (nx - 1) (namesAt loopsOf lo hi cut nx) y k);
+}
 
-module _ {n : Size} {s : List ℕ} {cut : Cut} {table a b : List ℕ} {k : ℕ} (ready : Ready n s cut table a b k) (j : ℕ) (hj : j + 1 < n .ny) (w : ℕ) (hw : w < 4)
-    {nx ny mx : ℕ} {eight : List ℕ} {active limit : ℕ} (t : WordTold n a b j w nx ny mx eight active limit) where
-  pub told-ready : WordReady s cut table nx (nx * ny) (nx * (j + ny * k) + 64 * w) eight (bitAnd active limit)
-  told-ready = rw (t .limit-is, t .active-is, t .eight-is, t .mx-is, t .nx-is, t .ny-is) (word-ready ready j hj w hw)
+module _ {D : Decider} {loopsOf : Cut → List ℕ → List ℕ} (laws : CubeLaws D loopsOf) {lo hi : List ℕ} {cut : Cut} {table a b : List ℕ} {nx j : ℕ} (ready : RowReady lo hi cut table a b nx j) (w : ℕ) (hw : w < 4)
+    {eight : List ℕ} {active limit : ℕ} (t : WordTold a b nx j w eight active limit) where
+  pub told-ready : WordReady lo hi cut table nx (64 * w) eight (bitAnd active limit)
+  told-ready = rw (t .limit-is, t .active-is, t .eight-is) (word-ready ready w hw)
 
-  told-loops : wordLoops s cut nx (nx * ny) (bitAnd active limit) (nx * (j + ny * k) + 64 * w)
-      ≡ below (λ (x : ℕ). upTo (n .nx - 1) (λ (y : ℕ). cubeLoops loopsOf n s cut (rowCube (n .nx) (n .ny) j k + y)) (64 * w + x)) 64
-  told-loops = rw (t .limit-is, t .active-is, t .eight-is, t .mx-is, t .nx-is, t .ny-is) (loops-word ready j hj w hw)
+  act-is : bitAnd active limit ≡ bitAnd (activeOf (eightOf a b (5 * j + w))) (limitOf (nx - 1) w)
+  act-is = rw (t .limit-is, t .active-is, t .eight-is)
 
-  told-words : wordWords s cut nx (nx * ny) (bitAnd active limit) (nx * (j + ny * k) + 64 * w) ((nx - 1) * (j + (ny - 1) * k) + 64 * w)
-      ≡ below (λ (x : ℕ). upTo (n .nx - 1) (λ (y : ℕ). cubeWords n s cut (rowCube (n .nx) (n .ny) j k + y)) (64 * w + x)) 64
-  told-words = rw (t .limit-is, t .active-is, t .eight-is, t .mx-is, t .nx-is, t .ny-is) (words-word ready j hj w hw)
-
-  told-offsets : wordOffsets s cut nx (nx * ny) (bitAnd active limit) (nx * (j + ny * k) + 64 * w)
-      ≡ below (λ (x : ℕ). upTo (n .nx - 1) (λ (y : ℕ). cubeOffsets n s cut (rowCube (n .nx) (n .ny) j k + y)) (64 * w + x)) 64
-  told-offsets = rw (t .limit-is, t .active-is, t .eight-is, t .mx-is, t .nx-is, t .ny-is) (offsets-word ready j hj w hw)
+  told-loops : wordLoops loopsOf lo hi cut nx (bitAnd active limit) (64 * w) ≡ below (λ (x : ℕ). upTo (nx - 1) (loopsAt loopsOf lo hi cut nx) (64 * w + x)) 64
+  told-loops = rw act-is (loops-word laws ready w hw)
 
   -- one word more: its loops
-  word-more : masksTo n s cut j k (64 * (w + 1)) ≡ masksTo n s cut j k (64 * w) ++ wordLoops s cut nx (nx * ny) (bitAnd active limit) (nx * (j + ny * k) + 64 * w)
-  word-more = upTo-word (n .nx - 1) (λ (y : ℕ). cubeLoops loopsOf n s cut (rowCube (n .nx) (n .ny) j k + y)) w ∙ rw told-loops
+  word-more : masksTo loopsOf lo hi cut nx (64 * (w + 1)) ≡ masksTo loopsOf lo hi cut nx (64 * w) ++ wordLoops loopsOf lo hi cut nx (bitAnd active limit) (64 * w)
+  word-more = upTo-word (nx - 1) (loopsAt loopsOf lo hi cut nx) w ∙ rw told-loops
 
-  pub counted-word : (m r : ℕ) → m ≡ length (masksTo n s cut j k (64 * w)) → r ≡ length (wordLoops s cut nx (nx * ny) (bitAnd active limit) (nx * (j + ny * k) + 64 * w))
-      → m + r ≡ length (masksTo n s cut j k (64 * (w + 1)))
+  pub counted-word : (m r : ℕ) → m ≡ length (masksTo loopsOf lo hi cut nx (64 * w)) → r ≡ length (wordLoops loopsOf lo hi cut nx (bitAnd active limit) (64 * w))
+      → m + r ≡ length (masksTo loopsOf lo hi cut nx (64 * (w + 1)))
   counted-word m r p q = rw (word-more, length-append) (omega arith)
 
   -- and its vertices
-  pub row-next : {v m r : ℕ} {w₀ ws ws′ : List ℕ} {o₀ os os′ : List Float} → RowPart n s cut j k w v w₀ ws o₀ os m
-      → WordWritten s cut nx (nx * ny) (nx * (j + ny * k) + 64 * w) (bitAnd active limit) ((nx - 1) * (j + (ny - 1) * k) + 64 * w) m ws ws′ os os′ r
-      → RowPart n s cut j k (w + 1) v w₀ ws′ o₀ os′ r
-  row-next p q = record {
-    stored =
-        rw (
-          upTo-word (n .nx - 1) (λ (y : ℕ). cubeLoops loopsOf n s cut (rowCube (n .nx) (n .ny) j k + y)) w,
-          upTo-word (n .nx - 1) (λ (y : ℕ). cubeWords n s cut (rowCube (n .nx) (n .ny) j k + y)) w,
-          upTo-word (n .nx - 1) (λ (y : ℕ). cubeOffsets n s cut (rowCube (n .nx) (n .ny) j k + y)) w,
-        )
-        (stored-join (p .stored) (rw (told-loops, told-words, told-offsets) at q));
-  }
+  module _ {c v m : ℕ} {w₀ ws : List ℕ} {o₀ os : List Float} {old new : List ℕ} (p : RowPart loopsOf lo hi cut nx c w v w₀ ws o₀ os old new m) where
+    pub row-next : {r : ℕ} {ws′ : List ℕ} {os′ : List Float} {new′ : List ℕ} → WordWritten loopsOf lo hi cut nx (64 * w) (bitAnd active limit) (c + 64 * w) m ws ws′ os os′ new new′ r
+        → RowPart loopsOf lo hi cut nx c (w + 1) v w₀ ws′ o₀ os′ old new′ r
+    row-next {r} {ws′} {os′} {new′} q = record {
+      stored =
+          rw (
+            upTo-word (nx - 1) (loopsAt loopsOf lo hi cut nx) w,
+            upTo-word (nx - 1) (λ (y : ℕ). wordsAt loopsOf lo hi cut nx (c + y) y) w,
+            upTo-word (nx - 1) (offsetsAt loopsOf lo hi cut nx) w,
+          )
+          (stored-join (p .stored) (rw (act-is, loops-word laws ready w hw, words-word laws ready w hw c, offsets-word laws ready w hw) at (q .stored)));
+      noted =
+          subst (λ (n : ℕ). Noted (upTo (nx - 1) (loopsAt loopsOf lo hi cut nx)) (upTo (nx - 1) (namesAt loopsOf lo hi cut nx)) 0 n v old new′) more
+          (noted-join (p .noted) (p .stored .number)
+          (noted-as (rw act-is at (q .noted)) (λ (y : ℕ). upTo (nx - 1) (loopsAt loopsOf lo hi cut nx) (64 * w + y)) (λ (y : ℕ). upTo (nx - 1) (namesAt loopsOf lo hi cut nx) (64 * w + y)) (loops-same laws ready w hw) (names-same laws ready w hw)));
+    }
+      where
+        more : 64 * w + 64 ≡ 64 * (w + 1)
+        more = omega arith
 
-  -- for which there is room, if there is for the row's
-  pub row-room : {v m c : ℕ} {w₀ ws : List ℕ} {o₀ os : List Float} → Room s cut v (rowCount n s cut j k) w₀ o₀ → RowPart n s cut j k w v w₀ ws o₀ os m → c ≤ 16777216
-      → WordRoom s cut nx (nx * ny) (nx * (j + ny * k) + 64 * w) (bitAnd active limit) c m ws os
-  row-room room p small =
-      let more = ap length word-more ∙ length-append (masksTo n s cut j k (64 * w)) (wordLoops s cut nx (nx * ny) (bitAnd active limit) (nx * (j + ny * k) + 64 * w)) in
-      let all = masks-le n s cut j k (64 * (w + 1)) in
-      record {
-        small = small;
-        threshold = room .threshold;
-        samples = room .ceiling;
-        words-room = omega (arith, p .stored .number, stored-words (p .stored), room .words-room);
-        offsets-room = omega (arith, p .stored .number, stored-offsets (p .stored), room .offsets-room);
-      }
-
--- the numbers of a row fit
-pub row-bounds : (n : Size) (nx ny j k : ℕ) → Limits n → nx ≡ n .nx → ny ≡ n .ny → j + 1 < n .ny → k + 1 < n .nz
-    → (nx * ny ≤ 65536) × (ny * k ≤ 65024) × (nx * (j + ny * k) ≤ 16711168) × ((ny - 1) * k ≤ 64770) × ((nx - 1) * (j + (ny - 1) * k) ≤ 16581120)
-row-bounds n nx ny j k l ex ey hj hk =
-    let x : nx ≤ 256 = omega (arith, l .x-high) in
-    let y : ny ≤ 256 = omega (arith, l .y-high) in
-    let x1 : nx - 1 ≤ 255 = omega arith in
-    let y1 : ny - 1 ≤ 255 = omega arith in
-    let z : k ≤ 254 = omega (arith, l .z-high) in
-    let a : ny * k ≤ 256 * 254 = mul-le-mul y z in
-    let b : (ny - 1) * k ≤ 255 * 254 = mul-le-mul y1 z in
-    let c : j + ny * k ≤ 65278 = omega arith in
-    let d : j + (ny - 1) * k ≤ 65024 = omega arith in
-    (mul-le-mul x y, a, mul-le-mul x c, b, mul-le-mul x1 d)
+    -- for which there is room, if there is for the row's
+    pub row-room : RowRoom loopsOf lo hi cut nx c v w₀ o₀ old → WordRoom loopsOf lo hi cut nx (64 * w) (bitAnd active limit) (c + 64 * w) m ws os new
+    row-room room =
+        let more = ap length word-more ∙ length-append (masksTo loopsOf lo hi cut nx (64 * w)) (wordLoops loopsOf lo hi cut nx (bitAnd active limit) (64 * w)) in
+        let all = masks-le loopsOf lo hi cut nx (64 * (w + 1)) in
+        record {
+          small = omega (arith, room .small);
+          threshold = room .threshold;
+          clear-low = room .clear-low;
+          clear-high = room .clear-high;
+          words-room = omega (arith, p .stored .number, stored-words (p .stored), room .words-room);
+          offsets-room = omega (arith, p .stored .number, stored-offsets (p .stored), room .offsets-room);
+          numbers-room = λ x h s. omega (arith, set-in ready w hw x h (rw act-is at s), ready .long, p .noted .long, room .numbers-room);
+          few = omega (arith, p .stored .number, room .few);
+        }

@@ -1,22 +1,26 @@
 -- The cubes of a word visited by its set bits: those passed are counted and written, since those skipped are not picked.
 -- Assumes nothing.
-use Prim.Native.Nat.{ℕ, _+_, _*_, _-_, _/_, _%_, _^_, _≤_, _<_}
-use mathlib.Core.Path.{_≡_, ap, sym, _∙_}
-use mathlib.Core.Bool.{true, cond}
+use Prim.Native.Nat.{ℕ, zero, suc, _+_, _*_, _-_, _/_, _%_, _^_, _≤_, _<_}
+use mathlib.Core.Path.{_≡_, refl, ap, sym, _∙_, subst}
+use mathlib.Core.Bool.{Bool, true, false, cond, false≢true}
 use mathlib.Core.List.{List, [], _++_}
 use native.Mathlib.Omega.{arith}
 use borrow.Author.Tests.{eq-eqb}
-use lib.Count.{trailingZeros}
+use lib.Bits.{bitXor}
+use lib.Count.{ones, trailingZeros}
 use lib.Dec.{eqb}
 use lib.ListN.{length, length-append}
 use lib.Ieee.{Float}
 use Rattle.laws.specs.Below.{below}
-use Rattle.laws.specs.Bits.{holds}
+use Rattle.laws.specs.Bits.{bit, differ, holds}
+use Rattle.laws.specs.Pack.{total}
 use Rattle.laws.proofs.Below.{length-below}
 use Rattle.laws.proofs.Visit.{Left, left-start, left-in, left-set, left-skip, left-end, below-none, below-one, below-skip}
-use Rattle.laws.proofs.Words.{word-of}
+use Rattle.laws.proofs.Words.{word-of, word-ones, digit-holds, xor-holds}
 use Rattle.vertices.specs.Cubes.{Stored}
 use Rattle.vertices.specs.Layers.{picked}
+use Rattle.vertices.specs.Tables.{Noted}
+use Rattle.vertices.proofs.Notes.{OneNoted, noted-skip, noted-one}
 use Rattle.vertices.proofs.Stored.{stored-none, stored-join, stored-words, stored-offsets}
 
 -- the bits of a word
@@ -67,9 +71,9 @@ module _ (act : ℕ) {i w : ℕ} (l : Left (bitsOf act) 64 i w) where
   -- ---- counting
 
   module _ (f : ℕ → List ℕ) where
-    pub counted-next : (w ≡ 0 → ⊥) → (m r : ℕ) → m ≡ length (below (picked act f) i) → r ≡ length (f (i + trailingZeros 64 w))
-        → m + r ≡ length (below (picked act f) (i + trailingZeros 64 w + 1))
-    counted-next ne m r p q =
+    pub counted-next : (w ≡ 0 → ⊥) → (n m r : ℕ) → m ≡ n + length (below (picked act f) i) → r ≡ length (f (i + trailingZeros 64 w))
+        → m + r ≡ n + length (below (picked act f) (i + trailingZeros 64 w + 1))
+    counted-next ne n m r p q =
         rw (picked-next f ne, length-append) (omega arith)
 
   -- ---- writing
@@ -91,8 +95,74 @@ module _ (act : ℕ) {i w : ℕ} (l : Left (bitsOf act) 64 i w) where
     pub offsets-next : (w ≡ 0 → ⊥) → 3 * (v + length (below (picked act f) 64)) ≤ length o₀ → 3 * (m + length (f (i + trailingZeros 64 w))) ≤ length os
     offsets-next ne room = omega (arith, s .number, stored-offsets s, picked-room f ne)
 
+-- ---- noting
+
+module _ (act : ℕ) {i w : ℕ} (l : Left (bitsOf act) 64 i w) (g f : ℕ → List ℕ) {from v : ℕ} {old new : List ℕ} (p : Noted (picked act g) (picked act f) from i v old new) where
+  back : (z : ℕ) → i ≤ z → i + (z - i) ≡ z
+  back z a = omega arith
+
+  pub noted-next : (w ≡ 0 → ⊥) → {new′ : List ℕ} (r : ℕ) → r ≡ v + length (below (picked act g) i) → 0 < length (f (i + trailingZeros 64 w))
+      → OneNoted (f (i + trailingZeros 64 w)) (from + (i + trailingZeros 64 w)) r new new′ → Noted (picked act g) (picked act f) from (i + trailingZeros 64 w + 1) v old new′
+  noted-next ne {new′} r e some c =
+      noted-one (noted-skip p (i + trailingZeros 64 w) (omega arith) (λ z a b. skipped z a b)) r (e ∙ ap (λ (ms : List ℕ). v + length ms) (sym (to-next act l g ne)))
+      (subst (λ (ws : List ℕ). 0 < length ws) here some) (subst (λ (ws : List ℕ). OneNoted ws (from + (i + trailingZeros 64 w)) r new new′) here c)
+    where
+      here : f (i + trailingZeros 64 w) ≡ picked act f (i + trailingZeros 64 w)
+      here = sym (picked-set act f (i + trailingZeros 64 w) (visit-set act l ne))
+
+      skipped : (z : ℕ) → i ≤ z → z < i + trailingZeros 64 w → picked act f z ≡ []
+      skipped z a b = picked-unset act f z (ap (bitsOf act) (sym (back z a)) ∙ left-skip l ne (z - i) (omega arith))
+
+  pub noted-end : w ≡ 0 → Noted (picked act g) (picked act f) from 64 v old new
+  noted-end e = noted-skip p 64 (l .in-n) (λ z a b. picked-unset act f z (ap (bitsOf act) (sym (back z a)) ∙ left-end l e (z - i) (omega arith)))
+
 pub nothing-visited : {A : Type 0} (act : ℕ) (f : ℕ → List A) → [] ≡ below (picked act f) 0
 nothing-visited act f = sym (below-none (picked act f))
+
+-- ---- cubes with as many loops each, counted together
+
+-- one list more, one number more
+length-more : (f : ℕ → List ℕ) (n : ℕ) → length (below f (suc n)) ≡ length (below f n) + length (f n)
+unfolding below
+length-more f n = length-append (below f n) (f n)
+
+total-more : (f : ℕ → ℕ) (n : ℕ) → total f (suc n) ≡ f n + total f n
+unfolding total
+total-more f n = refl
+
+-- Some of the picked give k each: k times as many as they are, and what the others give.
+module _ (k act some : ℕ) (f : ℕ → List ℕ) where
+  part : (x : ℕ) → (holds some x ≡ true → (holds act x ≡ true) × (length (f x) ≡ k))
+      → k * bitsOf some x + length (picked (bitXor act some) f x) ≡ length (picked act f x)
+  part x h = rw (digit-holds some x, xor-holds act some x) (go (holds act x) (holds some x) h)
+    where
+      go : (a b : Bool) → (b ≡ true → (a ≡ true) × (length (f x) ≡ k)) → k * bit b + length (cond (differ a b) (f x) []) ≡ length (cond a (f x) [])
+      go true true h = omega (arith, h refl .1)
+      go true false h = omega arith
+      go false true h = absurd (false≢true (h refl .0))
+      go false false h = omega arith
+
+  parts : (n : ℕ) → ((x : ℕ) → x < n → holds some x ≡ true → (holds act x ≡ true) × (length (f x) ≡ k))
+      → k * total (bitsOf some) n + length (below (picked (bitXor act some) f) n) ≡ length (below (picked act f) n)
+  unfolding total below
+  parts zero h = omega arith
+  parts (suc n) h =
+      omega (
+        arith,
+        ap (λ (t : ℕ). k * t) (total-more (bitsOf some) n),
+        length-more (picked (bitXor act some) f) n,
+        length-more (picked act f) n,
+        parts n (λ x l. h x (omega arith)),
+        part n (h n (omega arith)),
+      )
+
+  pub counted-each : some < 2 ^ 64 → ((x : ℕ) → x < 64 → holds some x ≡ true → (holds act x ≡ true) × (length (f x) ≡ k))
+      → k * ones some + length (below (picked (bitXor act some) f) 64) ≡ length (below (picked act f) 64)
+  counted-each small h = ap (λ (n : ℕ). k * n + length (below (picked (bitXor act some) f) 64)) (word-ones (word-of some 64 small)) ∙ parts 64 h
+
+-- no bit, nothing picked
+pub picked-none : {A : Type 0} (act : ℕ) (f : ℕ → List A) → act ≡ 0 → [] ≡ below (picked act f) 64
+picked-none act f e = nothing-visited act f ∙ picked-end act (visit-start act (rw e (omega arith))) f e
 
 pub stored-start : (act v : ℕ) (f g : ℕ → List ℕ) (h : ℕ → List Float) (ws : List ℕ) (os : List Float)
     → Stored v (below (picked act f) 0) (below (picked act g) 0) (below (picked act h) 0) ws ws os os v

@@ -2,9 +2,9 @@
 -- the row that have loops.
 -- Assumes nothing.
 use Prim.Native.Nat.{ℕ, _+_, _*_, _-_, _/_, _%_, _^_, _≤_, _<_}
-use mathlib.Core.Path.{_≡_, ap, ap₂, sym, _∙_}
+use mathlib.Core.Path.{_≡_, refl, ap, sym, _∙_}
 use mathlib.Core.Logic.{_⊎_, inl, inr}
-use mathlib.Core.Bool.{true, cond}
+use mathlib.Core.Bool.{Bool, true, false, cond, _&&_}
 use mathlib.Core.List.{List, [], _++_}
 use native.Mathlib.Nat.{eq-zero-or-pos}
 use native.Mathlib.Omega.{arith}
@@ -16,24 +16,20 @@ use Rattle.laws.specs.Bits.{holds}
 use Rattle.laws.proofs.Below.{below-add, below-same}
 use Rattle.laws.proofs.Tests.{lt-or-ge}
 use Rattle.laws.proofs.Visit.{below-skip}
+use Rattle.laws.proofs.Words.{and-holds}
 use Rattle.block.specs.declared.Cut.{Cut}
-use Rattle.block.specs.declared.Size.{Size}
-use Rattle.block.specs.Numbering.{sampleIndex, cubeNumber}
-use Rattle.cube_rule.specs.Decider.{joined, loopsOf}
-use Rattle.cube_rule.specs.Edges.{patternOf}
-use Rattle.cube_rule.proofs.Laws.{cube-laws}
-use Rattle.mesh_rule.specs.Grid.{cornersAt, cornersOf, metal}
-use Rattle.mesh_rule.specs.Buffers.{cubeWords, cubeOffsets}
-use Rattle.mesh_rule.specs.Layers.{rowCube, rowSample}
-use Rattle.mesh_rule.specs.Mesh.{cubeLoops}
-use Rattle.mesh_rule.proofs.Numbers.{corners-of-number}
+use Rattle.block.specs.Grey.{positive}
+use Rattle.cube_rule.specs.Laws.{CubeLaws}
+use Rattle.cube_rule.specs.Links.{Decider}
+use Rattle.cube_rule.specs.Edges.{cornerSample}
 use Rattle.signs.specs.Signs.{eightOf, activeOf, limitOf}
+use Rattle.signs.specs.Windows.{windowCorners}
 use Rattle.signs.proofs.Cubes.{pattern-is, active-quiet}
+use Rattle.signs.proofs.PlainCubes.{active-bit}
 use Rattle.signs.proofs.Masks.{limit-keeps, limit-clears}
-use Rattle.vertices.specs.Cubes.{cornersFrom, wordsBy, offsetsBy}
-use Rattle.vertices.specs.Layers.{picked, wordLoops, wordWords, wordOffsets, WordReady, Ready}
+use Rattle.vertices.specs.Cubes.{namesBy, wordsBy, offsetsBy, loopsAt, namesAt, wordsAt, offsetsAt}
+use Rattle.vertices.specs.Layers.{picked, wordLoops, wordWords, wordOffsets, WordReady, RowReady}
 use Rattle.vertices.proofs.Visits.{bitsOf, picked-set, picked-unset}
-use Rattle.vertices.proofs.CubeCorners.{corners-at, corners-of, corners-inside}
 
 -- ---- the cubes of a row, as far as they go
 
@@ -64,101 +60,94 @@ upTo-word m f w = ap (below (upTo m f)) next ∙ below-add (upTo m f) (64 * w) 6
     next : 64 * (w + 1) ≡ 64 * w + 64
     next = omega arith
 
--- ---- the cubes of the word w of the row j
+both-left : (a b : Bool) → (a && b) ≡ true → a ≡ true
+both-left true b e = refl
+both-left false b e = e
 
-module _ {n : Size} {s : List ℕ} {cut : Cut} {table a b : List ℕ} {k : ℕ} (ready : Ready n s cut table a b k)
-    (j : ℕ) (hj : j + 1 < n .ny) (w : ℕ) (hw : w < 4) where
+-- ---- the cubes of the word w of a row
+
+module _ {lo hi : List ℕ} {cut : Cut} {table a b : List ℕ} {nx j : ℕ} (ready : RowReady lo hi cut table a b nx j) (w : ℕ) (hw : w < 4) where
   abbrev e : List ℕ
   e = eightOf a b (5 * j + w)
 
   abbrev pub actOf : ℕ
-  actOf = bitAnd (activeOf (eightOf a b (5 * j + w))) (limitOf (n .nx - 1) w)
+  actOf = bitAnd (activeOf (eightOf a b (5 * j + w))) (limitOf (nx - 1) w)
 
   -- a set bit is a cube of the row
-  set-in : (x : ℕ) → x < 64 → holds actOf x ≡ true → 64 * w + x < n .nx - 1
-  set-in x h t = go (lt-or-ge (64 * w + x) (n .nx - 1))
+  pub set-in : (x : ℕ) → x < 64 → holds actOf x ≡ true → 64 * w + x < nx - 1
+  set-in x h t = go (lt-or-ge (64 * w + x) (nx - 1))
     where
-      go : (64 * w + x < n .nx - 1) ⊎ (n .nx - 1 ≤ 64 * w + x) → 64 * w + x < n .nx - 1
+      go : (64 * w + x < nx - 1) ⊎ (nx - 1 ≤ 64 * w + x) → 64 * w + x < nx - 1
       go (inl l) = l
-      go (inr g) = absurd (omega (arith, limit-clears (activeOf e) (n .nx - 1) w x h g, eqb-true (actOf / 2 ^ x % 2) 1 t))
+      go (inr g) = absurd (omega (arith, limit-clears (activeOf e) (nx - 1) w x h g, eqb-true (actOf / 2 ^ x % 2) 1 t))
 
-  index : (x : ℕ) → rowSample (n .nx) (n .ny) j k + 64 * w + x ≡ sampleIndex n (64 * w + x) j k
-  index x = omega arith
-
-  number : (x : ℕ) → rowCube (n .nx) (n .ny) j k + (64 * w + x) ≡ cubeNumber n (64 * w + x) j k
-  number x = omega arith
-
-  pub word-ready : WordReady s cut table (n .nx) (n .nx * n .ny) (rowSample (n .nx) (n .ny) j k + 64 * w) e actOf
+  pub word-ready : WordReady lo hi cut table nx (64 * w) e actOf
   word-ready = record {
     masks = ready .masks;
-    inside = λ x h t. rw (ready .samples) (corners-inside n (rowSample (n .nx) (n .ny) j k + 64 * w + x) (64 * w + x) j k (index x) (more (set-in x h t)) hj (ready .inside));
-    signs = λ x h t.
-        pattern-is (ready .lower) (ready .upper) j w x hj hw h (more (set-in x h t))
-        ∙ ap (patternOf cut) (sym (corners-at n s (rowSample (n .nx) (n .ny) j k + 64 * w + x) (64 * w + x) j k (index x)));
+    low-in = λ x h t. omega (arith, set-in x h t, ready .low-long);
+    high-in = λ x h t. omega (arith, set-in x h t, ready .high-long);
+    signs = λ x h t. pattern-is (ready .lower) (ready .upper) w x hw h (omega (arith, set-in x h t));
+    active = λ x h t. sym (active-bit e x) ∙ both-left (holds (activeOf e) x) (holds (limitOf (nx - 1) w) x) (sym (and-holds (activeOf e) (limitOf (nx - 1) w) x) ∙ t);
   }
-    where
-      more : {i m : ℕ} → i < m - 1 → i + 1 < m
-      more h = omega arith
+
+-- ---- whatever the loops of a cube are
+
+module _ {D : Decider} {loopsOf : Cut → List ℕ → List ℕ} (laws : CubeLaws D loopsOf) {lo hi : List ℕ} {cut : Cut} {table a b : List ℕ} {nx j : ℕ} (ready : RowReady lo hi cut table a b nx j) (w : ℕ) (hw : w < 4) where
+  abbrev eight : List ℕ
+  eight = eightOf a b (5 * j + w)
+
+  abbrev act : ℕ
+  act = actOf ready w hw
 
   -- a cube of the row whose bit is not set has no loop
-  quiet : (x : ℕ) → x < 64 → 64 * w + x < n .nx - 1 → bitsOf actOf x ≡ 0 → loopsOf cut (cornersOf n s (rowCube (n .nx) (n .ny) j k + (64 * w + x))) ≡ []
+  quiet : (x : ℕ) → x < 64 → 64 * w + x < nx - 1 → bitsOf act x ≡ 0 → loopsAt loopsOf lo hi cut nx (64 * w + x) ≡ []
   quiet x h l z =
-      rw (number x, corners-of-number n s (64 * w + x) j k l (less hj))
-      (cube-laws joined .quiet cut (cornersAt n s (64 * w + x) j k) (metal n s cut (64 * w + x) j k)
-      (active-quiet (ready .lower) (ready .upper) j w x hj hw h (more l) (sym (limit-keeps (activeOf e) (n .nx - 1) w x h l) ∙ z)))
-    where
-      more : {i m : ℕ} → i < m - 1 → i + 1 < m
-      more h = omega arith
-
-      less : {i m : ℕ} → i + 1 < m → i < m - 1
-      less h = omega arith
+      laws .quiet cut (windowCorners nx lo hi (64 * w + x)) (positive cut (cornerSample (windowCorners nx lo hi (64 * w + x)) 0))
+      (active-quiet (ready .lower) (ready .upper) w x hw h (omega arith) (sym (limit-keeps (activeOf eight) (nx - 1) w x h l) ∙ z))
 
   -- What the picked cubes give, by their corners and numbers, is what the row's cubes give, where a cube without a loop gives nothing.
-  module _ {A : Type 0} (give : List ℕ → ℕ → List A) (none : (cs : List ℕ) (c : ℕ) → loopsOf cut cs ≡ [] → give cs c ≡ []) where
-    same : (x : ℕ) → x < 64
-        → picked actOf (λ (x : ℕ). give (cornersFrom s (n .nx) (n .nx * n .ny) (rowSample (n .nx) (n .ny) j k + 64 * w + x)) (rowCube (n .nx) (n .ny) j k + 64 * w + x)) x
-        ≡ upTo (n .nx - 1) (λ (y : ℕ). give (cornersOf n s (rowCube (n .nx) (n .ny) j k + y)) (rowCube (n .nx) (n .ny) j k + y)) (64 * w + x)
-    same x h = go (lt-or-ge (64 * w + x) (n .nx - 1)) (eq-zero-or-pos (bitsOf actOf x))
+  module _ {A : Type 0} (c : ℕ) (give : List ℕ → ℕ → List A) (none : (cs : List ℕ) (c : ℕ) → loopsOf cut cs ≡ [] → give cs c ≡ []) where
+    pub word-same : (x : ℕ) → x < 64
+        → picked act (λ (x : ℕ). give (windowCorners nx lo hi (64 * w + x)) (c + 64 * w + x)) x ≡ upTo (nx - 1) (λ (y : ℕ). give (windowCorners nx lo hi y) (c + y)) (64 * w + x)
+    word-same x h = go (lt-or-ge (64 * w + x) (nx - 1)) (eq-zero-or-pos (bitsOf act x))
       where
-        by-index : ℕ → List A
-        by-index x = give (cornersFrom s (n .nx) (n .nx * n .ny) (rowSample (n .nx) (n .ny) j k + 64 * w + x)) (rowCube (n .nx) (n .ny) j k + 64 * w + x)
+        by-bit : ℕ → List A
+        by-bit x = give (windowCorners nx lo hi (64 * w + x)) (c + 64 * w + x)
 
-        by-number : ℕ → List A
-        by-number y = give (cornersOf n s (rowCube (n .nx) (n .ny) j k + y)) (rowCube (n .nx) (n .ny) j k + y)
+        by-place : ℕ → List A
+        by-place y = give (windowCorners nx lo hi y) (c + y)
 
         one : (y : ℕ) → 0 < y % 2 → y % 2 ≡ 1
         one y p = omega arith
 
-        less : {i m : ℕ} → i + 1 < m → i < m - 1
-        less h = omega arith
-
-        behind : rowCube (n .nx) (n .ny) j k + 64 * w + x ≡ rowCube (n .nx) (n .ny) j k + (64 * w + x)
+        behind : c + 64 * w + x ≡ c + (64 * w + x)
         behind = omega arith
 
-        go : (64 * w + x < n .nx - 1) ⊎ (n .nx - 1 ≤ 64 * w + x) → (bitsOf actOf x ≡ 0) ⊎ (0 < bitsOf actOf x)
-            → picked actOf by-index x ≡ upTo (n .nx - 1) by-number (64 * w + x)
-        go (inr g) _ = picked-unset actOf by-index x (limit-clears (activeOf e) (n .nx - 1) w x h g) ∙ sym (upTo-out (n .nx - 1) by-number (64 * w + x) g)
-        go (inl l) (inl z) = picked-unset actOf by-index x z ∙ sym (upTo-in (n .nx - 1) by-number (64 * w + x) l ∙ none _ _ (quiet x h l z))
+        go : (64 * w + x < nx - 1) ⊎ (nx - 1 ≤ 64 * w + x) → (bitsOf act x ≡ 0) ⊎ (0 < bitsOf act x)
+            → picked act by-bit x ≡ upTo (nx - 1) by-place (64 * w + x)
+        go (inr g) _ = picked-unset act by-bit x (limit-clears (activeOf eight) (nx - 1) w x h g) ∙ sym (upTo-out (nx - 1) by-place (64 * w + x) g)
+        go (inl l) (inl z) = picked-unset act by-bit x z ∙ sym (upTo-in (nx - 1) by-place (64 * w + x) l ∙ none _ _ (quiet x h l z))
         go (inl l) (inr o) =
-            picked-set actOf by-index x (eq-eqb (bitsOf actOf x) 1 (one (actOf / 2 ^ x) o))
-            ∙ ap₂ give (corners-of n s (rowSample (n .nx) (n .ny) j k + 64 * w + x) (64 * w + x) j k (index x) l (less hj) ∙ ap (cornersOf n s) (sym (number x))) behind
-            ∙ sym (upTo-in (n .nx - 1) by-number (64 * w + x) l)
+            picked-set act by-bit x (eq-eqb (bitsOf act x) 1 (one (act / 2 ^ x) o))
+            ∙ ap (give (windowCorners nx lo hi (64 * w + x))) behind
+            ∙ sym (upTo-in (nx - 1) by-place (64 * w + x) l)
 
-    row-word : below (picked actOf (λ (x : ℕ). give (cornersFrom s (n .nx) (n .nx * n .ny) (rowSample (n .nx) (n .ny) j k + 64 * w + x)) (rowCube (n .nx) (n .ny) j k + 64 * w + x))) 64
-        ≡ below (λ (x : ℕ). upTo (n .nx - 1) (λ (y : ℕ). give (cornersOf n s (rowCube (n .nx) (n .ny) j k + y)) (rowCube (n .nx) (n .ny) j k + y)) (64 * w + x)) 64
-    row-word = below-same _ _ 64 same
+    row-word : below (picked act (λ (x : ℕ). give (windowCorners nx lo hi (64 * w + x)) (c + 64 * w + x))) 64
+        ≡ below (λ (x : ℕ). upTo (nx - 1) (λ (y : ℕ). give (windowCorners nx lo hi y) (c + y)) (64 * w + x)) 64
+    row-word = below-same _ _ 64 word-same
 
   -- of their loops, words and offsets
-  pub loops-word : wordLoops s cut (n .nx) (n .nx * n .ny) actOf (rowSample (n .nx) (n .ny) j k + 64 * w)
-      ≡ below (λ (x : ℕ). upTo (n .nx - 1) (λ (y : ℕ). cubeLoops loopsOf n s cut (rowCube (n .nx) (n .ny) j k + y)) (64 * w + x)) 64
-  loops-word = row-word (λ cs c. loopsOf cut cs) (λ cs c q. q)
+  pub loops-same : (x : ℕ) → x < 64 → picked act (λ (x : ℕ). loopsAt loopsOf lo hi cut nx (64 * w + x)) x ≡ upTo (nx - 1) (loopsAt loopsOf lo hi cut nx) (64 * w + x)
+  loops-same = word-same 0 (λ cs c. loopsOf cut cs) (λ cs c q. q)
 
-  pub words-word : wordWords s cut (n .nx) (n .nx * n .ny) actOf (rowSample (n .nx) (n .ny) j k + 64 * w) (rowCube (n .nx) (n .ny) j k + 64 * w)
-      ≡ below (λ (x : ℕ). upTo (n .nx - 1) (λ (y : ℕ). cubeWords n s cut (rowCube (n .nx) (n .ny) j k + y)) (64 * w + x)) 64
-  unfolding cubeWords
-  words-word = row-word (λ cs c. wordsBy cut cs c) (λ cs c q. rw q)
+  pub names-same : (x : ℕ) → x < 64 → picked act (λ (x : ℕ). namesAt loopsOf lo hi cut nx (64 * w + x)) x ≡ upTo (nx - 1) (namesAt loopsOf lo hi cut nx) (64 * w + x)
+  names-same = word-same 0 (λ cs c. namesBy loopsOf cut cs) (λ cs c q. rw q)
 
-  pub offsets-word : wordOffsets s cut (n .nx) (n .nx * n .ny) actOf (rowSample (n .nx) (n .ny) j k + 64 * w)
-      ≡ below (λ (x : ℕ). upTo (n .nx - 1) (λ (y : ℕ). cubeOffsets n s cut (rowCube (n .nx) (n .ny) j k + y)) (64 * w + x)) 64
-  unfolding cubeOffsets
-  offsets-word = row-word (λ cs c. offsetsBy cut cs) (λ cs c q. rw q)
+  pub loops-word : wordLoops loopsOf lo hi cut nx act (64 * w) ≡ below (λ (x : ℕ). upTo (nx - 1) (loopsAt loopsOf lo hi cut nx) (64 * w + x)) 64
+  loops-word = row-word 0 (λ cs c. loopsOf cut cs) (λ cs c q. q)
+
+  pub words-word : (c : ℕ) → wordWords loopsOf lo hi cut nx act (64 * w) (c + 64 * w) ≡ below (λ (x : ℕ). upTo (nx - 1) (λ (y : ℕ). wordsAt loopsOf lo hi cut nx (c + y) y) (64 * w + x)) 64
+  words-word c = row-word c (λ cs c. wordsBy loopsOf cut cs c) (λ cs c q. rw q)
+
+  pub offsets-word : wordOffsets loopsOf lo hi cut nx act (64 * w) ≡ below (λ (x : ℕ). upTo (nx - 1) (offsetsAt loopsOf lo hi cut nx) (64 * w + x)) 64
+  offsets-word = row-word 0 (λ cs c. offsetsBy loopsOf cut cs) (λ cs c q. rw q)

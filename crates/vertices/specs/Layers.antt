@@ -1,26 +1,32 @@
--- The cubes of one layer, 64 at a time: the cubes of a word whose bits are set, a row of cubes, and what the layer's passes require and
--- promise. `n` is the size, `s` the samples.
+-- The cubes of one row, 64 at a time: the cubes of a word whose bits are set, the row, and what the passes over rows and layers require and
+-- promise. `lo` and `hi` are the row's windows, `n` is the size of a block, `s` its samples.
 -- Assumes nothing.
 use Prim.Native.Nat.{ℕ, _+_, _*_, _-_, _≤_, _<_}
 use mathlib.Core.Path.{_≡_}
-use mathlib.Core.Bool.{true, cond}
+use mathlib.Core.Bool.{true, false, cond}
 use mathlib.Core.List.{List, []}
-use lib.ListN.{length}
-use lib.Seq.{sets}
+use lib.ListN.{length, getD}
 use lib.Ieee.{Float}
 use Rattle.laws.specs.Below.{below}
 use Rattle.laws.specs.Bits.{holds}
 use Rattle.block.specs.declared.Cut.{Cut}
 use Rattle.block.specs.declared.Size.{Size}
 use Rattle.block.specs.declared.Checked.the-variants.{Passes}
+use Rattle.block.specs.Grey.{isCeiling}
 use Rattle.block.specs.Numbering.{sampleCount}
-use Rattle.block.specs.Rows.{thresholdRow, ceilingRow}
+use Rattle.block.specs.Rows.{thresholdRow}
 use Rattle.block.specs.Size.{Limits}
 use Rattle.cube.specs.Table.{maskTable}
 use Rattle.cube_rule.specs.Edges.{patternOf}
-use Rattle.mesh_rule.specs.Layers.{rowCube, layerWords, layerOffsets, layerCount, runMasks, runWords, runOffsets}
+use Rattle.cube_rule.specs.Plain.{mixed}
 use Rattle.signs.specs.Signs.{Plane, patternAt}
-use Rattle.vertices.specs.Cubes.{cornersFrom, loopsAt, wordsAt, offsetsAt, Stored}
+use Rattle.signs.specs.Windows.{windowCorners, TwoRows}
+use Rattle.vertices.specs.Cubes.{loopsAt, namesAt, wordsAt, offsetsAt, Stored}
+use Rattle.vertices.specs.Tables.{Noted}
+
+-- no sample is at the ceiling
+abbrev pub Clear : List ℕ → Type 0
+Clear s = (q : ℕ) → q < length s → isCeiling (getD s q 0) ≡ false
 
 -- ---- the cubes of a word
 
@@ -28,35 +34,81 @@ use Rattle.vertices.specs.Cubes.{cornersFrom, loopsAt, wordsAt, offsetsA
 abbrev pub picked : {A : Type 0} → ℕ → (ℕ → List A) → ℕ → List A
 picked act f x = cond (holds act x) (f x) []
 
--- of the cubes whose bits are set: their masks, words and offsets; p is the index of corner 0 of the word's first cube, c that cube's number
-module _ (s : List ℕ) (cut : Cut) (nx nxy act p : ℕ) where
+-- of the cubes whose bits are set: their masks, their vertices' words, and what the buffers hold of them; the word's first cube is the cube p
+-- of the row and has the number c
+module _ (loopsOf : Cut → List ℕ → List ℕ) (lo hi : List ℕ) (cut : Cut) (nx act p : ℕ) where
   abbrev pub wordLoops : List ℕ
-  wordLoops = below (picked act (λ (x : ℕ). loopsAt s cut nx nxy (p + x))) 64
+  wordLoops = below (picked act (λ (x : ℕ). loopsAt loopsOf lo hi cut nx (p + x))) 64
 
   abbrev pub wordWords : ℕ → List ℕ
-  wordWords c = below (picked act (λ (x : ℕ). wordsAt s cut nx nxy (c + x) (p + x))) 64
+  wordWords c = below (picked act (λ (x : ℕ). wordsAt loopsOf lo hi cut nx (c + x) (p + x))) 64
 
   abbrev pub wordOffsets : List Float
-  wordOffsets = below (picked act (λ (x : ℕ). offsetsAt s cut nx nxy (p + x))) 64
+  wordOffsets = below (picked act (λ (x : ℕ). offsetsAt loopsOf lo hi cut nx (p + x))) 64
 
--- the cubes whose bits are set lie in the block, `e` has their sign patterns, and the table is the table of 256 masks
-pub record WordReady (s : List ℕ) (cut : Cut) (table : List ℕ) (nx nxy p : ℕ) (e : List ℕ) (act : ℕ) : Type 0 where
+-- the cubes whose bits are set lie in the windows, their signs are mixed, `e` has their sign patterns, and the table is the table of 256 masks
+pub record WordReady (lo hi : List ℕ) (cut : Cut) (table : List ℕ) (nx p : ℕ) (e : List ℕ) (act : ℕ) : Type 0 where
   pub masks : table ≡ maskTable
-  pub inside : (x : ℕ) → x < 64 → holds act x ≡ true → p + x + nxy + nx + 1 < length s
-  pub signs : (x : ℕ) → x < 64 → holds act x ≡ true → patternAt e x ≡ patternOf cut (cornersFrom s nx nxy (p + x))
+  pub low-in : (x : ℕ) → x < 64 → holds act x ≡ true → p + x + 1 + nx < length lo
+  pub high-in : (x : ℕ) → x < 64 → holds act x ≡ true → p + x + 1 + nx < length hi
+  pub signs : (x : ℕ) → x < 64 → holds act x ≡ true → patternAt e x ≡ patternOf cut (windowCorners nx lo hi (p + x))
+  pub active : (x : ℕ) → x < 64 → holds act x ≡ true → mixed (holds (patternAt e x)) ≡ true
 
--- neither row 3 nor row 4 refuses the block, and both buffers have room for the vertices from the vertex v on
-pub record WordRoom (s : List ℕ) (cut : Cut) (nx nxy p act c v : ℕ) (words : List ℕ) (offsets : List Float) : Type 0 where
+-- neither row 3 nor row 4 refuses the row, and there is room for the vertices from the vertex v on
+pub record WordRoom (loopsOf : Cut → List ℕ → List ℕ) (lo hi : List ℕ) (cut : Cut) (nx p act c v : ℕ) (words : List ℕ) (offsets : List Float) (numbers : List ℕ) : Type 0 where
   pub small : c ≤ 16777216
   pub threshold : thresholdRow cut ≡ Passes
-  pub samples : ceilingRow s ≡ Passes
-  pub words-room : 2 * (v + length (wordLoops s cut nx nxy act p)) ≤ length words
-  pub offsets-room : 3 * (v + length (wordLoops s cut nx nxy act p)) ≤ length offsets
+  pub clear-low : Clear lo
+  pub clear-high : Clear hi
+  pub words-room : 2 * (v + length (wordLoops loopsOf lo hi cut nx act p)) ≤ length words
+  pub offsets-room : 3 * (v + length (wordLoops loopsOf lo hi cut nx act p)) ≤ length offsets
+  pub numbers-room : (x : ℕ) → x < 64 → holds act x ≡ true → 2 * (p + x) + 2 ≤ length numbers
+  pub few : v + length (wordLoops loopsOf lo hi cut nx act p) < 4294967296
 
-abbrev pub WordWritten : List ℕ → Cut → ℕ → ℕ → ℕ → ℕ → ℕ → ℕ → List ℕ → List ℕ → List Float → List Float → ℕ → Type 0
-WordWritten s cut nx nxy p act c v = Stored v (wordLoops s cut nx nxy act p) (wordWords s cut nx nxy act p c) (wordOffsets s cut nx nxy act p)
+pub record WordWritten (loopsOf : Cut → List ℕ → List ℕ) (lo hi : List ℕ) (cut : Cut) (nx p act c v : ℕ) (words₀ words : List ℕ) (offsets₀ offsets : List Float) (old new : List ℕ) (r : ℕ) : Type 0 where
+  pub stored : Stored v (wordLoops loopsOf lo hi cut nx act p) (wordWords loopsOf lo hi cut nx act p c) (wordOffsets loopsOf lo hi cut nx act p) words₀ words offsets₀ offsets r
+  pub noted : Noted (picked act (λ (x : ℕ). loopsAt loopsOf lo hi cut nx (p + x))) (picked act (λ (x : ℕ). namesAt loopsOf lo hi cut nx (p + x))) p 64 v old new
 
--- ---- rows and layers
+-- ---- a row
+
+-- of the row's cubes
+module _ (loopsOf : Cut → List ℕ → List ℕ) (lo hi : List ℕ) (cut : Cut) (nx : ℕ) where
+  abbrev pub rowMasks : List ℕ
+  rowMasks = below (loopsAt loopsOf lo hi cut nx) (nx - 1)
+
+  abbrev pub rowWords : ℕ → List ℕ
+  rowWords c = below (λ (x : ℕ). wordsAt loopsOf lo hi cut nx (c + x) x) (nx - 1)
+
+  abbrev pub rowOffsets : List Float
+  rowOffsets = below (offsetsAt loopsOf lo hi cut nx) (nx - 1)
+
+-- what a pass over a row requires: its windows, the sign words of the planes that they are of, and the table of 256 masks
+pub record RowReady (lo hi : List ℕ) (cut : Cut) (table a b : List ℕ) (nx j : ℕ) : Type 0 where
+  pub short : 2 ≤ nx
+  pub long : nx ≤ 256
+  pub low-long : length lo ≡ 2 * nx
+  pub high-long : length hi ≡ 2 * nx
+  pub masks : table ≡ maskTable
+  pub lower : TwoRows cut nx lo j a
+  pub upper : TwoRows cut nx hi j b
+
+-- and what one that writes requires besides: neither row 3 nor row 4 refuses, there is room from the vertex v on, and numbers fit
+pub record RowRoom (loopsOf : Cut → List ℕ → List ℕ) (lo hi : List ℕ) (cut : Cut) (nx c v : ℕ) (words : List ℕ) (offsets : List Float) (numbers : List ℕ) : Type 0 where
+  pub small : c ≤ 16711680
+  pub threshold : thresholdRow cut ≡ Passes
+  pub clear-low : Clear lo
+  pub clear-high : Clear hi
+  pub words-room : 2 * (v + length (rowMasks loopsOf lo hi cut nx)) ≤ length words
+  pub offsets-room : 3 * (v + length (rowMasks loopsOf lo hi cut nx)) ≤ length offsets
+  pub numbers-room : length numbers ≡ 512
+  pub few : v + length (rowMasks loopsOf lo hi cut nx) < 4294967296
+
+-- the row's vertices were written from the vertex v on, and their numbers noted
+pub record RowWritten (loopsOf : Cut → List ℕ → List ℕ) (lo hi : List ℕ) (cut : Cut) (nx c v : ℕ) (words₀ words : List ℕ) (offsets₀ offsets : List Float) (old new : List ℕ) (r : ℕ) : Type 0 where
+  pub stored : Stored v (rowMasks loopsOf lo hi cut nx) (rowWords loopsOf lo hi cut nx c) (rowOffsets loopsOf lo hi cut nx) words₀ words offsets₀ offsets r
+  pub noted : Noted (loopsAt loopsOf lo hi cut nx) (namesAt loopsOf lo hi cut nx) 0 (nx - 1) v old new
+
+-- ---- a layer of a block
 
 -- What a pass over layer k requires: a size within its limits and as many samples as it has, the table of 256 masks, and the sign words of the
 -- planes k and k + 1, which are planes of the block.
@@ -67,28 +119,3 @@ pub record Ready (n : Size) (s : List ℕ) (cut : Cut) (table a b : List ℕ) (k
   pub lower : Plane n s cut k a
   pub upper : Plane n s cut (k + 1) b
   pub inside : k + 1 < n .nz
-
--- and what a pass that writes m vertices requires besides: neither row 3 nor row 4 refuses the block, and there is room from the vertex v on
-pub record Room (s : List ℕ) (cut : Cut) (v m : ℕ) (words : List ℕ) (offsets : List Float) : Type 0 where
-  pub threshold : thresholdRow cut ≡ Passes
-  pub ceiling : ceilingRow s ≡ Passes
-  pub words-room : 2 * (v + m) ≤ length words
-  pub offsets-room : 3 * (v + m) ≤ length offsets
-
--- of a row of cubes: how many vertices it has, and that they were written
-abbrev pub rowCount : Size → List ℕ → Cut → ℕ → ℕ → ℕ
-rowCount n s cut j k = length (runMasks n s cut (rowCube (n .nx) (n .ny) j k) (n .nx - 1))
-
-abbrev pub RowWritten : Size → List ℕ → Cut → ℕ → ℕ → ℕ → List ℕ → List ℕ → List Float → List Float → ℕ → Type 0
-RowWritten n s cut j k v =
-    Stored v (runMasks n s cut (rowCube (n .nx) (n .ny) j k) (n .nx - 1)) (runWords n s cut (rowCube (n .nx) (n .ny) j k) (n .nx - 1)) (runOffsets n s cut (rowCube (n .nx) (n .ny) j k) (n .nx - 1))
-
--- the promise of `count_layer`
-abbrev pub LayerCounted : Size → List ℕ → Cut → ℕ → ℕ → Type 0
-LayerCounted n s cut k r = r ≡ layerCount n s cut k
-
--- the promise of `write_layer`: the layer's vertices from the vertex `first` on, and the number behind them
-pub record LayerWritten (n : Size) (s : List ℕ) (cut : Cut) (k first : ℕ) (words₀ words : List ℕ) (offsets₀ offsets : List Float) (r : ℕ) : Type 0 where
-  pub number : r ≡ first + layerCount n s cut k
-  pub words-are : words ≡ sets words₀ (2 * first) (layerWords n s cut k)
-  pub offsets-are : offsets ≡ sets offsets₀ (3 * first) (layerOffsets n s cut k)

@@ -1,2 +1,4 @@
+pub mod Tables
 pub mod Cubes
 pub mod Layers
+pub mod Joined

@@ -1,103 +1,97 @@
--- `write_row` meets its contract. The loop's invariant: the vertices of the cubes of the words before w are stored. The measure is what is left
--- of four words.
+-- `write_row` meets its contract. The loop's invariant: the vertices of the cubes of the words before w are stored and noted. The measure is
+-- what is left of four words.
 -- Assumes nothing.
-use Prim.Native.Nat.{_+_, _-_, _*_, _≤_, _<_}
-use native.Mathlib.Omega.{arith}
-use borrow.Author.Needs.{needs}
+use Prim.Native.Nat.{_-_, _≤_, _<_}
 use denote.Ref.{now}
-use Rattle.vertices.proofs.Rows.{RowPart, WordTold, row-start, row-next, row-end, row-room, told-ready, row-bounds}
+use Rattle.cube_rule.specs.Decider.{joined, loopsOf}
+use Rattle.cube_rule.proofs.Laws.{cube-laws}
+use Rattle.vertices.proofs.Rows.{RowPart, WordTold, row-start, row-next, row-end, row-room, told-ready}
 use Rattle.vertices.proofs.Stored.{stored-words, stored-offsets}
+use borrow.Author.Needs.{needs}
+use native.Mathlib.Omega.{arith}
 use Rattle.vertices.proofs.write_row.Statement.{statement}
 use Rattle.vertices.proofs.write_row.Tie as tie
 
 abbrev Inv-loop : tie.InvT-loop
-Inv-loop size samples cut table a b j k words₀ offsets₀ v nx ny nxy s cubes c w₀ m₀ words offsets w m = (w ≤ 4) × RowPart size samples cut j k w v words₀ words offsets₀ offsets m
+Inv-loop row table a b lo hi words₀ offsets₀ numbers₀ v cubes w₀ m₀ words offsets numbers w m =
+    (w ≤ 4) × RowPart loopsOf lo hi (row .cut) (row .nx) (row .c) w v words₀ words offsets₀ offsets numbers₀ numbers m
 
 abbrev μ-loop : tie.MeasureT-loop
-μ-loop size samples cut table a b j k words₀ offsets₀ v nx ny nxy s cubes c w₀ m₀ words offsets w m = 4 - w
+μ-loop row table a b lo hi words₀ offsets₀ numbers₀ v cubes w₀ m₀ words offsets numbers w m = 4 - w
 
-abbrev start : tie.After-ny Inv-loop μ-loop → tie.Start Inv-loop μ-loop
-start d = d .before .before .before .before .before .before .before
-
--- the row's numbers fit
-bounds : (d : tie.After-ny Inv-loop μ-loop) → let a = start d .args in let nx = d .before .nx .result in let ny = d .ny .result in
-    (nx * ny ≤ 65536) × (ny * a .k ≤ 65024) × (nx * (a .j + ny * a .k) ≤ 16711168) × ((ny - 1) * a .k ≤ 64770) × ((nx - 1) * (a .j + (ny - 1) * a .k) ≤ 16581120)
-bounds d =
-    row-bounds (start d .args .size) _ _ _ _ (start d .pre .0 .limits) (d .before .nx .ensures) (d .ny .ensures) (start d .pre .1) (start d .pre .0 .inside)
+abbrev start : tie.At-loop Inv-loop μ-loop → tie.Start Inv-loop μ-loop
+start d = d .before .before .before .before .before .before .before .before .before
 
 -- a row has four words at most
 four : (d : tie.In-loop Inv-loop μ-loop) → d .before .loop .w < 4
-four d = omega (arith, d .loop-test .taken, d .before .before .before .nx .ensures, start (d .before .before) .pre .0 .limits .x-high)
+four d = omega (arith, d .loop-test .taken, start (d .before) .pre .0 .long)
 
-abbrev loop-of : tie.After-limit Inv-loop μ-loop → tie.In-loop Inv-loop μ-loop
-loop-of d = d .before .before .before .before
+abbrev turn : tie.After-limit Inv-loop μ-loop → tie.In-loop Inv-loop μ-loop
+turn d = d .before .before .before .before
 
-abbrev ny-of : tie.After-limit Inv-loop μ-loop → tie.After-ny Inv-loop μ-loop
-ny-of d = loop-of d .before .before
+told : (d : tie.After-limit Inv-loop μ-loop) → let a = start (turn d .before) .args in
+    WordTold (now (a .a)) (now (a .b)) (a .row .nx) (a .row .j) (turn d .before .loop .w) (d .before .before .eight .result) (d .before .active .result) (d .limit .result)
+told d = record { eight-is = d .before .before .eight .ensures; active-is = d .before .active .ensures; limit-is = d .limit .ensures }
 
-told : (d : tie.After-limit Inv-loop μ-loop) → let a = start (ny-of d) .args in
-    WordTold (a .size) (now (a .a)) (now (a .b)) (a .j) (loop-of d .before .loop .w) (ny-of d .before .nx .result) (ny-of d .ny .result) (d .before .nx2 .result)
-    (d .before .before .before .eight .result) (d .before .before .active .result) (d .limit .result)
-told d = record {
-  nx-is = ny-of d .before .nx .ensures;
-  ny-is = ny-of d .ny .ensures;
-  mx-is = d .before .nx2 .ensures;
-  eight-is = d .before .before .before .eight .ensures;
-  active-is = d .before .before .active .ensures;
-  limit-is = d .limit .ensures;
-}
-
-mul-nxy : tie.Need-mul-nxy Inv-loop μ-loop
-mul-nxy c = omega (arith, bounds c)
-
-mul-s : tie.Need-mul-s Inv-loop μ-loop
-mul-s c = omega (arith, bounds c)
-
-add-s : tie.Need-add-s Inv-loop μ-loop
-add-s c = omega (arith, bounds c)
-
-mul-s-2 : tie.Need-mul-s-2 Inv-loop μ-loop
-mul-s-2 c = omega (arith, bounds c)
-
-mul-c : tie.Need-mul-c Inv-loop μ-loop
-mul-c c = omega (arith, bounds c)
-
-add-c : tie.Need-add-c Inv-loop μ-loop
-add-c c = omega (arith, bounds c)
-
-mul-c-2 : tie.Need-mul-c-2 Inv-loop μ-loop
-mul-c-2 c = omega (arith, bounds c)
+sub-cubes : tie.Need-sub-cubes Inv-loop μ-loop
+sub-cubes c = omega (arith, c .before .before .before .before .before .before .before .before .pre .0 .short)
 
 loop-holds : tie.Need-loop-holds Inv-loop μ-loop
-loop-holds c = (omega arith, row-start _ _ _ _ _ _ _ _)
+loop-holds c = (omega arith, row-start loopsOf _ _ _ _ _ _ _ _ _)
 
-add-write-word : tie.Need-add-write-word Inv-loop μ-loop
-add-write-word c = omega (arith, bounds (ny-of c), four (loop-of c))
+mul-loop : tie.Need-mul-loop Inv-loop μ-loop
+mul-loop c = omega arith
 
-add-write-word-2 : tie.Need-add-write-word-2 Inv-loop μ-loop
-add-write-word-2 c = omega (arith, bounds (ny-of c), four (loop-of c))
+mul-eight : tie.Need-mul-eight Inv-loop μ-loop
+mul-eight c = let s = start (c .before .before) in omega (arith, s .pre .0 .lower .room, s .good)
+
+add-eight : tie.Need-add-eight Inv-loop μ-loop
+add-eight c = let s = start (c .before .before) in omega (arith, four (c .before), s .pre .0 .lower .room, s .good)
+
+eight-requires : tie.Need-eight-requires Inv-loop μ-loop
+eight-requires c κs =
+    let s = start (c .before .before) in
+    (omega (arith, four (c .before), s .pre .0 .lower .room), omega (arith, four (c .before), s .pre .0 .upper .room))
+
+limit-requires : tie.Need-limit-requires Inv-loop μ-loop
+limit-requires c κs = four (c .before .before .before)
+
+mul-t17 : tie.Need-mul-t17 Inv-loop μ-loop
+mul-t17 c = omega (arith, four (turn c))
+
+mul-t19 : tie.Need-mul-t19 Inv-loop μ-loop
+mul-t19 c = omega (arith, four (turn c))
+
+add-t22 : tie.Need-add-t22 Inv-loop μ-loop
+add-t22 c = let d = turn (c .before) in omega (arith, four d, start (d .before) .pre .1 .small)
+
+cast-t23 : tie.Need-cast-t23 Inv-loop μ-loop
+cast-t23 c = let d = turn (c .before) in omega (arith, four d, start (d .before) .pre .1 .small)
+
+-- the word is asked for, and then it is written
+abbrev asked : tie.After-write-word-arg3 Inv-loop μ-loop → tie.After-limit Inv-loop μ-loop
+asked c = c .before .before .before .before
 
 write-word-requires : tie.Need-write-word-requires Inv-loop μ-loop
 write-word-requires c κs =
-    let d = c .before .before in
-    let s = start (ny-of d) in
-    let h = loop-of d .before .loop in
-    let w = four (loop-of d) in (
-      told-ready (s .pre .0) _ (s .pre .1) _ w (told d),
-      row-room (s .pre .0) _ (s .pre .1) _ w (told d) (s .pre .2) (h .inv .1) (omega (arith, bounds (ny-of d), w)),
-    )
+    let d = turn (asked c) in
+    let s = start (d .before) in
+    (told-ready (cube-laws joined) (s .pre .0) _ (four d) (told (asked c)), row-room (cube-laws joined) (s .pre .0) _ (four d) (told (asked c)) (d .before .loop .inv .1) (s .pre .1))
+
+abbrev written : tie.After-slice-known6 Inv-loop μ-loop → tie.After-write-word Inv-loop μ-loop
+written c = c .before .before .before .before .before .before
+
+add-w : tie.Need-add-w Inv-loop μ-loop
+add-w c = omega (arith, four (turn (asked (written c .before))))
 
 loop-less : tie.Need-loop-less Inv-loop μ-loop
-loop-less c = omega (arith, four (loop-of (c .before .before .before .before .before .before .before)))
+loop-less c = omega (arith, four (turn (asked (written c .before))))
 
 loop-again : tie.Need-loop-again Inv-loop μ-loop
 loop-again c =
-    let m = c .before .before .before .before in
-    let d = m .before .before .before in
-    let s = start (ny-of d) in
-    let h = loop-of d .before .loop in
-    let w = four (loop-of d) in
-    (omega (arith, w), row-next (s .pre .0) _ (s .pre .1) _ w (told d) (h .inv .1) (m .write-word .ensures))
+    let k = asked (written c .before) in
+    let d = turn k in
+    (omega (arith, four d), row-next (cube-laws joined) (start (d .before) .pre .0) _ (four d) (told k) (d .before .loop .inv .1) (written c .write-word .ensures))
 
 same-length : tie.Need-same-length Inv-loop μ-loop
 same-length c = stored-words (c .before .loop .inv .1 .stored)
@@ -105,9 +99,11 @@ same-length c = stored-words (c .before .loop .inv .1 .stored)
 same-length-2 : tie.Need-same-length-2 Inv-loop μ-loop
 same-length-2 c = stored-offsets (c .before .loop .inv .1 .stored)
 
+same-length-3 : tie.Need-same-length-3 Inv-loop μ-loop
+same-length-3 c = c .before .loop .inv .1 .noted .long
+
 returns : tie.Need-returns Inv-loop μ-loop
-returns c =
-    row-end (c .before .loop .inv .1) (omega (arith, c .loop-test .left, c .before .before .before .nx .ensures))
+returns c = row-end (c .before .loop .inv .1) (omega (arith, c .loop-test .left))
 
 pub write-row-spec : {M : Type 1} → statement M
 write-row-spec =
@@ -115,34 +111,23 @@ write-row-spec =
     (tie.spec
     Inv-loop
     μ-loop
-    (λ c κs. search needs)
-    (λ c κs. search needs)
-    mul-nxy
-    mul-s
-    add-s
-    mul-s-2
-    (λ c. search needs)
-    (λ c. search needs)
-    mul-c
-    add-c
-    mul-c-2
+    sub-cubes
     loop-holds
-    (λ c. search needs)
-    (λ c. search needs)
-    (λ c. search needs)
+    mul-loop
+    mul-eight
+    add-eight
+    eight-requires
     (λ c κs. search needs)
-    (λ c κs. search needs)
-    (λ c κs. search needs)
-    (λ c. search needs)
-    (λ c κs. search needs)
-    (λ c. search needs)
-    add-write-word
-    (λ c. search needs)
-    add-write-word-2
+    limit-requires
+    mul-t17
+    mul-t19
+    add-t22
+    cast-t23
     write-word-requires
-    (λ c. search needs)
+    add-w
     loop-less
     loop-again
     same-length
     same-length-2
+    same-length-3
     returns)

@@ -1,124 +1,168 @@
 -- `write_word` meets its contract. The loop's invariant: w holds the bits from i on, and the vertices of the cubes before i that are picked
--- are stored. The measure is what is left of the 64 bits.
+-- are stored and noted. The measure is what is left of the 64 bits.
 -- Assumes nothing.
-use Prim.Native.Nat.{ℕ, _+_, _-_}
-use mathlib.Core.Path.{_∙_}
+use Prim.Native.Nat.{ℕ, _+_, _-_, _*_, _≤_, _<_}
+use mathlib.Core.Path.{_≡_}
+use mathlib.Core.Bool.{true}
 use native.Mathlib.Omega.{arith}
 use denote.Ref.{now}
 use mathlib.Core.List.{List}
+use lib.Count.{trailingZeros}
+use lib.ListN.{length}
 use lib.Ieee.{Float}
+use Rattle.cube_rule.specs.Decider.{loopsOf}
 use Rattle.laws.specs.Below.{below}
+use Rattle.laws.specs.Bits.{holds}
 use Rattle.laws.proofs.Visit.{Left, left-next}
-use Rattle.vertices.specs.Cubes.{loopsAt, wordsAt, offsetsAt, Stored}
+use Rattle.vertices.specs.Cubes.{loopsAt, namesAt, wordsAt, offsetsAt, Stored}
 use Rattle.vertices.specs.Layers.{picked}
-use Rattle.vertices.proofs.Visits.{bitsOf, visit-start, visit-set, visit-in, stored-start, stored-next, stored-end, words-next, offsets-next}
-use Rattle.vertices.proofs.Cubes.{corners-pass}
+use Rattle.vertices.specs.Tables.{Noted}
+use Rattle.vertices.proofs.Visits.{bitsOf, visit-start, visit-set, visit-in, picked-room, stored-start, stored-next, stored-end, words-next, offsets-next, noted-next, noted-end}
+use Rattle.vertices.proofs.Notes.{one-noted, noted-none}
+use Rattle.vertices.proofs.CountedWords.{active-names, by-table}
+use Rattle.vertices.proofs.Cubes.{corners-pass, written-as}
 use Rattle.vertices.proofs.Stored.{stored-words, stored-offsets}
 use Rattle.vertices.proofs.write_word.Statement.{statement}
 use Rattle.vertices.proofs.write_word.Tie as tie
 
 abbrev Inv-loop : tie.InvT-loop
-Inv-loop samples cut table e act s nx nxy c words₀ offsets₀ v w₀ i₀ m₀ words offsets w i m =
+Inv-loop row lo hi table spot act words₀ offsets₀ numbers₀ one w₀ i₀ m₀ words offsets numbers w i m =
     Left (bitsOf act) 64 i w
-    × Stored v (below (picked act (λ (x : ℕ). loopsAt samples cut nx nxy (s + x))) i) (below (picked act (λ (x : ℕ). wordsAt samples cut nx nxy (c + x) (s + x))) i) (below (picked act (λ (x : ℕ). offsetsAt samples cut nx nxy (s + x))) i) words₀ words offsets₀ offsets m
+    × Stored (spot .v) (below (picked act (λ (x : ℕ). loopsAt loopsOf lo hi (row .cut) (row .nx) (spot .x + x))) i) (below (picked act (λ (x : ℕ). wordsAt loopsOf lo hi (row .cut) (row .nx) (spot .c + x) (spot .x + x))) i)
+    (below (picked act (λ (x : ℕ). offsetsAt loopsOf lo hi (row .cut) (row .nx) (spot .x + x))) i) words₀ words offsets₀ offsets m
+    × Noted (picked act (λ (x : ℕ). loopsAt loopsOf lo hi (row .cut) (row .nx) (spot .x + x))) (picked act (λ (x : ℕ). namesAt loopsOf lo hi (row .cut) (row .nx) (spot .x + x))) (spot .x) i (spot .v) numbers₀ numbers
 
 abbrev μ-loop : tie.MeasureT-loop
-μ-loop samples cut table e act s nx nxy c words₀ offsets₀ v w₀ i₀ m₀ words offsets w i m = 64 - i
+μ-loop row lo hi table spot act words₀ offsets₀ numbers₀ one w₀ i₀ m₀ words offsets numbers w i m = 64 - i
 
-abbrev start₀ : tie.After-slice-known2 Inv-loop μ-loop → tie.Start Inv-loop μ-loop
-start₀ c = c .before .before .before
+abbrev start : tie.After-singles Inv-loop μ-loop → tie.Start Inv-loop μ-loop
+start c = c .before .before .before .before .before .before .before
 
-abbrev start : tie.After-pattern-at Inv-loop μ-loop → tie.Start Inv-loop μ-loop
-start c = start₀ (c .before .before .before)
+abbrev begin : tie.In-loop Inv-loop μ-loop → tie.Start Inv-loop μ-loop
+begin d = start (d .before .before)
 
 abbrev loops : tie.Start Inv-loop μ-loop → ℕ → List ℕ
-loops s x = loopsAt (now (s .args .samples)) (s .args .cut) (s .args .nx) (s .args .nxy) (s .args .s + x)
+loops s x = loopsAt loopsOf (now (s .args .lo)) (now (s .args .hi)) (s .args .row .cut) (s .args .row .nx) (s .args .spot .x + x)
+
+abbrev names : tie.Start Inv-loop μ-loop → ℕ → List ℕ
+names s x = namesAt loopsOf (now (s .args .lo)) (now (s .args .hi)) (s .args .row .cut) (s .args .row .nx) (s .args .spot .x + x)
 
 abbrev wordsOf : tie.Start Inv-loop μ-loop → ℕ → List ℕ
-wordsOf s x = wordsAt (now (s .args .samples)) (s .args .cut) (s .args .nx) (s .args .nxy) (s .args .c + x) (s .args .s + x)
+wordsOf s x = wordsAt loopsOf (now (s .args .lo)) (now (s .args .hi)) (s .args .row .cut) (s .args .row .nx) (s .args .spot .c + x) (s .args .spot .x + x)
 
 abbrev offsetsOf : tie.Start Inv-loop μ-loop → ℕ → List Float
-offsetsOf s x = offsetsAt (now (s .args .samples)) (s .args .cut) (s .args .nx) (s .args .nxy) (s .args .s + x)
+offsetsOf s x = offsetsAt loopsOf (now (s .args .lo)) (now (s .args .hi)) (s .args .row .cut) (s .args .row .nx) (s .args .spot .x + x)
+
+-- ---- the next cube: its bit is set, so it lies in the windows
+
+abbrev next : tie.In-loop Inv-loop μ-loop → ℕ
+next d = d .before .loop .i + trailingZeros 64 (d .before .loop .w)
+
+inside : (d : tie.In-loop Inv-loop μ-loop) → next d < 64
+inside d = visit-in _ (d .before .loop .inv .0) (d .loop-test .taken)
+
+set : (d : tie.In-loop Inv-loop μ-loop) → holds (begin d .args .act) (next d) ≡ true
+set d = visit-set _ (d .before .loop .inv .0) (d .loop-test .taken)
+
+low-in : (d : tie.In-loop Inv-loop μ-loop) → begin d .args .spot .x + next d + 1 + begin d .args .row .nx < length (now (begin d .args .lo))
+low-in d = begin d .pre .0 .low-in _ (inside d) (set d)
+
+high-in : (d : tie.In-loop Inv-loop μ-loop) → begin d .args .spot .x + next d + 1 + begin d .args .row .nx < length (now (begin d .args .hi))
+high-in d = begin d .pre .0 .high-in _ (inside d) (set d)
+
+numbers-room : (d : tie.In-loop Inv-loop μ-loop) → 2 * (begin d .args .spot .x + next d) + 2 ≤ length (d .before .loop .numbers)
+numbers-room d = omega (arith, begin d .pre .1 .numbers-room _ (inside d) (set d), d .before .loop .inv .2 .long)
+
+returns : tie.Need-returns Inv-loop μ-loop
+returns c =
+    let s = c .before .before .before .before .before .before in
+    let left = visit-start _ (s .fits .act .fits) in
+    record {
+      stored = stored-end _ left (loops s) (wordsOf s) (offsetsOf s) (stored-start _ _ _ _ _ _ _) (c .if1 .taken);
+      noted = noted-end _ left (loops s) (names s) (noted-none _ _ _ _ _) (c .if1 .taken);
+    }
+
+singles-requires : tie.Need-singles-requires Inv-loop μ-loop
+singles-requires c κs = (by-table (c .before .before .before .before .before .before .pre .0), c .if1 .left)
 
 loop-holds : tie.Need-loop-holds Inv-loop μ-loop
-loop-holds c = (visit-start _ (start₀ c .fits .act .fits), stored-start _ _ _ _ _ _ _)
+loop-holds c = (visit-start _ (start c .fits .act .fits), stored-start _ _ _ _ _ _ _, noted-none _ _ _ _ _)
 
 cast-k : tie.Need-cast-k Inv-loop μ-loop
-cast-k c = omega (arith, visit-in _ (c .before .loop .inv .0) (c .loop-test .taken))
+cast-k c = omega (arith, inside c)
 
 add-x : tie.Need-add-x Inv-loop μ-loop
-add-x c = omega (arith, visit-in _ (c .before .loop .inv .0) (c .loop-test .taken))
+add-x c = omega (arith, inside c)
 
-pattern-at-requires : tie.Need-pattern-at-requires Inv-loop μ-loop
-pattern-at-requires c κs = visit-in _ (c .before .loop .inv .0) (c .loop-test .taken)
+add-corners : tie.Need-add-corners Inv-loop μ-loop
+add-corners c = omega (arith, low-in (c .before), begin (c .before) .good)
 
-add-write-cube : tie.Need-add-write-cube Inv-loop μ-loop
-add-write-cube c =
-    let h = c .before .before .loop in
-    let ne = c .before .loop-test .taken in
-    omega (arith, visit-in _ (h .inv .0) ne, start c .pre .0 .inside _ (visit-in _ (h .inv .0) ne) (visit-set _ (h .inv .0) ne), start c .good)
+corners-requires : tie.Need-corners-requires Inv-loop μ-loop
+corners-requires c κs = (low-in (c .before), high-in (c .before))
 
-add-write-cube-2 : tie.Need-add-write-cube-2 Inv-loop μ-loop
-add-write-cube-2 c =
-    let h = c .before .before .loop in
-    let ne = c .before .loop-test .taken in
-    omega (arith, visit-in _ (h .inv .0) ne, start c .pre .1 .small)
+add-t22 : tie.Need-add-t22 Inv-loop μ-loop
+add-t22 c = let d = c .before .before .before in omega (arith, low-in d, begin d .good)
 
-cast-write-cube : tie.Need-cast-write-cube Inv-loop μ-loop
-cast-write-cube c =
-    let h = c .before .before .loop in
-    let ne = c .before .loop-test .taken in
-    omega (arith, visit-in _ (h .inv .0) ne, start c .pre .1 .small)
+cast-t21 : tie.Need-cast-t21 Inv-loop μ-loop
+cast-t21 c = omega (arith, inside (c .before .before .before))
+
+add-t23 : tie.Need-add-t23 Inv-loop μ-loop
+add-t23 c = let d = c .before .before .before .before in omega (arith, inside d, begin d .pre .1 .small)
+
+shr-write-cube : tie.Need-shr-write-cube Inv-loop μ-loop
+shr-write-cube c = omega (arith, inside (c .before .before .before .before))
 
 write-cube-requires : tie.Need-write-cube-requires Inv-loop μ-loop
 write-cube-requires c κs =
-    let d = c .before .before in
-    let h = d .before .before .loop in
-    let ne = d .before .loop-test .taken in
-    let s = start d in
-    let inside = visit-in _ (h .inv .0) ne in
-    let set = visit-set _ (h .inv .0) ne in (
+    let k = c .before .before .before .before .before in
+    let d = k .before .before in
+    let h = d .before .loop in
+    let ne = d .loop-test .taken in
+    let s = begin d in
+    let r = s .pre .1 in (
       record {
-        inside = s .pre .0 .inside _ inside set;
         masks = s .pre .0 .masks;
-        signs = d .pattern-at .ensures .0 ∙ s .pre .0 .signs _ inside set;
+        one = λ t. rw (k .corners .ensures) (d .before .before .singles .ensures (next d) (inside d) (set d) t);
       },
       record {
-        threshold = s .pre .1 .threshold;
-        samples = corners-pass _ _ _ _ (s .pre .1 .samples) (s .pre .0 .inside _ inside set);
-        words-room = words-next _ (h .inv .0) (loops s) (wordsOf s) (offsetsOf s) (h .inv .1) ne (s .pre .1 .words-room);
-        offsets-room = offsets-next _ (h .inv .0) (loops s) (wordsOf s) (offsetsOf s) (h .inv .1) ne (s .pre .1 .offsets-room);
+        threshold = r .threshold;
+        samples = rw (k .corners .ensures) (corners-pass _ _ _ _ (r .clear-low) (r .clear-high) (low-in d) (high-in d));
+        words-room = rw (k .corners .ensures) (words-next _ (h .inv .0) (loops s) (wordsOf s) (offsetsOf s) (h .inv .1) ne (r .words-room));
+        offsets-room = rw (k .corners .ensures) (offsets-next _ (h .inv .0) (loops s) (wordsOf s) (offsetsOf s) (h .inv .1) ne (r .offsets-room));
+        numbers-room = numbers-room d;
+        few = omega (arith, r .few, h .inv .1 .number, picked-room _ (h .inv .0) (loops s) ne);
       },
     )
 
+-- ---- it is written
+
+abbrev turn : tie.After-write-cube Inv-loop μ-loop → tie.In-loop Inv-loop μ-loop
+turn k = k .before .before .before .before .before .before .before .before
+
+abbrev written : tie.After-slice-known6 Inv-loop μ-loop → tie.After-write-cube Inv-loop μ-loop
+written c = c .before .before .before .before .before .before
+
 shr-w : tie.Need-shr-w Inv-loop μ-loop
-shr-w c =
-    let d = c .before .before .before .before .before .before .before in
-    let h = d .before .before .loop in
-    let ne = d .before .loop-test .taken in
-    omega (arith, visit-in _ (h .inv .0) ne)
+shr-w c = omega (arith, inside (turn (written c)))
 
 add-i : tie.Need-add-i Inv-loop μ-loop
-add-i c =
-    let d = c .before .before .before .before .before .before .before in
-    let h = d .before .before .loop in
-    let ne = d .before .loop-test .taken in
-    omega (arith, visit-in _ (h .inv .0) ne)
+add-i c = omega (arith, inside (turn (written c)))
 
 loop-less : tie.Need-loop-less Inv-loop μ-loop
-loop-less c =
-    let d = c .before .before .before .before .before .before .before in
-    let h = d .before .before .loop in
-    let ne = d .before .loop-test .taken in
-    omega (arith, visit-in _ (h .inv .0) ne)
+loop-less c = omega (arith, inside (turn (written c)))
 
 loop-again : tie.Need-loop-again Inv-loop μ-loop
 loop-again c =
-    let d = c .before .before .before .before .before .before .before in
-    let h = d .before .before .loop in
-    let ne = d .before .loop-test .taken in
-    let s = start d in
-    (left-next (h .inv .0) ne, stored-next _ (h .inv .0) (loops s) (wordsOf s) (offsetsOf s) (h .inv .1) ne (c .before .before .before .before .write-cube .ensures))
+    let k = written c in
+    let d = turn k in
+    let h = d .before .loop in
+    let ne = d .loop-test .taken in
+    let s = begin d in
+    let w = written-as (k .before .before .before .before .before .before .corners .ensures) (k .write-cube .ensures) in (
+      left-next (h .inv .0) ne,
+      stored-next _ (h .inv .0) (loops s) (wordsOf s) (offsetsOf s) (h .inv .1) ne (w .stored),
+      noted-next _ (h .inv .0) (loops s) (names s) (h .inv .2) ne _ (h .inv .1 .number) (active-names (s .pre .0) (next d) (inside d) (set d)) (one-noted _ _ _ _ _ (w .noted) (numbers-room d)),
+    )
 
 same-length : tie.Need-same-length Inv-loop μ-loop
 same-length c = stored-words (c .before .loop .inv .1)
@@ -126,11 +170,17 @@ same-length c = stored-words (c .before .loop .inv .1)
 same-length-2 : tie.Need-same-length-2 Inv-loop μ-loop
 same-length-2 c = stored-offsets (c .before .loop .inv .1)
 
-returns : tie.Need-returns Inv-loop μ-loop
-returns c =
+same-length-3 : tie.Need-same-length-3 Inv-loop μ-loop
+same-length-3 c = c .before .loop .inv .2 .long
+
+returns-2 : tie.Need-returns-2 Inv-loop μ-loop
+returns-2 c =
     let h = c .before .loop in
-    let s = start₀ (c .before .before) in
-    stored-end _ (h .inv .0) (loops s) (wordsOf s) (offsetsOf s) (h .inv .1) (c .loop-test .left)
+    let s = start (c .before .before) in
+    record {
+      stored = stored-end _ (h .inv .0) (loops s) (wordsOf s) (offsetsOf s) (h .inv .1) (c .loop-test .left);
+      noted = noted-end _ (h .inv .0) (loops s) (names s) (h .inv .2) (c .loop-test .left);
+    }
 
 pub write-word-spec : {M : Type 1} → statement M
 write-word-spec =
@@ -138,13 +188,17 @@ write-word-spec =
     (tie.spec
     Inv-loop
     μ-loop
+    returns
+    singles-requires
     loop-holds
     cast-k
     add-x
-    pattern-at-requires
-    add-write-cube
-    add-write-cube-2
-    cast-write-cube
+    add-corners
+    corners-requires
+    add-t22
+    cast-t21
+    add-t23
+    shr-write-cube
     write-cube-requires
     shr-w
     add-i
@@ -152,4 +206,5 @@ write-word-spec =
     loop-again
     same-length
     same-length-2
-    returns)
+    same-length-3
+    returns-2)
