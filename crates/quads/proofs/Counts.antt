@@ -1,118 +1,80 @@
--- How many crossed inner edges start from a row and from a plane: word by word, and row by row.
+-- How many crossed inner edges start from a row: a sum over its words, and a quarter of the words that its quads take.
 -- Assumes nothing.
-use mathlib.Core.Path.{_≡_, refl, sym, ap, ap₂, _∙_}
-use mathlib.Core.Bool.{Bool}
-use mathlib.Core.List.{List}
-use Prim.Native.Nat.{ℕ, _+_, _*_, _-_, _≤_, _<_}
-use native.Mathlib.Nat.{mul-zero, mul-assoc}
+use mathlib.Core.Path.{_≡_, refl, sym, ap, _∙_}
+use mathlib.Core.Bool.{Bool, true, false, cond}
+use mathlib.Core.List.{List, []}
+use Prim.Native.Nat.{ℕ, zero, suc, _+_, _*_, _-_, _^_, _≤_, _<_}
+use native.Mathlib.Numerals.{add-one}
 use native.Mathlib.Omega.{arith}
+use lib.Bits.{bitAnd, and-le-r}
 use lib.Count.{ones}
-use Rattle.laws.specs.Counting.{count}
-use Rattle.laws.proofs.Counting.{count-add, count-same}
-use Rattle.laws.proofs.Index.{index-x, index-y, index-z}
+use lib.Dec.{ltb}
+use lib.ListN.{length, length-append}
+use Rattle.laws.specs.Below.{below}
+use Rattle.laws.specs.Bits.{bit, holds}
+use Rattle.laws.specs.Pack.{pack, total}
+use Rattle.laws.proofs.Bits.{bit-le}
+use Rattle.laws.proofs.Pack.{pack-lt}
+use Rattle.laws.proofs.Words.{digit-holds, word-of, word-ones}
 use Rattle.block.specs.declared.Cut.{Cut}
 use Rattle.block.specs.declared.Size.{Size}
-use Rattle.block.specs.Numbering.{Axis}
-use Rattle.mesh_rule.specs.Layers.{planeSize}
-use Rattle.mesh_rule.specs.Grid.{crossedInner}
+use Rattle.mesh_rule.specs.Grid.{between}
+use Rattle.signs.specs.Signs.{alongX, alongY, alongZ}
+use Rattle.vertices.specs.Layers.{picked}
+use Rattle.vertices.proofs.Visits.{bitsOf}
 use Rattle.quads.specs.declared.Along.{Along}
 use Rattle.quads.specs.declared.Along.the-variants.{AxisX, AxisY, AxisZ}
-use Rattle.quads.specs.Edges.{alongAxis, crossedOn, firstRow, RowIn, Planes, edgesOf, PlaneCount}
-use Rattle.quads.proofs.Crossed.{crossed-past, crossed-first, crossed-last, edges-word}
-use Rattle.quads.proofs.Ranges.{count-past, count-empty, ones-count}
+use Rattle.quads.specs.Edges.{alongAxis, RowIn, Planes, wordsIn, edgesOf, edgeCount}
+use Rattle.quads.specs.Writing.{rowBy, rowQuads}
+use Rattle.quads.proofs.RowQuads.{quad-four, row-count}
 
--- ---- a row
+-- ---- a sum
 
-module _ (n : Size) (s : List ℕ) (cut : Cut) (along : Along) (k : ℕ) (a b : List ℕ) (j : ℕ) (p : Planes n s cut (alongAxis along) k a b) (r : RowIn n along j) where
-  abbrev onRow : ℕ → Bool
-  onRow x = crossedOn n s cut (alongAxis along) j k x
+pub total-none : (f : ℕ → ℕ) → total f 0 ≡ 0
+unfolding total
+total-none f = refl
 
-  pub row-none : 0 ≡ count onRow (64 * 0)
-  row-none = sym (count-empty onRow 0 (λ x l. absurd (omega arith)))
+pub total-one : (f : ℕ → ℕ) (n : ℕ) → total f (n + 1) ≡ f n + total f n
+unfolding total
+total-one f n = rw (add-one n)
 
-  -- one word more
-  pub row-word : (w m c nx : ℕ) → nx ≡ n .nx → w < 4 → m ≡ count onRow (64 * w) → c ≡ ones (edgesOf along a b nx j w) → m + c ≡ count onRow (64 * (w + 1))
-  row-word w m c nx en hw em ec =
-      ap₂ (λ (x y : ℕ). x + y) em (ec ∙ ap (λ (x : ℕ). ones (edgesOf along a b x j w)) en ∙ ones-count _ (λ i. onRow (64 * w + i)) 64 (edges-word n s cut along k a b j w p r hw))
-      ∙ sym (count-add onRow (64 * w) 64)
-      ∙ ap (count onRow) next
-    where
-      next : 64 * w + 64 ≡ 64 * (w + 1)
-      next = omega arith
+-- ---- four words for each edge
 
-  -- nothing is counted past the row's end
-  pub row-past : (w nx : ℕ) → nx ≡ n .nx → nx ≤ 64 * w → count onRow nx ≡ count onRow (64 * w)
-  row-past w nx e h = sym (count-past onRow nx (64 * w) h (λ x l. crossed-past n s cut (alongAxis along) x j k (omega arith)))
+-- lists, each four times as long as a number
+length-total : {A : Type 0} (f : ℕ → List A) (g : ℕ → ℕ) (n : ℕ) → ((x : ℕ) → x < n → length (f x) ≡ 4 * g x) → length (below f n) ≡ 4 * total g n
+unfolding below total
+length-total f g zero h = refl
+length-total f g (suc n) h = omega (arith, length-append (below f n) (f n), length-total f g n (λ x l. h x (omega arith)), h n (omega arith))
 
--- ---- a plane
+-- one list for each set bit
+picked-total : {A : Type 0} (d : ℕ) (f : ℕ → List A) → d < 2 ^ 64 → ((i : ℕ) → length (f i) ≡ 4) → length (below (picked d f) 64) ≡ 4 * ones d
+picked-total d f h four =
+    length-total (picked d f) (bitsOf d) 64 (λ i l. one i (holds d i) ∙ ap (λ (x : ℕ). 4 * x) (sym (digit-holds d i)))
+    ∙ ap (λ (x : ℕ). 4 * x) (sym (word-ones (word-of d 64 h)))
+  where
+    one : (i : ℕ) (t : Bool) → length (cond t (f i) []) ≡ 4 * bit t
+    one i true = four i
+    one i false = refl
 
--- an index of plane k is that of a sample (x,j,k)
-pub plane-index : (w h x j k : ℕ) → w * h * k + (w * j + x) ≡ x + w * (j + h * k)
-plane-index w h x j k = omega (arith, mul-assoc w h k)
+-- a word under a mask is a word
+under : (d : ℕ) (f : ℕ → Bool) → bitAnd d (pack (λ i. bit (f i)) 64) < 2 ^ 64
+under d f = less (and-le-r d (pack (λ i. bit (f i)) 64)) (pack-lt (λ i. bit (f i)) (λ i. bit-le (f i)) 64)
+  where
+    less : {x y z : ℕ} → x ≤ y → y < z → x < z
+    less p q = omega arith
 
-module _ (n : Size) (s : List ℕ) (cut : Cut) (k : ℕ) where
-  abbrev pub onPlane : Axis → ℕ → Bool
-  onPlane axis q = crossedInner n s cut axis (planeSize n * k + q)
+edges-lt : (along : Along) (a b : List ℕ) (nx j w : ℕ) → edgesOf along a b nx j w < 2 ^ 64
+unfolding edgesOf
+edges-lt AxisX a b nx j w = under (alongX a (5 * j + w)) (λ i. ltb (64 * w + i) (nx - 1))
+edges-lt AxisY a b nx j w = under (alongY a (5 * j + w)) (λ i. between nx (64 * w + i))
+edges-lt AxisZ a b nx j w = under (alongZ a b (5 * j + w)) (λ i. between nx (64 * w + i))
 
-  at : (axis : Axis) (j x : ℕ) → x < n .nx → j < n .ny → onPlane axis (n .nx * j + x) ≡ crossedOn n s cut axis j k x
-  at axis j x hx hj =
-      ap (crossedInner n s cut axis) (plane-index (n .nx) (n .ny) x j k)
-      ∙ rw (index-x (n .nx) (n .ny) x j k hx hj, index-y (n .nx) (n .ny) x j k hx hj, index-z (n .nx) (n .ny) x j k hx hj)
+-- whatever the tables say
+pub row-counted : (along : Along) (a b : List ℕ) (nx j : ℕ) (n0 n1 n2 n3 : List ℕ) → length (rowBy along a b nx j n0 n1 n2 n3) ≡ 4 * edgeCount along a b nx j
+row-counted along a b nx j n0 n1 n2 n3 =
+    length-total _ _ (wordsIn nx) (λ w _. picked-total (edgesOf along a b nx j w) _ (edges-lt along a b nx j w) (λ i. quad-four _ _ _ n0 n1 n2 n3 _ _))
 
-  row-of : (axis : Axis) (j : ℕ) → j < n .ny → count (onPlane axis) (n .nx * (j + 1)) ≡ count (onPlane axis) (n .nx * j) + count (crossedOn n s cut axis j k) (n .nx)
-  row-of axis j hj =
-      ap (count (onPlane axis)) next
-      ∙ count-add (onPlane axis) (n .nx * j) (n .nx)
-      ∙ ap (λ (c : ℕ). count (onPlane axis) (n .nx * j) + c) (count-same _ _ (n .nx) (λ x l. at axis j x l hj))
-    where
-      next : n .nx * (j + 1) ≡ n .nx * j + n .nx
-      next = omega arith
-
-  -- before the first row
-  start-at : (along : Along) (j : ℕ) → 2 ≤ n .ny → j ≡ firstRow along → 0 ≡ count (onPlane (alongAxis along)) (n .nx * j)
-  start-at along j h e = rw e (go along)
-    where
-      one : (along : Along) → firstRow along ≡ 1 → 0 ≡ count (onPlane (alongAxis along)) (n .nx * 1)
-      one along f =
-          sym (row-of (alongAxis along) 0 (omega arith)
-          ∙ ap₂ (λ (x y : ℕ). x + y) (ap (count (onPlane (alongAxis along))) (mul-zero (n .nx)) ∙ none (onPlane (alongAxis along)))
-          (count-empty _ (n .nx) (λ x l. crossed-first n s cut along x 0 k (rw f (omega arith)))))
-        where
-          none : (g : ℕ → Bool) → count g 0 ≡ 0
-          none g = count-empty g 0 (λ x l. absurd (omega arith))
-
-      go : (along : Along) → 0 ≡ count (onPlane (alongAxis along)) (n .nx * firstRow along)
-      go AxisX = one AxisX refl
-      go AxisY = rw (mul-zero (n .nx)) (sym (count-empty _ 0 (λ x l. absurd (omega arith))))
-      go AxisZ = one AxisZ refl
-
-  module _ (nx ny : ℕ) (ex : nx ≡ n .nx) (ey : ny ≡ n .ny) where
-    pub plane-start : (along : Along) (j : ℕ) → 2 ≤ ny → j ≡ firstRow along → 0 ≡ count (onPlane (alongAxis along)) (nx * j)
-    plane-start along j h e = rw ex (start-at along j (omega arith) e)
-
-    -- one row more
-    pub plane-row : (axis : Axis) (j m c : ℕ) → j < ny → m ≡ count (onPlane axis) (nx * j) → c ≡ count (λ (x : ℕ). crossedOn n s cut axis j k x) nx
-        → m + c ≡ count (onPlane axis) (nx * (j + 1))
-    plane-row axis j m c hj em ec =
-        ap₂ (λ (x y : ℕ). x + y) (em ∙ ap (λ (w : ℕ). count (onPlane axis) (w * j)) ex) (ec ∙ ap (count (crossedOn n s cut axis j k)) ex)
-        ∙ sym (row-of axis j (omega arith))
-        ∙ ap (λ (w : ℕ). count (onPlane axis) (w * (j + 1))) (sym ex)
-
-    -- the whole plane: no inner edge starts from its last row
-    pub plane-whole : (axis : Axis) (j m : ℕ) → j + 1 ≡ ny → m ≡ count (onPlane axis) (nx * j) → m ≡ count (onPlane axis) (nx * ny)
-    plane-whole axis j m e em =
-        em
-        ∙ ap (λ (w : ℕ). count (onPlane axis) (w * j)) ex
-        ∙ sym (row-of axis j (omega arith) ∙ ap (λ (c : ℕ). count (onPlane axis) (n .nx * j) + c) (count-empty _ (n .nx) (λ x l. crossed-last n s cut axis x j k (omega arith))) ∙ plus-none _)
-        ∙ ap₂ (λ (w y : ℕ). count (onPlane axis) (w * y)) (sym ex) e
-      where
-        plus-none : (x : ℕ) → x + 0 ≡ x
-        plus-none x = omega arith
-
-    pub plane-size : nx * ny ≡ planeSize n
-    plane-size = ap₂ (λ (w y : ℕ). w * y) ex ey
-
--- what `count_plane` answers, of the block
-pub counted : (n : Size) (s : List ℕ) (cut : Cut) (along : Along) (k : ℕ) (a b : List ℕ) (nx ny r : ℕ) → PlaneCount along a b nx ny (nx * ny) r
-    → Planes n s cut (alongAxis along) k a b → nx ≡ n .nx → ny ≡ n .ny → r ≡ count (onPlane n s cut k (alongAxis along)) (planeSize n)
-counted n s cut along k a b nx ny r h p ex ey = h n s cut k p ex ey ∙ ap (count (onPlane n s cut k (alongAxis along))) (plane-size n s cut k nx ny ex ey)
+-- in a block
+pub block-counted : (loopsOf : Cut → List ℕ → List ℕ) (n : Size) (s : List ℕ) (cut : Cut) (along : Along) (j k : ℕ) (a b : List ℕ) → Planes n s cut (alongAxis along) k a b → RowIn n along j
+    → length (rowQuads loopsOf n s cut (alongAxis along) k j) ≡ 4 * edgeCount along a b (n .nx) j
+block-counted loopsOf n s cut along j k a b p r = sym (row-count loopsOf n s cut along j k a b p r [] [] [] []) ∙ row-counted along a b (n .nx) j [] [] [] []

@@ -1,18 +1,18 @@
 -- The crossed inner edges of a plane by the words of its signs: what the words are, and what they stand on.
 -- Assumes nothing.
-use Prim.Native.Nat.{ℕ, _+_, _*_, _-_, _≤_, _<_}
+use Prim.Native.Nat.{ℕ, _+_, _*_, _-_, _/_, _≤_, _<_}
 use mathlib.Core.Path.{_≡_}
 use mathlib.Core.Bool.{Bool, _&&_}
 use mathlib.Core.List.{List}
 use lib.Bits.{bitAnd}
+use lib.Count.{ones}
 use lib.ListN.{length}
-use Rattle.laws.specs.Counting.{count}
+use Rattle.laws.specs.Pack.{total}
 use Rattle.block.specs.declared.Cut.{Cut}
 use Rattle.block.specs.declared.Size.{Size}
 use Rattle.block.specs.Numbering.{Axis, X, Y, Z}
 use Rattle.block.specs.Size.{Limits}
-use Rattle.mesh_rule.specs.Grid.{inner, crossedFrom, crossedInner}
-use Rattle.mesh_rule.specs.Layers.{planeSize}
+use Rattle.mesh_rule.specs.Grid.{inner, crossedFrom}
 use Rattle.signs.specs.Signs.{Plane, alongX, alongY, alongZ, limitOf, innerOf}
 use Rattle.quads.specs.declared.Along.{Along}
 use Rattle.quads.specs.declared.Along.the-variants.{AxisX, AxisY, AxisZ}
@@ -57,18 +57,10 @@ edgesOf AxisX a b nx j w = bitAnd (alongX a (5 * j + w)) (limitOf (nx - 1) w)
 edgesOf AxisY a b nx j w = bitAnd (alongY a (5 * j + w)) (innerOf nx w)
 edgesOf AxisZ a b nx j w = bitAnd (alongZ a b (5 * j + w)) (innerOf nx w)
 
--- r is how many crossed inner edges along the axis have their lower samples on plane k
-abbrev pub PlaneCounted : Size → List ℕ → Cut → Axis → ℕ → ℕ → Type 0
-PlaneCounted n s cut axis k r = r ≡ count (λ (p : ℕ). crossedInner n s cut axis (planeSize n * k + p)) (planeSize n)
+-- how many words hold the signs of nx samples
+abbrev pub wordsIn : ℕ → ℕ
+wordsIn nx = (nx + 63) / 64
 
--- r is how many crossed inner edges start from the first m samples of row j of a plane, in every block of which a and b hold the signs
-abbrev pub RowCount : Along → List ℕ → List ℕ → ℕ → ℕ → ℕ → ℕ → Type 0
-RowCount along a b nx j m r =
-    (n : Size) (s : List ℕ) (cut : Cut) (k : ℕ) → Planes n s cut (alongAxis along) k a b → RowIn n along j → nx ≡ n .nx
-    → r ≡ count (λ (x : ℕ). crossedOn n s cut (alongAxis along) j k x) m
-
--- the same of the first m samples of a plane
-abbrev pub PlaneCount : Along → List ℕ → List ℕ → ℕ → ℕ → ℕ → ℕ → Type 0
-PlaneCount along a b nx ny m r =
-    (n : Size) (s : List ℕ) (cut : Cut) (k : ℕ) → Planes n s cut (alongAxis along) k a b → nx ≡ n .nx → ny ≡ n .ny
-    → r ≡ count (λ (p : ℕ). crossedInner n s cut (alongAxis along) (planeSize n * k + p)) m
+-- how many crossed inner edges start from row j: the set bits of its words
+abbrev pub edgeCount : Along → List ℕ → List ℕ → ℕ → ℕ → ℕ
+edgeCount along a b nx j = total (λ (w : ℕ). ones (edgesOf along a b nx j w)) (wordsIn nx)

@@ -1,92 +1,132 @@
--- What the writing of quads stands on, and what it leaves in the buffer.
+-- The quads of the edges from one row of samples, by the numbers of the vertices in the four rows of cubes round them (document 01, "The mesh").
+-- The four are taken two in the lower layer and two in the upper one, or all in one layer. Along y that is the order of 01's table with second
+-- and fourth changed.
 -- Assumes nothing.
-use Prim.Native.Nat.{ℕ, _+_, _-_, _/_, _%_, _^_, _≤_, _<_}
+use Prim.Native.Nat.{ℕ, _+_, _*_, _-_, _/_, _%_, _^_, _≤_}
 use mathlib.Core.Path.{_≡_}
-use mathlib.Core.List.{List}
-use lib.ListN.{length}
+use mathlib.Core.Bool.{Bool, not}
+use mathlib.Core.List.{List, [], _∷_}
+use lib.Dec.{eqb}
+use lib.ListN.{length, getD}
 use lib.Seq.{sets}
 use Rattle.laws.specs.Below.{below}
-use Rattle.laws.specs.Bits.{bit}
-use Rattle.laws.proofs.Words.{Word}
-use Rattle.block.specs.declared.Checked.the-variants.{Passes}
 use Rattle.block.specs.declared.Cut.{Cut}
 use Rattle.block.specs.declared.Size.{Size}
-use Rattle.block.specs.Numbering.{Axis, sampleCount}
-use Rattle.block.specs.Rows.{thresholdRow, ceilingRow}
-use Rattle.block.specs.Size.{Limits}
-use Rattle.cube_rule.specs.Decider.{loopsOf}
-use Rattle.mesh_rule.specs.Layers.{layerWords, layerFirst}
-use Rattle.mesh_rule.specs.Grid.{metal}
-use Rattle.mesh_rule.specs.Mesh.{flat, quadAt}
-use Rattle.signs.specs.Signs.{Plane}
+use Rattle.block.specs.Numbering.{Axis}
+use Rattle.mesh_rule.specs.Grid.{cornersOf}
+use Rattle.mesh_rule.specs.Layers.{rowCube}
+use Rattle.mesh_rule.specs.Mesh.{quad, turned, flat, quadAt, cubeLoops, verticesBefore}
+use Rattle.vertices.specs.Cubes.{namesBy}
+use Rattle.vertices.specs.Layers.{picked}
+use Rattle.vertices.specs.Tables.{numberAt, Numbered}
 use Rattle.quads.specs.declared.Along.{Along}
-use Rattle.quads.specs.declared.Cursors.{Cursors}
-use Rattle.quads.specs.declared.Four.{Four}
-use Rattle.quads.specs.Edges.{alongAxis, crossedOn, RowIn, PlaneIn}
-use Rattle.quads.specs.Parts.{leadCube}
-use Rattle.quads.specs.Rings.{layerOfFirst, fourOf}
+use Rattle.quads.specs.declared.Along.the-variants.{AxisX, AxisY, AxisZ}
+use Rattle.quads.specs.declared.Order.{Order}
+use Rattle.quads.specs.Edges.{wordsIn, edgesOf}
 
--- a block that rows 1 to 4 pass
-pub record Accepted (n : Size) (s : List ℕ) (cut : Cut) : Type 0 where
-  pub limits : Limits n
-  pub count : length s ≡ sampleCount n
-  pub threshold : thresholdRow cut ≡ Passes
-  pub ceiling : ceilingRow s ≡ Passes
+-- the rows of the first, the second and the fourth cube; the third is in row j of layer k
+abbrev pub rowOfFirst : Along → ℕ → ℕ
+rowOfFirst AxisX j = j - 1
+rowOfFirst AxisY j = j
+rowOfFirst AxisZ j = j - 1
 
--- a and b hold the vertices of the layers round the edges from plane k, and af and bf are the numbers of their first
-pub record PlaneReady (n : Size) (s : List ℕ) (cut : Cut) (along : Along) (k : ℕ) (a : List ℕ) (af : ℕ) (b : List ℕ) (bf : ℕ) : Type 0 where
-  pub accepted : Accepted n s cut
-  pub in-z : PlaneIn n (alongAxis along) k
-  pub low-words : a ≡ layerWords n s cut (layerOfFirst along k)
-  pub low-first : af ≡ layerFirst n s cut (layerOfFirst along k)
-  pub words : b ≡ layerWords n s cut k
-  pub first : bf ≡ layerFirst n s cut k
+abbrev pub rowOfSecond : Along → ℕ → ℕ
+rowOfSecond AxisX j = j
+rowOfSecond AxisY j = j
+rowOfSecond AxisZ j = j - 1
+
+abbrev pub rowOfFourth : Along → ℕ → ℕ
+rowOfFourth AxisX j = j - 1
+rowOfFourth AxisY j = j
+rowOfFourth AxisZ j = j
+
+-- the layer of the first two
+abbrev pub layerOfFirst : Along → ℕ → ℕ
+layerOfFirst AxisX k = k - 1
+layerOfFirst AxisY k = k - 1
+layerOfFirst AxisZ k = k
+
+-- how much less x is for the first and the last
+abbrev pub backOf : Along → ℕ
+backOf AxisX = 0
+backOf AxisY = 1
+backOf AxisZ = 1
+
+-- the edge's number in the third; in the others it is 3, 2 and 1 more
+abbrev pub edgeOf : Along → ℕ
+edgeOf AxisX = 0
+edgeOf AxisY = 4
+edgeOf AxisZ = 8
+
+-- the lower sample's sign with which this order is the quad's
+abbrev pub orderSign : Along → ℕ
+orderSign AxisX = 1
+orderSign AxisY = 0
+orderSign AxisZ = 1
+
+abbrev pub upOn : Along → Bool → Bool
+upOn AxisX b = b
+upOn AxisY b = not b
+upOn AxisZ b = b
+
+-- the three together
+abbrev pub orderOf : Along → Order
+orderOf along = record { e = edgeOf along; back = backOf along; sign = orderSign along }
+
+-- ---- one edge, 64 edges, a row
+
+-- the quad of the edge from x by four tables; `up` is the sign of its lower sample
+unfoldable pub quadBy : ℕ → ℕ → ℕ → List ℕ → List ℕ → List ℕ → List ℕ → ℕ → ℕ → List ℕ
+quadBy e back sign n0 n1 n2 n3 up x =
+    flat (turned (eqb up sign) (quad (numberAt n0 (x - back) (e + 3)) (numberAt n1 x (e + 2)) (numberAt n2 x e) (numberAt n3 (x - back) (e + 1))) ∷ [])
+
+-- those of the 64 edges from x on whose bits are set
+abbrev pub wordBy : ℕ → ℕ → ℕ → List ℕ → List ℕ → List ℕ → List ℕ → ℕ → ℕ → ℕ → List ℕ
+wordBy e back sign n0 n1 n2 n3 d up x = below (picked d (λ (i : ℕ). quadBy e back sign n0 n1 n2 n3 (up / 2 ^ i % 2) (x + i))) 64
+
+-- those of the crossed inner edges from row j of a plane
+abbrev pub rowBy : Along → List ℕ → List ℕ → ℕ → ℕ → List ℕ → List ℕ → List ℕ → List ℕ → List ℕ
+rowBy along a b nx j n0 n1 n2 n3 =
+    below (λ (w : ℕ). wordBy (edgeOf along) (backOf along) (orderSign along) n0 n1 n2 n3 (edgesOf along a b nx j w) (getD a (5 * j + w) 0) (64 * w)) (wordsIn nx)
+
+-- the tables reach as far as the cubes round the edge from x
+pub record Reach (back x : ℕ) (n0 n1 n2 n3 : List ℕ) : Type 0 where
+  pub low : back ≤ x
+  pub n0-long : 2 * x + 2 ≤ length n0
+  pub n1-long : 2 * x + 2 ≤ length n1
+  pub n2-long : 2 * x + 2 ≤ length n2
+  pub n3-long : 2 * x + 2 ≤ length n3
+
+-- and as far as a row of cubes
+pub record Tables (nx : ℕ) (n0 n1 n2 n3 : List ℕ) : Type 0 where
+  pub n0-row : 2 * nx ≤ length n0 + 2
+  pub n1-row : 2 * nx ≤ length n1 + 2
+  pub n2-row : 2 * nx ≤ length n2 + 2
+  pub n3-row : 2 * nx ≤ length n3 + 2
+
+-- xs is written from a place on, and `end` is the place behind it
+pub record Wrote (xs : List ℕ) (from : ℕ) (before after : List ℕ) (end : ℕ) : Type 0 where
+  pub words : after ≡ sets before from xs
+  pub place : end ≡ from + length xs
+
+-- ---- in a block
+
+-- the numbers of the row y of the layer z
+abbrev pub RowTable : (Cut → List ℕ → List ℕ) → Size → List ℕ → Cut → ℕ → ℕ → List ℕ → Type 0
+RowTable loopsOf n s cut y z numbers =
+    Numbered (λ (x : ℕ). cubeLoops loopsOf n s cut (rowCube (n .nx) (n .ny) y z + x)) (λ (x : ℕ). namesBy loopsOf cut (cornersOf n s (rowCube (n .nx) (n .ny) y z + x))) (n .nx - 1)
+    (length (verticesBefore loopsOf n s cut (rowCube (n .nx) (n .ny) y z))) numbers
+
+-- those of the four rows of cubes round the edges from row j of plane k
+pub record RingTables (loopsOf : Cut → List ℕ → List ℕ) (n : Size) (s : List ℕ) (cut : Cut) (along : Along) (j k : ℕ) (n0 n1 n2 n3 : List ℕ) : Type 0 where
+  pub t0 : RowTable loopsOf n s cut (rowOfFirst along j) (layerOfFirst along k) n0
+  pub t1 : RowTable loopsOf n s cut (rowOfSecond along j) (layerOfFirst along k) n1
+  pub t2 : RowTable loopsOf n s cut j k n2
+  pub t3 : RowTable loopsOf n s cut (rowOfFourth along j) k n3
 
 -- what the buffer holds of the edge from (x,j,k), and of a row
-abbrev pub edgeQuads : Size → List ℕ → Cut → Axis → ℕ → ℕ → ℕ → List ℕ
-edgeQuads n s cut axis j k x = flat (quadAt loopsOf n s cut axis x j k)
+abbrev pub edgeQuads : (Cut → List ℕ → List ℕ) → Size → List ℕ → Cut → Axis → ℕ → ℕ → ℕ → List ℕ
+edgeQuads loopsOf n s cut axis j k x = flat (quadAt loopsOf n s cut axis x j k)
 
-abbrev pub rowQuads : Size → List ℕ → Cut → Axis → ℕ → ℕ → List ℕ
-rowQuads n s cut axis k j = below (edgeQuads n s cut axis j k) (n .nx)
-
--- the row of a Four
-pub record InRow (n : Size) (f : Four) : Type 0 where
-  pub built : f ≡ fourOf (n .nx) (n .ny) (f .along) (f .j) (f .k)
-  pub row : RowIn n (f .along) (f .j)
-
--- the bits of d are the crossed inner edges from x on, and those of up the signs of their lower samples
-pub record RunOf (n : Size) (s : List ℕ) (cut : Cut) (f : Four) (d up x : ℕ) : Type 0 where
-  pub bits : Word d (λ (i : ℕ). bit (crossedOn n s cut (alongAxis (f .along)) (f .j) (f .k) (x + i))) 64
-  pub signs : (i : ℕ) → i < 64 → x + i < n .nx → up / 2 ^ i % 2 ≡ bit (metal n s cut (x + i) (f .j) (f .k))
-
--- the cursors have left the row, and not gone further
-pub record RowLeft (n : Size) (a b : List ℕ) (f : Four) (c : Cursors) : Type 0 where
-  pub b0 : c .v0 ≤ leadCube (f .c0 + (n .nx - 1) - f .back) a
-  pub b1 : c .v1 ≤ leadCube (f .c1 + (n .nx - 1) - 0) a
-  pub b2 : c .v2 ≤ leadCube (f .c2 + (n .nx - 1) - 0) b
-  pub b3 : c .v3 ≤ leadCube (f .c3 + (n .nx - 1) - f .back) b
-
--- what the quads along x and y of plane k are made from: the signs of the plane, and the vertices of the layers below and above it
-pub record TwoLayers (n : Size) (s : List ℕ) (cut : Cut) (k : ℕ) (a below : List ℕ) (belowFirst : ℕ) (here : List ℕ) (hereFirst : ℕ) : Type 0 where
-  pub accepted : Accepted n s cut
-  pub low : 0 < k
-  pub high : k + 1 < n .nz
-  pub plane : Plane n s cut k a
-  pub below-words : below ≡ layerWords n s cut (k - 1)
-  pub below-first : belowFirst ≡ layerFirst n s cut (k - 1)
-  pub here-words : here ≡ layerWords n s cut k
-  pub here-first : hereFirst ≡ layerFirst n s cut k
-
--- and those along z from plane k to the next: the signs of both planes, and the vertices of the layer between them
-pub record OneLayer (n : Size) (s : List ℕ) (cut : Cut) (k : ℕ) (a b here : List ℕ) (hereFirst : ℕ) : Type 0 where
-  pub accepted : Accepted n s cut
-  pub high : k + 1 < n .nz
-  pub lower : Plane n s cut k a
-  pub upper : Plane n s cut (k + 1) b
-  pub here-words : here ≡ layerWords n s cut k
-  pub here-first : hereFirst ≡ layerFirst n s cut k
-
--- xs is written from a place on, and `at` is the place behind it
-pub record Wrote (xs : List ℕ) (from : ℕ) (before after : List ℕ) (at : ℕ) : Type 0 where
-  pub words : after ≡ sets before from xs
-  pub place : at ≡ from + length xs
+abbrev pub rowQuads : (Cut → List ℕ → List ℕ) → Size → List ℕ → Cut → Axis → ℕ → ℕ → List ℕ
+rowQuads loopsOf n s cut axis k j = below (edgeQuads loopsOf n s cut axis j k) (n .nx)

@@ -1,27 +1,25 @@
--- `count_row` meets its contract. The loop's invariant: m counts the crossed inner edges of the first w words, in every block with these signs. The
--- measure is what is left of the row.
+-- `count_row` meets its contract. The loop's invariant: m is the sum of the ones of the first w words. The measure is what is left of the row.
 -- Assumes nothing.
 use borrow.Author.Needs.{needs}
 use native.Mathlib.Omega.{arith}
-use mathlib.Core.Path.{sym, ap, _∙_}
-use Prim.Native.Nat.{_+_, _-_, _*_, _≤_}
+use mathlib.Core.Path.{_≡_, sym, ap, _∙_}
+use Prim.Native.Nat.{ℕ, _-_, _*_, _≤_}
 use lib.Count.{ones}
 use denote.Ref.{now}
-use Rattle.quads.specs.Edges.{RowCount}
-use Rattle.quads.proofs.Counts.{row-none, row-word, row-past}
+use Rattle.laws.specs.Pack.{total}
+use Rattle.quads.specs.Edges.{wordsIn, edgesOf}
+use Rattle.quads.proofs.Counts.{total-none, total-one}
 use Rattle.quads.proofs.count_row.Statement.{statement}
 use Rattle.quads.proofs.count_row.Tie as tie
 
 abbrev Inv-loop : tie.InvT-loop
-Inv-loop along a b nx j m₀ w₀ m w = (64 * w ≤ nx + 63) × (m ≤ 64 * w) × RowCount along a b nx j (64 * w) m
+Inv-loop along a b nx j m₀ w₀ m w = (w ≤ wordsIn nx) × (m ≤ 64 * w) × (m ≡ total (λ (w : ℕ). ones (edgesOf along a b nx j w)) w)
 
 abbrev μ-loop : tie.MeasureT-loop
 μ-loop along a b nx j m₀ w₀ m w = nx - 64 * w
 
 loop-holds : tie.Need-loop-holds Inv-loop μ-loop
-loop-holds c =
-    let a = c .before .before .args in
-    (omega arith, omega arith, λ n s cut k p r e. row-none n s cut (a .along) k (now (a .a)) (now (a .b)) (a .j) p r)
+loop-holds c = (omega arith, omega arith, sym (total-none _))
 
 mul-loop : tie.Need-mul-loop Inv-loop μ-loop
 mul-loop c = search needs
@@ -44,19 +42,21 @@ loop-less c = search needs
 loop-again : tie.Need-loop-again Inv-loop μ-loop
 loop-again c =
     let a = c .before .before .before .before .before .before .args in
-    let h = c .before .before .before .loop in (
+    let h = c .before .before .before .loop in
+    let f : (w : ℕ) → ℕ = λ w. ones (edgesOf (a .along) (now (a .a)) (now (a .b)) (a .nx) (a .j) w) in (
       omega arith,
       omega arith,
-      λ n s cut k p r e.
-          row-word n s cut (a .along) k (now (a .a)) (now (a .b)) (a .j) p r (h .w) (h .m) _ (a .nx) e (omega arith) (h .inv .2 n s cut k p r e)
-          (c .ones-of .ensures .0 ∙ ap ones (c .before .edges .ensures)),
+      omega (arith, h .inv .2, total-one f (h .w), c .ones-of .ensures .0, ap ones (c .before .edges .ensures)),
     )
 
 returns : tie.Need-returns Inv-loop μ-loop
 returns c =
     let a = c .before .before .before .before .args in
     let h = c .before .loop in
-    (λ n s cut k p r e. h .inv .2 n s cut k p r e ∙ sym (row-past n s cut (a .along) k (now (a .a)) (now (a .b)) (a .j) p r (h .w) (a .nx) e (omega arith)), omega arith)
+    (h .inv .2 ∙ ap (total (λ (w : ℕ). ones (edgesOf (a .along) (now (a .a)) (now (a .b)) (a .nx) (a .j) w))) (all (h .inv .0) (c .loop-test .left)), omega arith)
+  where
+    all : {w nx : ℕ} → w ≤ wordsIn nx → nx ≤ 64 * w → w ≡ wordsIn nx
+    all p q = omega arith
 
 pub count-row-spec : {M : Type 1} → statement M
 count-row-spec =
