@@ -61,7 +61,7 @@ module _ {nx ny nz : ℕ} {s : List ℕ} {t : ℕ} (a : MeshCall nx ny nz s t) w
   pub other-word-falls : (k : ℕ) → k < 2 * vertexCount size s cut → (getD (a .words-after) k 0 ≡ getD (flatVertices (vertices loopsOf size s cut)) k 0 → ⊥) → ⊥
   other-word-falls k l h = h (word-at a k (omega (arith, l, mesh-given a .vertex-count)))
 
-  pub other-offset-falls : (k : ℕ) → k < 3 * vertexCount size s cut → (getD (a .offsets-after) k nan ≡ getD (meshOffsets size s cut) k nan → ⊥) → ⊥
+  pub other-offset-falls : (k : ℕ) → k < 3 * vertexCount size s cut → (getD (a .offsets-after) k nan ≡ getD (meshOffsets loopsOf size s cut) k nan → ⊥) → ⊥
   other-offset-falls k l h = h (offset-at a k (omega (arith, l, mesh-given a .vertex-count)))
 
   pub other-quad-falls : (k : ℕ) → k < 4 * quadCount size s cut → (getD (a .quads-after) k 0 ≡ getD (flat (quads loopsOf size s cut)) k 0 → ⊥) → ⊥
@@ -73,7 +73,7 @@ module _ {nx ny nz : ℕ} {s : List ℕ} {t : ℕ} (a : MeshCall nx ny nz s t) w
       → a .words-after ≡ a .words → ⊥
   unwritten-words-fall k l h e = other-word-falls k l (λ same. h (ap (λ (x : List ℕ). getD x k 0) (sym e) ∙ same))
 
-  pub unwritten-offsets-fall : (k : ℕ) → k < 3 * vertexCount size s cut → (getD (a .offsets) k nan ≡ getD (meshOffsets size s cut) k nan → ⊥)
+  pub unwritten-offsets-fall : (k : ℕ) → k < 3 * vertexCount size s cut → (getD (a .offsets) k nan ≡ getD (meshOffsets loopsOf size s cut) k nan → ⊥)
       → a .offsets-after ≡ a .offsets → ⊥
   unwritten-offsets-fall k l h e = other-offset-falls k l (λ same. h (ap (λ (x : List Float). getD x k nan) (sym e) ∙ same))
 

@@ -84,20 +84,20 @@ module _ {nx ny nz : ℕ} {s : List ℕ} {t : ℕ} (a : MeshCall nx ny nz s t) w
 
   quads-in : a .quads-after ≡ over (flat (quads loopsOf size s cut)) (a .quads)
   unfolding meshQuads
-  quads-in = written-by verdict (meshQuads size s cut) (a .quads) (a .quads-after) (both .0) (a .promise .quads)
+  quads-in = written-by verdict (meshQuads loopsOf size s cut) (a .quads) (a .quads-after) (both .0) (a .promise .quads)
 
   flat-long : length (flat (quads loopsOf size s cut)) ≡ 4 * a .counts .quads
   flat-long = flat-length (quads loopsOf size s cut) ∙ omega (arith, quads-are)
 
-  offsets-in : a .offsets-after ≡ over (meshOffsets size s cut) (a .offsets)
-  offsets-in = written-by verdict (meshOffsets size s cut) (a .offsets) (a .offsets-after) (both .0) (a .promise .offsets)
+  offsets-in : a .offsets-after ≡ over (meshOffsets loopsOf size s cut) (a .offsets)
+  offsets-in = written-by verdict (meshOffsets loopsOf size s cut) (a .offsets) (a .offsets-after) (both .0) (a .promise .offsets)
 
-  offsets-long : length (meshOffsets size s cut) ≡ 3 * a .counts .vertices
+  offsets-long : length (meshOffsets loopsOf size s cut) ≡ 3 * a .counts .vertices
   offsets-long = mesh-offsets-length size s cut ∙ omega (arith, vertices-are)
 
   words-in : a .words-after ≡ over (flatVertices (vertices loopsOf size s cut)) (a .words)
   words-in =
-      written-by verdict (meshWords size s cut) (a .words) (a .words-after) (both .0) (a .promise .words)
+      written-by verdict (meshWords loopsOf size s cut) (a .words) (a .words-after) (both .0) (a .promise .words)
       ∙ ap (λ (l : List ℕ). over l (a .words)) (sym (words-are-vertices size s cut))
 
   words-long : length (flatVertices (vertices loopsOf size s cut)) ≡ 2 * a .counts .vertices
@@ -107,8 +107,8 @@ module _ {nx ny nz : ℕ} {s : List ℕ} {t : ℕ} (a : MeshCall nx ny nz s t) w
   pub word-at : (k : ℕ) → k < 2 * a .counts .vertices → getD (a .words-after) k 0 ≡ getD (flatVertices (vertices loopsOf size s cut)) k 0
   word-at k h = rw words-in (over-front (flatVertices (vertices loopsOf size s cut)) (a .words) k 0 (rw words-long h))
 
-  pub offset-at : (k : ℕ) → k < 3 * a .counts .vertices → getD (a .offsets-after) k nan ≡ getD (meshOffsets size s cut) k nan
-  offset-at k h = rw offsets-in (over-front (meshOffsets size s cut) (a .offsets) k nan (rw offsets-long h))
+  pub offset-at : (k : ℕ) → k < 3 * a .counts .vertices → getD (a .offsets-after) k nan ≡ getD (meshOffsets loopsOf size s cut) k nan
+  offset-at k h = rw offsets-in (over-front (meshOffsets loopsOf size s cut) (a .offsets) k nan (rw offsets-long h))
 
   pub number-at : (k : ℕ) → k < 4 * a .counts .quads → getD (a .quads-after) k 0 ≡ getD (flat (quads loopsOf size s cut)) k 0
   number-at k h = rw quads-in (over-front (flat (quads loopsOf size s cut)) (a .quads) k 0 (rw flat-long h))

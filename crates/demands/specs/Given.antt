@@ -31,7 +31,7 @@ module _ {nx ny nz : ℕ} {s : List ℕ} {t : ℕ} (a : MeshCall nx ny nz s t) w
     pub words : a .words-after ≡ over (flatVertices (vertices loopsOf size s cut)) (a .words)
     pub vertex-count : a .counts .vertices ≡ length (vertices loopsOf size s cut)
     -- the places of the loops, each coordinate from 0 to 1
-    pub offsets : a .offsets-after ≡ over (meshOffsets size s cut) (a .offsets)
+    pub offsets : a .offsets-after ≡ over (meshOffsets loopsOf size s cut) (a .offsets)
     pub in-unit : (k : ℕ) → k < 3 * a .counts .vertices → InUnit (getD (a .offsets-after) k nan)
     -- the quads in 01's order, as many as crossed inner edges, and each number that of a vertex
     pub quads : a .quads-after ≡ over (flat (quadsOf loopsOf size s cut)) (a .quads)

@@ -22,6 +22,7 @@ use Rattle.block.specs.Numbering.{sampleCount}
 use Rattle.block.specs.Rows.{axisRow, countRow, thresholdRow, ceilingRow}
 use Rattle.block.proofs.Order.{order-passes}
 use Rattle.block.proofs.Rows.{count-passes}
+use Rattle.cube_rule.specs.Decider.{loopsOf}
 use Rattle.mesh_rule.specs.Buffers.{meshWords, meshOffsets, meshQuads}
 use Rattle.block.specs.Grey.{SixteenBit}
 use Rattle.mesh_rule.proofs.Offsets.{offsets-in-unit, mesh-offsets-length}
@@ -32,7 +33,7 @@ use Rattle.mesh.specs.declared.Counted.{Counted}
 use Rattle.mesh.specs.declared.Counted.the-variants as counted
 use Rattle.mesh.specs.Answer.{sizeOf, vertexCount, quadCount, countsOf, meshVerdict, written, Meshed}
 use Rattle.mesh.proofs.RoomRows.{roomy}
-use Rattle.mesh.proofs.Writings.{quads-all-length}
+use Rattle.mesh.proofs.Tallies.{quads-all-length}
 use Rattle.lines.specs.Input.{sampleRead, samplesRead}
 use Rattle.lines.specs.Output.{refusalLine, meshText, blockText, printed}
 use Rattle.lines.specs.Steps.{Numbers, Readable}
@@ -143,14 +144,14 @@ module _ (nx ny nz t : ℕ) (s w : List ℕ) (o : List Float) (q : List ℕ) (r 
     quads-are : c .quads ≡ quadCount size s cut
     quads-are = ap (λ (x : Totals). x .quads) (both .1)
 
-    words-are : take (2 * c .vertices) w′ ≡ meshWords size s cut
-    words-are = written-front verdict (meshWords size s cut) w w′ (2 * c .vertices) (both .0) (m .words) (mesh-words-length size s cut ∙ omega (arith, vertices-are))
+    words-are : take (2 * c .vertices) w′ ≡ meshWords loopsOf size s cut
+    words-are = written-front verdict (meshWords loopsOf size s cut) w w′ (2 * c .vertices) (both .0) (m .words) (mesh-words-length size s cut ∙ omega (arith, vertices-are))
 
-    offsets-are : take (3 * c .vertices) o′ ≡ meshOffsets size s cut
-    offsets-are = written-front verdict (meshOffsets size s cut) o o′ (3 * c .vertices) (both .0) (m .offsets) (mesh-offsets-length size s cut ∙ omega (arith, vertices-are))
+    offsets-are : take (3 * c .vertices) o′ ≡ meshOffsets loopsOf size s cut
+    offsets-are = written-front verdict (meshOffsets loopsOf size s cut) o o′ (3 * c .vertices) (both .0) (m .offsets) (mesh-offsets-length size s cut ∙ omega (arith, vertices-are))
 
-    quad-numbers-are : take (4 * c .quads) q′ ≡ meshQuads size s cut
-    quad-numbers-are = written-front verdict (meshQuads size s cut) q q′ (4 * c .quads) (both .0) (m .quads) (quads-all-length size s cut ∙ omega (arith, quads-are))
+    quad-numbers-are : take (4 * c .quads) q′ ≡ meshQuads loopsOf size s cut
+    quad-numbers-are = written-front verdict (meshQuads loopsOf size s cut) q q′ (4 * c .quads) (both .0) (m .quads) (quads-all-length size s cut ∙ omega (arith, quads-are))
 
     accepted-text : meshText (c .vertices) (c .quads) (take (2 * c .vertices) w′) (take (3 * c .vertices) o′) (take (4 * c .quads) q′)
         ≡ printed (ceilingRow s) (blockText size s cut)

@@ -16,6 +16,7 @@ use Rattle.block.specs.declared.Checked.the-variants.{Passes, Refuses}
 use Rattle.block.specs.Answer.{inOrder}
 use Rattle.block.specs.Rows.{axisRow, thresholdRow, ceilingRow}
 use Rattle.block.proofs.Order.{order-first, order-rest, order-last, orders-refuse, orders-pass}
+use Rattle.cube_rule.specs.Decider.{loopsOf}
 use Rattle.mesh_rule.proofs.Small.{few-vertices, few-quads}
 use Rattle.mesh_rule.specs.Buffers.{meshWords, meshOffsets, meshQuads}
 use Rattle.mesh.specs.Answer.{sizeOf, vertexCount, quadCount}
@@ -72,7 +73,7 @@ module _ (bytes : List ℕ) (nx ny nz t : ℕ) (ex : nx ≡ numberAt bytes 0 4) 
 
 text-fits : (n : Size) (s : List ℕ) (cut : Cut) → AtMostEight (n .nx) (n .ny) (n .nz) → length (blockText n s cut) ≤ 112917
 text-fits n s cut h =
-    rw (mesh-length (vertexCount n s cut) (quadCount n s cut) (meshWords n s cut) (meshOffsets n s cut) (meshQuads n s cut))
+    rw (mesh-length (vertexCount n s cut) (quadCount n s cut) (meshWords loopsOf n s cut) (meshOffsets loopsOf n s cut) (meshQuads loopsOf n s cut))
     (omega (arith, few-vertices n s cut (h .x) (h .y) (h .z), few-quads n s cut (h .x) (h .y) (h .z)))
 
 -- no output is longer

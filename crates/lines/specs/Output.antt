@@ -11,6 +11,7 @@ use Rattle.block.specs.declared.Size.{Size}
 use Rattle.block.specs.declared.Refusal.{Refusal}
 use Rattle.block.specs.declared.Checked.{Checked}
 use Rattle.block.specs.declared.Checked.the-variants.{Passes, Refuses}
+use Rattle.cube_rule.specs.Decider.{loopsOf}
 use Rattle.mesh_rule.specs.Buffers.{meshWords, meshOffsets, meshQuads}
 use Rattle.mesh.specs.Answer.{vertexCount, quadCount}
 use Rattle.closed.specs.Closed.{Finding, allSound, openAt, findingOf}
@@ -54,7 +55,7 @@ meshText v q words offsets quads =
 
 -- the mesh of a block
 abbrev pub blockText : Size → List ℕ → Cut → List ℕ
-blockText n s cut = meshText (vertexCount n s cut) (quadCount n s cut) (meshWords n s cut) (meshOffsets n s cut) (meshQuads n s cut)
+blockText n s cut = meshText (vertexCount n s cut) (quadCount n s cut) (meshWords loopsOf n s cut) (meshOffsets loopsOf n s cut) (meshQuads loopsOf n s cut)
 
 -- what is written where the checks say k: the text, or a refusal
 unfoldable pub printed : Checked → List ℕ → List ℕ

@@ -1,12 +1,11 @@
--- Layer by layer: the lists and counts up to a layer and of the layer are those up to the next, and those up to the last are all.
+-- Layer by layer: the lists and counts up to a layer and of the layer are those up to the next.
 -- Assumes nothing.
-use Prim.Native.Nat.{ℕ, zero, suc, _+_, _*_, _-_, _≤_, _<_}
+use Prim.Native.Nat.{ℕ, zero, suc, _+_, _*_, _-_}
 use mathlib.Core.Path.{_≡_, refl, ap, ap₂, sym, _∙_}
 use mathlib.Core.List.{List, [], _∷_, _++_, map}
 use native.Mathlib.Nat.{mul-add, mul-one, mul-assoc}
 use native.Mathlib.Omega.{arith}
 use lib.ListN.{length, length-append, length-map}
-use lib.Ieee.{Float}
 use Rattle.laws.specs.Below.{below}
 use Rattle.laws.proofs.Below.{below-add}
 use Rattle.block.specs.declared.Cut.{Cut}
@@ -17,9 +16,9 @@ use Rattle.place.specs.declared.Offset.{Offset}
 use Rattle.place.specs.Place.{placeOf}
 use Rattle.cell.specs.Answer.{wordOf}
 use Rattle.mesh_rule.specs.Grid.{cornersOf}
-use Rattle.mesh_rule.specs.Mesh.{verticesOf, verticesBefore, vertices, cubeLoops}
-use Rattle.mesh_rule.specs.Buffers.{pairs, triples, cubeWords, cubeOffsets, meshWords, meshOffsets}
-use Rattle.mesh_rule.specs.Layers.{layerSize, layerWords, layerOffsets, layerCount, layerFirst}
+use Rattle.mesh_rule.specs.Mesh.{verticesOf, verticesBefore, cubeLoops}
+use Rattle.mesh_rule.specs.Buffers.{pairs, triples, cubeWords, cubeOffsets}
+use Rattle.mesh_rule.specs.Layers.{layerSize, layerWords, layerCount, layerFirst}
 use Rattle.mesh_rule.proofs.Numbers.{one-for-each-loop}
 
 -- one layer of l more
@@ -61,38 +60,27 @@ module _ (n : Size) (s : List ℕ) (cut : Cut) where
       one : (x : ℕ) → x ≡ 1 * x
       one x = omega arith
 
-  pub layer-first-next : (k : ℕ) → layerFirst n s cut (k + 1) ≡ layerFirst n s cut k + layerCount n s cut k
+  pub layer-first-next : (k : ℕ) → layerFirst loopsOf n s cut (k + 1) ≡ layerFirst loopsOf n s cut k + layerCount loopsOf n s cut k
   layer-first-next k =
       vertices-masks (layerSize n * (k + 1))
       ∙ ap length (layer-next (cubeLoops loopsOf n s cut) (layerSize n) k)
       ∙ length-append (masksBefore (layerSize n * k)) (below (λ (x : ℕ). cubeLoops loopsOf n s cut (layerSize n * k + x)) (layerSize n))
-      ∙ ap (λ (x : ℕ). x + layerCount n s cut k) (sym (vertices-masks (layerSize n * k)))
+      ∙ ap (λ (x : ℕ). x + layerCount loopsOf n s cut k) (sym (vertices-masks (layerSize n * k)))
 
-  pub layer-first-none : layerFirst n s cut 0 ≡ 0
-  unfolding verticesBefore below
-  layer-first-none = ap (λ (x : ℕ). length (below (verticesOf loopsOf n s cut) x)) (zero-of (layerSize n))
-    where
-      zero-of : (x : ℕ) → x * 0 ≡ 0
-      zero-of x = omega arith
-
-  pub layer-first-last : (k : ℕ) → k + 1 ≡ n .nz → layerFirst n s cut k ≡ length (vertices loopsOf n s cut)
-  unfolding vertices
-  layer-first-last k e = ap (λ (x : ℕ). length (verticesBefore loopsOf n s cut x)) (layers-all n k e)
-
-  words-of-cube : (c : ℕ) → length (cubeWords n s cut c) ≡ 2 * length (cubeLoops loopsOf n s cut c)
+  words-of-cube : (c : ℕ) → length (cubeWords loopsOf n s cut c) ≡ 2 * length (cubeLoops loopsOf n s cut c)
   unfolding cubeWords
   words-of-cube c = pairs-length c (map (wordOf (cornersOf n s c)) (cubeLoops loopsOf n s cut c)) ∙ ap (λ (x : ℕ). 2 * x) (length-map (cubeLoops loopsOf n s cut c) (wordOf (cornersOf n s c)))
 
-  offsets-of-cube : (c : ℕ) → length (cubeOffsets n s cut c) ≡ 3 * length (cubeLoops loopsOf n s cut c)
+  offsets-of-cube : (c : ℕ) → length (cubeOffsets loopsOf n s cut c) ≡ 3 * length (cubeLoops loopsOf n s cut c)
   unfolding cubeOffsets
   offsets-of-cube c = triples-length (map (placeOf cut (cornersOf n s c)) (cubeLoops loopsOf n s cut c)) ∙ ap (λ (x : ℕ). 3 * x) (length-map (cubeLoops loopsOf n s cut c) (placeOf cut (cornersOf n s c)))
 
   -- two words and three floats a vertex
-  pub words-length : (c : ℕ) → length (below (cubeWords n s cut) c) ≡ 2 * length (verticesBefore loopsOf n s cut c)
-  words-length c = length-scaled (cubeWords n s cut) (cubeLoops loopsOf n s cut) 2 c words-of-cube ∙ ap (λ (x : ℕ). 2 * x) (sym (vertices-masks c))
+  pub words-length : (c : ℕ) → length (below (cubeWords loopsOf n s cut) c) ≡ 2 * length (verticesBefore loopsOf n s cut c)
+  words-length c = length-scaled (cubeWords loopsOf n s cut) (cubeLoops loopsOf n s cut) 2 c words-of-cube ∙ ap (λ (x : ℕ). 2 * x) (sym (vertices-masks c))
 
-  pub offsets-length : (c : ℕ) → length (below (cubeOffsets n s cut) c) ≡ 3 * length (verticesBefore loopsOf n s cut c)
-  offsets-length c = length-scaled (cubeOffsets n s cut) (cubeLoops loopsOf n s cut) 3 c offsets-of-cube ∙ ap (λ (x : ℕ). 3 * x) (sym (vertices-masks c))
+  pub offsets-length : (c : ℕ) → length (below (cubeOffsets loopsOf n s cut) c) ≡ 3 * length (verticesBefore loopsOf n s cut c)
+  offsets-length c = length-scaled (cubeOffsets loopsOf n s cut) (cubeLoops loopsOf n s cut) 3 c offsets-of-cube ∙ ap (λ (x : ℕ). 3 * x) (sym (vertices-masks c))
 
-  pub layer-words-length : (k : ℕ) → length (layerWords n s cut k) ≡ 2 * layerCount n s cut k
-  layer-words-length k = length-scaled (λ (x : ℕ). cubeWords n s cut (layerSize n * k + x)) (λ (x : ℕ). cubeLoops loopsOf n s cut (layerSize n * k + x)) 2 (layerSize n) (λ x. words-of-cube (layerSize n * k + x))
+  pub layer-words-length : (k : ℕ) → length (layerWords loopsOf n s cut k) ≡ 2 * layerCount loopsOf n s cut k
+  layer-words-length k = length-scaled (λ (x : ℕ). cubeWords loopsOf n s cut (layerSize n * k + x)) (λ (x : ℕ). cubeLoops loopsOf n s cut (layerSize n * k + x)) 2 (layerSize n) (λ x. words-of-cube (layerSize n * k + x))

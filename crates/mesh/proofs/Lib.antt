@@ -4,9 +4,11 @@ pub mod RoomRows
 pub mod Regions
 pub mod PlaneQuads
 pub mod Verdicts
+pub mod ReadRows
+pub mod Rows
 pub mod Tallies
 pub mod Writings
-pub mod PlaneSteps
+pub mod RowSteps
+pub mod Belows
 pub mod LayerSteps
-pub mod BlockSteps
 pub mod MeshSteps

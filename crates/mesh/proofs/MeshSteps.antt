@@ -1,6 +1,6 @@
 -- The verdict of a call whose size is made: rows 2 to 4 first, then rows 5 and 6 with the counts. A refusal leaves the buffers, and where all
 -- rows pass there is room for the whole mesh. Assumes nothing.
-use Prim.Native.Nat.{ℕ, _*_, _≤_}
+use Prim.Native.Nat.{ℕ, _*_}
 use mathlib.Core.Path.{_≡_, refl, ap, sym, _∙_}
 use mathlib.Core.Bool.{Bool, true, false, cond, _&&_}
 use mathlib.Core.List.{List, [], _∷_}
@@ -9,6 +9,7 @@ use lib.Dec.{leb}
 use lib.ListN.{length}
 use lib.Ieee.{Float}
 use borrow.Author.Tests.{leb-true}
+use Rattle.cube_rule.specs.Decider.{loopsOf}
 use Rattle.laws.specs.Below.{over}
 use Rattle.block.specs.declared.Cut.{Cut}
 use Rattle.block.specs.declared.Size.{Size}
@@ -19,10 +20,10 @@ use Rattle.block.specs.Answer.{inOrder, refuses}
 use Rattle.block.specs.Rows.{countRow, thresholdRow, ceilingRow}
 use Rattle.block.specs.Size.{Limits}
 use Rattle.block.proofs.Order.{orders-refuse, orders-pass, order-first, order-rest}
-use Rattle.quads.specs.Writing.{Accepted}
 use Rattle.mesh.specs.declared.Totals.{Totals}
 use Rattle.mesh.specs.declared.Counted.the-variants as counted
 use Rattle.mesh.specs.Answer.{countsOf, vertexRow, quadRow, vertexCount, quadCount, written, MeshedBy}
+use Rattle.mesh.specs.Steps.{Accepted}
 use Rattle.mesh.specs.Writes.{Roomy, BlockWritten}
 use Rattle.mesh.proofs.Verdicts.{refused-by, judged-passed, block-of, threshold-of, ceiling-of}
 
@@ -64,7 +65,7 @@ module _ (n : Size) (s : List ℕ) (cut : Cut) where
     pub late-refused : early ≡ Passes → (c : Totals) → c ≡ countsOf n s cut → (r : Refusal) → late c ≡ Refuses r → MeshedBy verdict n s cut w o q (counted.Refused r) w o q
     late-refused e c f r h = refused-by verdict n s cut w o q r (late-decides e c f ∙ h)
 
-    pub roomy-of : (c : Totals) → c ≡ countsOf n s cut → late c ≡ Passes → Roomy n s cut w o q
+    pub roomy-of : (c : Totals) → c ≡ countsOf n s cut → late c ≡ Passes → Roomy loopsOf n s cut w o q
     roomy-of c f h =
         let l : late (countsOf n s cut) ≡ Passes = ap late (sym f) ∙ h in
         let v = both (leb (2 * vertexCount n s cut) (length w)) (leb (3 * vertexCount n s cut) (length o)) 5 (vertexCount n s cut) (order-first (vertexRow (vertexCount n s cut) (length w) (length o)) _ l) in
@@ -77,7 +78,7 @@ module _ (n : Size) (s : List ℕ) (cut : Cut) where
 
     -- all pass
     pub passed-by : early ≡ Passes → (c : Totals) → c ≡ countsOf n s cut → late c ≡ Passes → (w′ : List ℕ) (o′ : List Float) (q′ : List ℕ)
-        → BlockWritten n s cut w w′ o o′ q q′ → MeshedBy verdict n s cut w o q (counted.Counts c) w′ o′ q′
+        → BlockWritten loopsOf n s cut w w′ o o′ q q′ → MeshedBy verdict n s cut w o q (counted.Counts c) w′ o′ q′
     passed-by e c f h w′ o′ q′ b =
         let k : verdict ≡ Passes = late-decides e c f ∙ h in
         record {

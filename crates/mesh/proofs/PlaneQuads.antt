@@ -1,25 +1,23 @@
 -- The quad buffer's three lists, one for each axis, plane by plane.
 -- Assumes nothing.
-use Prim.Native.Nat.{ℕ, zero, suc, _+_, _*_, _/_, _%_, _≤_, _<_}
+use Prim.Native.Nat.{ℕ, zero, suc, _+_, _*_, _/_, _%_, _<_}
 use mathlib.Core.Path.{_≡_, refl, ap, ap₂, sym, _∙_}
-use mathlib.Core.Bool.{Bool, true, false, cond, _&&_}
+use mathlib.Core.Bool.{Bool, cond, _&&_}
 use mathlib.Core.List.{List, [], _∷_, _++_, append-nil}
 use native.Mathlib.Nat.{mul-assoc}
 use native.Mathlib.Omega.{arith}
-use lib.ListN.{length, length-append}
+use lib.ListN.{length}
 use Rattle.laws.specs.Below.{below}
-use Rattle.laws.specs.Counting.{count}
 use Rattle.block.specs.declared.Cut.{Cut}
 use Rattle.block.specs.declared.Size.{Size}
 use Rattle.block.specs.Numbering.{Axis, X, Y, Z, sampleCount}
 use Rattle.cube_rule.specs.Decider.{loopsOf}
-use Rattle.mesh_rule.specs.Grid.{metal, inner, crossedFrom, crossedInner}
+use Rattle.mesh_rule.specs.Grid.{metal, inner, crossedFrom}
 use Rattle.mesh_rule.specs.Mesh.{Quad, turned, flat, around, quadAt, quadsBefore, quads}
 use Rattle.mesh_rule.specs.Buffers.{meshQuads}
 use Rattle.mesh_rule.specs.Layers.{planeSize, quadsFrom, planeQuads}
-use Rattle.mesh_rule.proofs.Quads.{quads-along, quad-count}
-use Rattle.mesh.specs.Writes.{quadsUpTo}
-use Rattle.mesh.proofs.Layers.{layer-next, length-scaled}
+use Rattle.mesh.specs.Steps.{quadsUpTo}
+use Rattle.mesh.proofs.Layers.{layer-next}
 use Rattle.mesh.proofs.Planes.{Outer, outer-inner, outer-last, plane-z}
 
 flat-append : (p q : List Quad) → flat (p ++ q) ≡ flat p ++ flat q
@@ -41,12 +39,12 @@ below-none {A} f zero h = refl
 below-none {A} f (suc m) h = ap₂ (λ (x y : List A). x ++ y) (below-none f m (λ p l. h p (omega arith))) (h m (omega arith))
 
 module _ (n : Size) (s : List ℕ) (cut : Cut) where
-  pub quads-flat : (a : Axis) (m : ℕ) → flat (quadsBefore loopsOf n s cut a m) ≡ quadsUpTo n s cut a m
+  pub quads-flat : (a : Axis) (m : ℕ) → flat (quadsBefore loopsOf n s cut a m) ≡ quadsUpTo loopsOf n s cut a m
   unfolding quadsBefore
   quads-flat a m = flat-below (λ (p : ℕ). quadAt loopsOf n s cut a (p % n .nx) (p / n .nx % n .ny) (p / n .nx / n .ny)) m
 
   -- the whole buffer
-  pub mesh-quads : meshQuads n s cut ≡ quadsUpTo n s cut X (sampleCount n) ++ quadsUpTo n s cut Y (sampleCount n) ++ quadsUpTo n s cut Z (sampleCount n)
+  pub mesh-quads : meshQuads loopsOf n s cut ≡ quadsUpTo loopsOf n s cut X (sampleCount n) ++ quadsUpTo loopsOf n s cut Y (sampleCount n) ++ quadsUpTo loopsOf n s cut Z (sampleCount n)
   unfolding meshQuads quads
   mesh-quads =
       flat-append (quadsBefore loopsOf n s cut X (sampleCount n) ++ quadsBefore loopsOf n s cut Y (sampleCount n)) (quadsBefore loopsOf n s cut Z (sampleCount n))
@@ -55,28 +53,24 @@ module _ (n : Size) (s : List ℕ) (cut : Cut) where
       ∙ ap₂ (λ (x y : List ℕ). x ++ y) (quads-flat X (sampleCount n)) (quads-flat Y (sampleCount n)))
       (quads-flat Z (sampleCount n))
 
-  -- four words a quad
-  pub quads-length : (a : Axis) (m : ℕ) → length (quadsUpTo n s cut a m) ≡ 4 * count (crossedInner n s cut a) m
-  quads-length a m = ap length (sym (quads-flat a m)) ∙ flat-length (quadsBefore loopsOf n s cut a m) ∙ ap (λ (x : ℕ). 4 * x) (quads-along loopsOf n s cut a m)
-
   -- an outer plane has none
-  pub plane-quads-none : (a : Axis) (k : ℕ) → Outer n s cut a k → planeQuads n s cut a k ≡ []
+  pub plane-quads-none : (a : Axis) (k : ℕ) → Outer n s cut a k → planeQuads loopsOf n s cut a k ≡ []
   unfolding quadAt
-  plane-quads-none a k o = below-none (λ (x : ℕ). quadsFrom n s cut a (planeSize n * k + x)) (planeSize n) none
+  plane-quads-none a k o = below-none (λ (x : ℕ). quadsFrom loopsOf n s cut a (planeSize n * k + x)) (planeSize n) none
     where
-      none : (p : ℕ) → p < planeSize n → quadsFrom n s cut a (planeSize n * k + p) ≡ []
+      none : (p : ℕ) → p < planeSize n → quadsFrom loopsOf n s cut a (planeSize n * k + p) ≡ []
       none p l =
           let q = planeSize n * k + p in
           ap (λ (b : Bool). flat (cond (b && crossedFrom n s cut a (q % n .nx) (q / n .nx % n .ny) (q / n .nx / n .ny)) (turned (metal n s cut (q % n .nx) (q / n .nx % n .ny) (q / n .nx / n .ny)) (around loopsOf n s cut a (q % n .nx) (q / n .nx % n .ny) (q / n .nx / n .ny)) ∷ []) []))
           (ap (λ (z : ℕ). inner n a (q % n .nx) (q / n .nx % n .ny) z) (plane-z n s cut k p l) ∙ outer-inner n s cut a (q % n .nx) (q / n .nx % n .ny) k o)
 
-  pub planes-quads-next : (a : Axis) (k : ℕ) → quadsUpTo n s cut a (planeSize n * (k + 1)) ≡ quadsUpTo n s cut a (planeSize n * k) ++ planeQuads n s cut a k
-  planes-quads-next a k = layer-next (quadsFrom n s cut a) (planeSize n) k
+  pub planes-quads-next : (a : Axis) (k : ℕ) → quadsUpTo loopsOf n s cut a (planeSize n * (k + 1)) ≡ quadsUpTo loopsOf n s cut a (planeSize n * k) ++ planeQuads loopsOf n s cut a k
+  planes-quads-next a k = layer-next (quadsFrom loopsOf n s cut a) (planeSize n) k
 
   -- those of the planes before the last are all
-  pub planes-quads-all : (a : Axis) (k : ℕ) → k + 1 ≡ n .nz → quadsUpTo n s cut a (planeSize n * k) ≡ quadsUpTo n s cut a (sampleCount n)
+  pub planes-quads-all : (a : Axis) (k : ℕ) → k + 1 ≡ n .nz → quadsUpTo loopsOf n s cut a (planeSize n * k) ≡ quadsUpTo loopsOf n s cut a (sampleCount n)
   planes-quads-all a k e =
-      sym (append-nil (quadsUpTo n s cut a (planeSize n * k)))
-      ∙ ap (λ (l : List ℕ). quadsUpTo n s cut a (planeSize n * k) ++ l) (sym (plane-quads-none a k (outer-last n s cut a k e)))
+      sym (append-nil (quadsUpTo loopsOf n s cut a (planeSize n * k)))
+      ∙ ap (λ (l : List ℕ). quadsUpTo loopsOf n s cut a (planeSize n * k) ++ l) (sym (plane-quads-none a k (outer-last n s cut a k e)))
       ∙ sym (planes-quads-next a k)
-      ∙ ap (quadsUpTo n s cut a) (ap (λ (x : ℕ). planeSize n * x) e ∙ mul-assoc (n .nx) (n .ny) (n .nz))
+      ∙ ap (quadsUpTo loopsOf n s cut a) (ap (λ (x : ℕ). planeSize n * x) e ∙ mul-assoc (n .nx) (n .ny) (n .nz))

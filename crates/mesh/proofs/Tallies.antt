@@ -1,121 +1,134 @@
--- A tally goes on from layer to layer, and is whole when the last layer is counted.
+-- The marks go on from row to row, and count the whole mesh when the last row is behind them.
 -- Assumes nothing.
-use Prim.Native.Nat.{ℕ, zero, suc, _+_, _*_, _≤_, _<_}
+use Prim.Native.Nat.{ℕ, _+_, _*_, _-_, _/_, _≤_, _<_}
 use mathlib.Core.Path.{_≡_, refl, ap, ap₂, sym, _∙_, subst}
-use mathlib.Core.List.{List}
+use mathlib.Core.List.{List, _++_}
+use native.Mathlib.Nat.{add-zero, mul-assoc}
 use native.Mathlib.Omega.{arith}
-use lib.ListN.{length}
-use Rattle.laws.specs.Counting.{count}
+use lib.ListN.{length, length-append}
+use Rattle.laws.specs.Below.{below}
 use Rattle.block.specs.declared.Cut.{Cut}
 use Rattle.block.specs.declared.Size.{Size}
-use Rattle.block.specs.Numbering.{Axis, X, Y, Z, sampleCount}
+use Rattle.block.specs.Numbering.{Axis, X, Y, Z, sampleCount, cubeCount}
 use Rattle.block.specs.Size.{Limits}
 use Rattle.cube_rule.specs.Decider.{joined, loopsOf}
 use Rattle.cube_rule.proofs.Laws.{cube-laws}
-use Rattle.mesh_rule.specs.Layers.{planeSize, layerCount, layerFirst}
+use Rattle.mesh_rule.specs.Buffers.{meshQuads}
+use Rattle.mesh_rule.specs.Layers.{rowCube, rowSample}
+use Rattle.mesh_rule.specs.Mesh.{verticesBefore, vertices, quads}
 use Rattle.mesh_rule.proofs.Counts.{most-vertices, most-quads}
-use Rattle.mesh_rule.specs.Grid.{crossedInner}
-use Rattle.mesh_rule.proofs.Quads.{quads-along, quad-count}
-use Rattle.mesh.specs.declared.Tally.{Tally}
+use Rattle.quads.specs.Writing.{rowQuads}
+use Rattle.layers.specs.declared.Marks.{Marks}
+use Rattle.layers.specs.Steps.{RowFew}
 use Rattle.mesh.specs.declared.Totals.{Totals}
 use Rattle.mesh.specs.Answer.{vertexCount, quadCount, countsOf}
-use Rattle.mesh.specs.Steps.{quadsTo, Counting, Tallied}
-use Rattle.mesh.proofs.Layers.{layer-first-none, layer-first-next, layer-first-last}
-use Rattle.mesh.proofs.Planes.{planeCount, planesCount, planes-next, planes-all, plane-none, end-first}
+use Rattle.mesh.specs.Steps.{quadsUpTo, MarkedTo, Marking, Counting, Tallied, RowMoved}
+use Rattle.mesh.proofs.Layers.{layers-all}
+use Rattle.mesh.proofs.PlaneQuads.{flat-length, mesh-quads, planes-quads-all}
+use Rattle.mesh.proofs.Rows.{next-cube, next-layer-cube, cube-in, row-next, row-last, quads-room, row-vertices, vertices-le}
 
 module _ (n : Size) (s : List ℕ) (cut : Cut) where
-  abbrev tally : ℕ → ℕ → ℕ → ℕ → Tally
-  tally v x y z = record { vertices = v; x = x; y = y; z = z }
+  -- ---- all of them
 
-  quads-to : (a : Axis) (m : ℕ) → quadsTo n s cut a m ≡ count (crossedInner n s cut a) m
-  quads-to a m = quads-along loopsOf n s cut a m
+  pub vertices-are : length (verticesBefore loopsOf n s cut (cubeCount n)) ≡ vertexCount n s cut
+  unfolding vertices
+  vertices-are = refl
 
-  quads-none : (a : Axis) → quadsTo n s cut a (planeSize n * 0) ≡ 0
-  unfolding count
-  quads-none a = quads-to a (planeSize n * 0) ∙ ap (count (crossedInner n s cut a)) (zero-of (planeSize n))
-    where
-      zero-of : (x : ℕ) → x * 0 ≡ 0
-      zero-of x = omega arith
+  pub quads-all-length : length (meshQuads loopsOf n s cut) ≡ 4 * quadCount n s cut
+  unfolding meshQuads
+  quads-all-length = flat-length (quads loopsOf n s cut)
 
-  quads-next : (a : Axis) (k : ℕ) → quadsTo n s cut a (planeSize n * (k + 1)) ≡ quadsTo n s cut a (planeSize n * k) + planeCount n s cut a k
-  quads-next a k =
-      quads-to a (planeSize n * (k + 1)) ∙ planes-next n s cut a k ∙ ap (λ (x : ℕ). x + planeCount n s cut a k) (sym (quads-to a (planeSize n * k)))
+  pub all-quads : length (quadsUpTo loopsOf n s cut X (sampleCount n)) + length (quadsUpTo loopsOf n s cut Y (sampleCount n)) + length (quadsUpTo loopsOf n s cut Z (sampleCount n)) ≡ 4 * quadCount n s cut
+  all-quads =
+      let xs = quadsUpTo loopsOf n s cut X (sampleCount n) in
+      let ys = quadsUpTo loopsOf n s cut Y (sampleCount n) in
+      let zs = quadsUpTo loopsOf n s cut Z (sampleCount n) in
+      omega (arith, quads-all-length, ap length (mesh-quads n s cut), length-append (xs ++ ys) zs, length-append xs ys)
 
-  quads-all : (a : Axis) (k : ℕ) → k + 1 ≡ n .nz → quadsTo n s cut a (planeSize n * k) ≡ quadsTo n s cut a (sampleCount n)
-  quads-all a k e = quads-to a (planeSize n * k) ∙ planes-all n s cut a k e ∙ sym (quads-to a (sampleCount n))
+  -- those before the last layer are all
+  layers : (k w h : ℕ) → w * (0 + h * k) ≡ w * h * k
+  layers k w h = omega (arith, mul-assoc w h k)
 
-  -- before the first layer
-  pub counting-none : Counting n s cut 0 (tally 0 0 0 0)
-  counting-none = record {
-    vertices = sym (layer-first-none n s cut);
-    x = sym (quads-none X);
-    y = sym (quads-none Y);
-    z = sym (quads-none Z);
-    few-vertices = omega arith;
-    few-x = omega arith;
-    few-y = omega arith;
-    few-z = omega arith;
-  }
+  pub all-cubes : (k : ℕ) → k + 1 ≡ n .nz → rowCube (n .nx) (n .ny) 0 k ≡ cubeCount n
+  all-cubes k e = layers k (n .nx - 1) (n .ny - 1) ∙ layers-all n k e
 
-  -- the next layer: its vertices, the edges on its lower plane and those between its planes
-  pub counting-more : (k : ℕ) (t : Tally) (v x y z : ℕ) → Counting n s cut k t
-      → v ≡ layerCount n s cut k → v ≤ 260100 → x ≡ planeCount n s cut X k → x ≤ 65536 → y ≡ planeCount n s cut Y k → y ≤ 65536 → z ≡ planeCount n s cut Z k → z ≤ 65536
-      → Counting n s cut (k + 1) (tally (t .vertices + v) (t .x + x) (t .y + y) (t .z + z))
-  counting-more k t v x y z c ev lv ex lx ey ly ez lz = record {
-    vertices = ap₂ (λ (a b : ℕ). a + b) (c .vertices) ev ∙ sym (layer-first-next n s cut k);
-    x = ap₂ (λ (a b : ℕ). a + b) (c .x) ex ∙ sym (quads-next X k);
-    y = ap₂ (λ (a b : ℕ). a + b) (c .y) ey ∙ sym (quads-next Y k);
-    z = ap₂ (λ (a b : ℕ). a + b) (c .z) ez ∙ sym (quads-next Z k);
-    few-vertices = more 260100 k (t .vertices) v (c .few-vertices) lv;
-    few-x = more 65536 k (t .x) x (c .few-x) lx;
-    few-y = more 65536 k (t .y) y (c .few-y) ly;
-    few-z = more 65536 k (t .z) z (c .few-z) lz;
-  }
-    where
-      more : (m k a b : ℕ) → a ≤ m * k → b ≤ m → a + b ≤ m * (k + 1)
-      more m k a b p q = omega arith
+  pub all-planes : (a : Axis) (k : ℕ) → k + 1 ≡ n .nz → quadsUpTo loopsOf n s cut a (rowSample (n .nx) (n .ny) 0 k) ≡ quadsUpTo loopsOf n s cut a (sampleCount n)
+  all-planes a k e = ap (quadsUpTo loopsOf n s cut a) (layers k (n .nx) (n .ny)) ∙ planes-quads-all n s cut a k e
 
-  -- the first plane has no inner edges along x and y
-  pub first-plane-x : planeCount n s cut X 0 ≡ 0
-  first-plane-x = plane-none n s cut X 0 (end-first (n .nz))
+  module _ (y₀ z₀ : ℕ) where
+    -- ---- before the first row
 
-  pub first-plane-y : planeCount n s cut Y 0 ≡ 0
-  first-plane-y = plane-none n s cut Y 0 (end-first (n .nz))
+    abbrev start : Marks
+    start = record { v = 0; x = 0; y = y₀; z = z₀ }
 
-  -- after the last layer
-  pub counting-all : (k : ℕ) (t : Tally) → Counting n s cut k t → k + 1 ≡ n .nz → Tallied n s cut t
-  counting-all k t c e = record {
-    vertices = c .vertices ∙ layer-first-last n s cut k e;
-    x = c .x ∙ quads-all X k e;
-    y = c .y ∙ quads-all Y k e;
-    z = c .z ∙ quads-all Z k e;
+    marked-none : MarkedTo loopsOf n s cut y₀ z₀ 0 0 start
+    unfolding below verticesBefore
+    marked-none = record { v-is = refl; x-is = refl; y-is = sym (add-zero y₀); z-is = sym (add-zero z₀) }
+
+    pub marked-start : Marking loopsOf n s cut y₀ z₀ 0 0 start
+    marked-start =
+        subst (λ (c : ℕ). MarkedTo loopsOf n s cut y₀ z₀ c (rowSample (n .nx) (n .ny) 0 0) start) (zero-of (n .nx - 1) (n .ny - 1))
+        (subst (λ (p : ℕ). MarkedTo loopsOf n s cut y₀ z₀ 0 p start) (zero-of (n .nx) (n .ny)) marked-none)
+      where
+        zero-of : (w h : ℕ) → 0 ≡ w * (0 + h * 0)
+        zero-of w h = omega arith
+
+    -- ---- one row more
+
+    lengths : (a : Axis) (j k : ℕ) → j < n .ny
+        → length (quadsUpTo loopsOf n s cut a (rowSample (n .nx) (n .ny) j k)) + length (rowQuads loopsOf n s cut a k j) ≡ length (quadsUpTo loopsOf n s cut a (rowSample (n .nx) (n .ny) (j + 1) k))
+    lengths a j k h = sym (length-append (quadsUpTo loopsOf n s cut a (rowSample (n .nx) (n .ny) j k)) (rowQuads loopsOf n s cut a k j)) ∙ ap length (sym (row-next n s cut a j k h))
+
+    pub marked-row : (j k : ℕ) {m m′ : Marks} → j < n .ny → Marking loopsOf n s cut y₀ z₀ j k m → RowMoved loopsOf n s cut j k m m′ → Marking loopsOf n s cut y₀ z₀ (j + 1) k m′
+    marked-row j k {m} {m′} hj r h = record {
+      v-is = omega (arith, h .v-is, r .v-is, row-vertices n s cut j k);
+      x-is = omega (arith, h .x-is, r .x-is, lengths X j k hj);
+      y-is = omega (arith, h .y-is, r .y-is, lengths Y j k hj);
+      z-is = omega (arith, h .z-is, r .z-is, lengths Z j k hj);
+    }
+
+    -- ---- one layer more
+
+    pub marked-layer : (j k : ℕ) {m : Marks} → j + 1 ≡ n .ny → Marking loopsOf n s cut y₀ z₀ j k m → Marking loopsOf n s cut y₀ z₀ 0 (k + 1) m
+    marked-layer j k {m} e r = record {
+      v-is = r .v-is ∙ ap (λ (c : ℕ). length (verticesBefore loopsOf n s cut c)) (next-layer-cube (n .nx) (n .ny) j k e);
+      x-is = r .x-is ∙ ap length (sym (row-last n s cut X j k e));
+      y-is = omega (arith, r .y-is, ap length (row-last n s cut Y j k e));
+      z-is = omega (arith, r .z-is, ap length (row-last n s cut Z j k e));
+    }
+
+    -- ---- the whole block
+
+    pub marked-all : (k : ℕ) {m : Marks} → k + 1 ≡ n .nz → Marking loopsOf n s cut y₀ z₀ 0 k m → MarkedTo loopsOf n s cut y₀ z₀ (cubeCount n) (sampleCount n) m
+    marked-all k {m} e r = record {
+      v-is = r .v-is ∙ ap (λ (c : ℕ). length (verticesBefore loopsOf n s cut c)) (all-cubes k e);
+      x-is = r .x-is ∙ ap length (all-planes X k e);
+      y-is = omega (arith, r .y-is, ap length (all-planes Y k e));
+      z-is = omega (arith, r .z-is, ap length (all-planes Z k e));
+    }
+
+  -- ---- while the block is counted
+
+  -- the counts so far are some of all
+  pub counting-few : (j k : ℕ) {m : Marks} → Limits n → j + 1 < n .ny → k + 1 < n .nz → Counting loopsOf n s cut j k m → RowFew m
+  counting-few j k {m} l hj hk r = record {
+    few-v = omega (arith, r .v-is, vertices-le n s cut (rowCube (n .nx) (n .ny) j k) (omega (arith, next-cube (n .nx) (n .ny) j k, cube-in (n .nx) (n .ny) (n .nz) j k hj hk)), most-vertices loopsOf n s cut (cube-laws joined) l);
+    few-x = omega (arith, r .x-is, quads-room n s cut X j k (omega arith) (omega arith), all-quads, most-quads loopsOf n s cut l);
+    few-y = omega (arith, r .y-is, quads-room n s cut Y j k (omega arith) (omega arith), all-quads, most-quads loopsOf n s cut l);
+    few-z = omega (arith, r .z-is, quads-room n s cut Z j k (omega arith) (omega arith), all-quads, most-quads loopsOf n s cut l);
   }
 
   -- ---- a whole tally gives the counts, and they fit
 
-  pub tallied-quads : (t : Tally) → Tallied n s cut t → t .x + t .y + t .z ≡ quadCount n s cut
-  tallied-quads t c =
-      ap₂ (λ (a b : ℕ). a + b) (ap₂ (λ (a b : ℕ). a + b) (c .x ∙ quads-to X (sampleCount n)) (c .y ∙ quads-to Y (sampleCount n))) (c .z ∙ quads-to Z (sampleCount n))
-      ∙ sym (quad-count loopsOf n s cut)
+  tallied-quads : (m : Marks) → Tallied loopsOf n s cut m → m .x + m .y + m .z ≡ 4 * quadCount n s cut
+  tallied-quads m c = omega (arith, c .x-is, c .y-is, c .z-is, all-quads)
 
-  pub tallied-few : (t : Tally) → Limits n → Tallied n s cut t → (t .vertices ≤ 66325500) × (t .x + t .y + t .z ≤ 49354740)
-  tallied-few t l c =
-      (omega (arith, c .vertices, most-vertices loopsOf n s cut (cube-laws joined) l), omega (arith, tallied-quads t c, most-quads loopsOf n s cut l))
+  pub tallied-few : (m : Marks) → Limits n → Tallied loopsOf n s cut m → (m .v ≤ 66325500) × (m .x + m .y + m .z ≤ 197418960)
+  tallied-few m l c =
+      (omega (arith, c .v-is, vertices-are, most-vertices loopsOf n s cut (cube-laws joined) l), omega (arith, tallied-quads m c, most-quads loopsOf n s cut l))
 
-  pub tallied-counts : (t : Tally) (r : Totals) → Tallied n s cut t → r .vertices ≡ t .vertices → r .quads ≡ t .x + t .y + t .z → r ≡ countsOf n s cut
-  tallied-counts t r c e f = ap₂ (λ (a b : ℕ). record { vertices = a; quads = b }) (e ∙ c .vertices) (f ∙ tallied-quads t c)
-
-  -- the first layer, whose lower plane has no inner edges along x and y
-  pub counting-first : (k : ℕ) (t : Tally) (v z : ℕ) → k ≡ 0 → Counting n s cut k t
-      → v ≡ layerCount n s cut k → v ≤ 260100 → z ≡ planeCount n s cut Z k → z ≤ 65536
-      → Counting n s cut (k + 1) (tally (t .vertices + v) (t .x) (t .y) (t .z + z))
-  counting-first k t v z e c ev lv ez lz =
-      subst (λ (x : ℕ). Counting n s cut (k + 1) (tally (t .vertices + v) x (t .y) (t .z + z))) (zero-more (t .x))
-      (subst (λ (y : ℕ). Counting n s cut (k + 1) (tally (t .vertices + v) (t .x + 0) y (t .z + z))) (zero-more (t .y))
-      (counting-more k t v 0 0 z c ev lv (none X first-plane-x) (omega arith) (none Y first-plane-y) (omega arith) ez lz))
+  pub tallied-counts : (m : Marks) (r : Totals) → Tallied loopsOf n s cut m → r .vertices ≡ m .v → r .quads ≡ (m .x + m .y + m .z) / 4 → r ≡ countsOf n s cut
+  tallied-counts m r c e f = ap₂ (λ (v q : ℕ). record { vertices = v; quads = q }) (e ∙ c .v-is ∙ vertices-are) (f ∙ quarter (tallied-quads m c))
     where
-      zero-more : (x : ℕ) → x + 0 ≡ x
-      zero-more x = omega arith
-
-      none : (a : Axis) → planeCount n s cut a 0 ≡ 0 → 0 ≡ planeCount n s cut a k
-      none a h = sym (ap (planeCount n s cut a) e ∙ h)
+      quarter : {x q : ℕ} → x ≡ 4 * q → x / 4 ≡ q
+      quarter h = omega arith

@@ -14,20 +14,18 @@ use Rattle.laws.proofs.Fixed.{said-fixes}
 use Rattle.block.specs.declared.Cut.{Cut}
 use Rattle.block.specs.declared.Size.{Size}
 use Rattle.block.specs.declared.Refusal.{Refusal}
-use Rattle.block.specs.declared.Sized.{Sized}
 use Rattle.block.specs.declared.Sized.the-variants.{Made, BadAxis}
 use Rattle.block.specs.declared.Checked.{Checked}
 use Rattle.block.specs.declared.Checked.the-variants.{Passes, Refuses}
-use Rattle.block.specs.Answer.{Answer, accepted, refused, inOrder, judged, refuses}
+use Rattle.block.specs.Answer.{accepted, refused, inOrder, judged, refuses}
 use Rattle.block.specs.Numbering.{sampleCount}
 use Rattle.block.specs.Rows.{axisRow, countRow, thresholdRow, ceilingRow}
 use Rattle.block.specs.Size.{SizeMade, Limits}
 use Rattle.block.proofs.Order.{order-refuses, order-passes, order-first, order-rest}
 use Rattle.block.proofs.Sizes.{size-made}
-use Rattle.mesh.specs.declared.Totals.{Totals}
 use Rattle.mesh.specs.declared.Counted.{Counted}
 use Rattle.mesh.specs.declared.Counted.the-variants as counted
-use Rattle.mesh.specs.Answer.{countsOf, saidCounts, sizeOf, countsVerdict, CountsAnswered, vertexRow, quadRow, vertexCount, quadCount, meshVerdict, written, MeshedBy, Meshed}
+use Rattle.mesh.specs.Answer.{countsOf, saidCounts, sizeOf, CountsAnswered, vertexRow, quadRow, vertexCount, quadCount, written, MeshedBy, Meshed}
 use Rattle.mesh.specs.Steps.{Block}
 
 -- ---- what row 1 says, by what `Size::new` answered

@@ -1,218 +1,156 @@
--- The buffers are written on from layer to layer, and hold the whole mesh when the last layer is written.
+-- The buffers are written on from row to row, and hold the whole mesh when the last row is written.
 -- Assumes nothing.
-use Prim.Native.Nat.{ℕ, zero, suc, _+_, _*_, _-_, _≤_, _<_}
+use Prim.Native.Nat.{ℕ, _+_, _*_, _-_, _<_}
 use mathlib.Core.Path.{_≡_, refl, ap, ap₂, sym, _∙_, subst}
-use mathlib.Core.Logic.{_⊎_, inl, inr, ⊎-elim}
-use mathlib.Core.List.{List, [], _∷_, _++_, append-nil}
-use native.Mathlib.Nat.{eq-or-lt-of-le, mul-le-mul-left, mul-assoc}
+use mathlib.Core.List.{List, _++_}
 use native.Mathlib.Omega.{arith}
-use lib.ListN.{length, take, drop, length-append}
+use lib.ListN.{length}
 use lib.Seq.{sets, length-sets}
 use lib.Ieee.{Float}
-use Rattle.laws.specs.Below.{below, over}
-use Rattle.laws.proofs.Below.{length-below}
-use Rattle.laws.proofs.Stores.{sets-append, sets-over, sets-part}
+use Rattle.laws.specs.Below.{below}
+use Rattle.laws.proofs.Below.{below-add}
+use Rattle.laws.proofs.Stores.{sets-append, sets-over}
 use Rattle.block.specs.declared.Cut.{Cut}
 use Rattle.block.specs.declared.Size.{Size}
-use Rattle.block.specs.Numbering.{Axis, X, Y, Z, sampleCount, cubeCount}
+use Rattle.block.specs.Numbering.{X, Y, Z, sampleCount, cubeCount}
 use Rattle.cube_rule.specs.Decider.{loopsOf}
-use Rattle.mesh_rule.specs.Mesh.{verticesBefore, vertices, quads}
 use Rattle.mesh_rule.specs.Buffers.{cubeWords, cubeOffsets, meshWords, meshOffsets, meshQuads}
-use Rattle.mesh_rule.specs.Layers.{layerSize, planeSize, layerWords, layerOffsets, layerCount, layerFirst, quadsFrom, planeQuads}
-use Rattle.mesh.specs.declared.Marks.{Marks}
-use Rattle.mesh.specs.Answer.{vertexCount, quadCount}
-use Rattle.mesh.specs.Writes.{quadsUpTo, startY, startZ, Writing, Roomy}
-use Rattle.mesh.proofs.Layers.{layer-next, layers-all, layer-first-none, layer-first-next, layer-first-last, words-length, offsets-length, layer-words-length}
-use Rattle.mesh.proofs.PlaneQuads.{flat-length, mesh-quads, planes-quads-next, planes-quads-all}
+use Rattle.mesh_rule.specs.Layers.{rowCube, rowSample, runWords, runOffsets}
+use Rattle.quads.specs.Writing.{rowQuads}
+use Rattle.layers.specs.declared.Marks.{Marks}
+use Rattle.mesh.specs.Answer.{vertexCount}
+use Rattle.mesh.specs.Steps.{quadsUpTo, MarkedTo, Marking, Tallied}
+use Rattle.mesh.specs.Writes.{startY, startZ, WrittenTo, Writing, Roomy, RowMore, BlockWritten}
+use Rattle.mesh.proofs.Layers.{words-length, offsets-length}
+use Rattle.mesh.proofs.PlaneQuads.{mesh-quads}
 use Rattle.mesh.proofs.Regions.{first-more, second-more, third-more, all-full}
-
--- fewer lists are no longer
-below-le : {A : Type 0} (f : ℕ → List A) (m n : ℕ) → m ≤ n → length (below f m) ≤ length (below f n)
-below-le f m n h = ⊎-elim (λ (e : m ≡ n). rw e (omega arith)) (λ (l : m < n). omega (arith, length-below f n m l)) (eq-or-lt-of-le h)
-
--- all vertices are those before the last cube
-vertices-are : (n : Size) (s : List ℕ) (cut : Cut) → length (verticesBefore loopsOf n s cut (cubeCount n)) ≡ vertexCount n s cut
-unfolding vertices
-vertices-are n s cut = refl
-
-pub quads-all-length : (n : Size) (s : List ℕ) (cut : Cut) → length (meshQuads n s cut) ≡ 4 * quadCount n s cut
-unfolding meshQuads
-quads-all-length n s cut = flat-length (quads loopsOf n s cut)
+use Rattle.mesh.proofs.Rows.{next-cube, next-layer-cube, row-next, row-last, quads-room}
+use Rattle.mesh.proofs.Tallies.{vertices-are, quads-all-length, all-cubes, all-planes, marked-start, marked-row, marked-layer}
 
 -- a buffer with `front` at its start is written on behind it
 store-next : {A : Type 0} (l₀ l l′ front part all : List A) (i : ℕ) → l ≡ sets l₀ 0 front → i ≡ length front → l′ ≡ sets l i part → all ≡ front ++ part → l′ ≡ sets l₀ 0 all
-store-next {A} l₀ l l′ front part all i is at e whole =
-    e ∙ ap₂ (λ (x : List A) (j : ℕ). sets x j part) is (at ∙ from-zero (length front)) ∙ sets-append l₀ 0 front part ∙ ap (sets l₀ 0) (sym whole)
+store-next {A} l₀ l l′ front part all i is place e whole =
+    e ∙ ap₂ (λ (x : List A) (j : ℕ). sets x j part) is (place ∙ from-zero (length front)) ∙ sets-append l₀ 0 front part ∙ ap (sets l₀ 0) (sym whole)
   where
     from-zero : (x : ℕ) → x ≡ 0 + x
     from-zero x = omega arith
 
+-- a buffer that is written over stays as long as it was
+kept : {A : Type 0} (l₀ : List A) (i : ℕ) (xs : List A) {l : List A} → l ≡ sets l₀ i xs → length l ≡ length l₀
+kept l₀ i xs e = ap length e ∙ length-sets l₀ i xs
+
+module _ {n : Size} {s : List ℕ} {cut : Cut} {c p : ℕ} {m : Marks} {w₀ w : List ℕ} {o₀ o : List Float} {q₀ q : List ℕ} (r : WrittenTo loopsOf n s cut c p m w₀ w o₀ o q₀ q) where
+  pub words-kept : length w ≡ length w₀
+  words-kept = kept w₀ 0 (below (cubeWords loopsOf n s cut) c) (r .words)
+
+  pub offsets-kept : length o ≡ length o₀
+  offsets-kept = kept o₀ 0 (below (cubeOffsets loopsOf n s cut) c) (r .offsets)
+
+  pub quads-kept : length q ≡ length q₀
+  quads-kept =
+      let xs = quadsUpTo loopsOf n s cut X p in
+      let ys = quadsUpTo loopsOf n s cut Y p in
+      let zs = quadsUpTo loopsOf n s cut Z p in
+      kept (sets (sets q₀ 0 xs) (startY loopsOf n s cut) ys) (startZ loopsOf n s cut) zs (r .quads)
+      ∙ kept (sets q₀ 0 xs) (startY loopsOf n s cut) ys refl
+      ∙ kept q₀ 0 xs refl
+
 module _ (n : Size) (s : List ℕ) (cut : Cut) where
-  abbrev marks : ℕ → ℕ → ℕ → ℕ → ℕ → Marks
-  marks b h x y z = record { below = b; here = h; x = x; y = y; z = z }
+  all-same : (q₀ : List ℕ) {a a′ b b′ c c′ : List ℕ} → a ≡ a′ → b ≡ b′ → c ≡ c′
+      → sets (sets (sets q₀ 0 a) (startY loopsOf n s cut) b) (startZ loopsOf n s cut) c ≡ sets (sets (sets q₀ 0 a′) (startY loopsOf n s cut) b′) (startZ loopsOf n s cut) c′
+  all-same q₀ p q r = cc
 
-  none-before : {A : Type 0} (f : ℕ → List A) (l : ℕ) → below f (l * 0) ≡ []
+  -- ---- before the first row
+
+  written-none : (m : Marks) (w : List ℕ) (o : List Float) (q : List ℕ) (c p : ℕ) → MarkedTo loopsOf n s cut (startY loopsOf n s cut) (startZ loopsOf n s cut) c p m → 0 ≡ c → 0 ≡ p → WrittenTo loopsOf n s cut c p m w w o o q q
   unfolding below
-  none-before f l = ap (below f) (zero-of l)
-    where
-      zero-of : (x : ℕ) → x * 0 ≡ 0
-      zero-of x = omega arith
-
-  -- before the first layer
-  pub writing-none : (w : List ℕ) (o : List Float) (q : List ℕ) → Writing n s cut 0 (marks 0 0 0 (startY n s cut) (startZ n s cut)) w w o o q q
-  writing-none w o q = record {
-    below-is = sym (layer-first-none n s cut);
-    here-is = sym (layer-first-none n s cut);
-    words = ap (sets w 0) (sym (none-before (cubeWords n s cut) (layerSize n)));
-    offsets = ap (sets o 0) (sym (none-before (cubeOffsets n s cut) (layerSize n)));
-    x-is = ap length (sym (none-before (quadsFrom n s cut X) (planeSize n)));
-    y-is = omega (arith, ap length (none-before (quadsFrom n s cut Y) (planeSize n)));
-    z-is = omega (arith, ap length (none-before (quadsFrom n s cut Z) (planeSize n)));
-    quads = rw (none-before (quadsFrom n s cut X) (planeSize n), none-before (quadsFrom n s cut Y) (planeSize n), none-before (quadsFrom n s cut Z) (planeSize n));
+  written-none m w o q c p h ec ep = record {
+    marks = h;
+    words = ap (λ (c : ℕ). sets w 0 (below (cubeWords loopsOf n s cut) c)) ec;
+    offsets = ap (λ (c : ℕ). sets o 0 (below (cubeOffsets loopsOf n s cut) c)) ec;
+    quads = ap (λ (p : ℕ). sets (sets (sets q 0 (quadsUpTo loopsOf n s cut X p)) (startY loopsOf n s cut) (quadsUpTo loopsOf n s cut Y p)) (startZ loopsOf n s cut) (quadsUpTo loopsOf n s cut Z p)) ep;
   }
 
-  -- the words and offsets with the layer k more
-  module _ (k : ℕ) (m : Marks) (w₀ w : List ℕ) (o₀ o : List Float) (q₀ q : List ℕ) (r : Writing n s cut k m w₀ w o₀ o q₀ q) where
-    pub words-next : (w′ : List ℕ) → w′ ≡ sets w (2 * m .here) (layerWords n s cut k) → w′ ≡ sets w₀ 0 (below (cubeWords n s cut) (layerSize n * (k + 1)))
-    words-next w′ e =
-        store-next w₀ w w′ (below (cubeWords n s cut) (layerSize n * k)) (layerWords n s cut k) (below (cubeWords n s cut) (layerSize n * (k + 1))) (2 * m .here)
-        (r .words) (ap (λ (x : ℕ). 2 * x) (r .here-is) ∙ sym (words-length n s cut (layerSize n * k))) e (layer-next (cubeWords n s cut) (layerSize n) k)
-
-    offsets-next : (o′ : List Float) → o′ ≡ sets o (3 * m .here) (layerOffsets n s cut k) → o′ ≡ sets o₀ 0 (below (cubeOffsets n s cut) (layerSize n * (k + 1)))
-    offsets-next o′ e =
-        store-next o₀ o o′ (below (cubeOffsets n s cut) (layerSize n * k)) (layerOffsets n s cut k) (below (cubeOffsets n s cut) (layerSize n * (k + 1))) (3 * m .here)
-        (r .offsets) (ap (λ (x : ℕ). 3 * x) (r .here-is) ∙ sym (offsets-length n s cut (layerSize n * k))) e (layer-next (cubeOffsets n s cut) (layerSize n) k)
-
-  -- ---- room
-
-  layers-in : (k : ℕ) → k < n .nz → layerSize n * k ≤ cubeCount n
-  layers-in k h = subst (λ (x : ℕ). layerSize n * k ≤ x) (mul-assoc (n .nx - 1) (n .ny - 1) (n .nz - 1)) (mul-le-mul-left (layerSize n) (less (n .nz) k h))
+  pub writing-start : (t : Marks) (w : List ℕ) (o : List Float) (q : List ℕ) → Tallied loopsOf n s cut t → Writing loopsOf n s cut 0 0 (record { v = 0; x = 0; y = t .x; z = t .x + t .y }) w w o o q q
+  writing-start t w o q h =
+      written-none _ w o q (rowCube (n .nx) (n .ny) 0 0) (rowSample (n .nx) (n .ny) 0 0)
+      (subst (λ (y : ℕ). Marking loopsOf n s cut (startY loopsOf n s cut) (startZ loopsOf n s cut) 0 0 (record { v = 0; x = 0; y = y; z = t .x + t .y })) (sym (h .x-is))
+      (subst (λ (z : ℕ). Marking loopsOf n s cut (startY loopsOf n s cut) (startZ loopsOf n s cut) 0 0 (record { v = 0; x = 0; y = startY loopsOf n s cut; z = z })) (sym z-is) (marked-start n s cut (startY loopsOf n s cut) (startZ loopsOf n s cut))))
+      (zero-of (n .nx - 1) (n .ny - 1)) (zero-of (n .nx) (n .ny))
     where
-      less : (z k : ℕ) → k < z → k ≤ z - 1
-      less z k h = omega arith
+      zero-of : (w h : ℕ) → 0 ≡ w * (0 + h * 0)
+      zero-of w h = omega arith
 
-  planes-in : (k : ℕ) → k ≤ n .nz → planeSize n * k ≤ sampleCount n
-  planes-in k h = subst (λ (x : ℕ). planeSize n * k ≤ x) (mul-assoc (n .nx) (n .ny) (n .nz)) (mul-le-mul-left (planeSize n) h)
+      z-is : t .x + t .y ≡ startZ loopsOf n s cut
+      z-is = omega (arith, h .x-is, h .y-is)
 
-  -- the vertices before a layer are some of all
-  pub first-le : (k : ℕ) → k < n .nz → layerFirst n s cut k ≤ vertexCount n s cut
-  unfolding vertices verticesBefore
-  first-le k h = below-le _ (layerSize n * k) (cubeCount n) (layers-in k h)
+  -- ---- one row more
 
-  -- so there is room for the layer
-  pub layer-room : (k : ℕ) → k + 1 < n .nz → layerFirst n s cut k + layerCount n s cut k ≤ vertexCount n s cut
-  layer-room k h = omega (arith, layer-first-next n s cut k, first-le (k + 1) h)
+  module _ {j k : ℕ} {m m′ : Marks} {w₀ w w′ : List ℕ} {o₀ o o′ : List Float} {q₀ q q′ tab : List ℕ} (r : Writing loopsOf n s cut j k m w₀ w o₀ o q₀ q) (h : RowMore loopsOf n s cut j k m m′ w w′ o o′ q q′ tab)
+      (hj : j + 1 < n .ny) (hk : k + 1 < n .nz) where
+    abbrev c : ℕ
+    c = rowCube (n .nx) (n .ny) j k
 
-  -- and for the quads from a plane
-  pub plane-room : (a : Axis) (k : ℕ) → k + 1 ≤ n .nz → length (quadsUpTo n s cut a (planeSize n * k)) + length (planeQuads n s cut a k) ≤ length (quadsUpTo n s cut a (sampleCount n))
-  plane-room a k h =
-      omega (
-        arith,
-        length-append (quadsUpTo n s cut a (planeSize n * k)) (planeQuads n s cut a k),
-        ap length (planes-quads-next n s cut a k),
-        below-le (quadsFrom n s cut a) (planeSize n * (k + 1)) (sampleCount n) (planes-in (k + 1) h),
-      )
+    cubes : {A : Type 0} (f : ℕ → List A) → below f (rowCube (n .nx) (n .ny) (j + 1) k) ≡ below f c ++ below (λ (x : ℕ). f (c + x)) (n .nx - 1)
+    cubes f = ap (below f) (next-cube (n .nx) (n .ny) j k) ∙ below-add f c (n .nx - 1)
 
-  -- ---- the vertices of a layer, read back
+    quads-next : q′ ≡ sets (sets (sets q₀ 0 (quadsUpTo loopsOf n s cut X (rowSample (n .nx) (n .ny) (j + 1) k))) (startY loopsOf n s cut) (quadsUpTo loopsOf n s cut Y (rowSample (n .nx) (n .ny) (j + 1) k))) (startZ loopsOf n s cut) (quadsUpTo loopsOf n s cut Z (rowSample (n .nx) (n .ny) (j + 1) k))
+    quads-next =
+        let xs = quadsUpTo loopsOf n s cut X (rowSample (n .nx) (n .ny) j k) in
+        let ys = quadsUpTo loopsOf n s cut Y (rowSample (n .nx) (n .ny) j k) in
+        let zs = quadsUpTo loopsOf n s cut Z (rowSample (n .nx) (n .ny) j k) in
+        let px = rowQuads loopsOf n s cut X k j in
+        let py = rowQuads loopsOf n s cut Y k j in
+        let pz = rowQuads loopsOf n s cut Z k j in
+        h .quads-are
+        ∙ ap (λ (l : List ℕ). sets (sets l (m .y) py) (m .z) pz) (ap₂ (λ (l : List ℕ) (i : ℕ). sets l i px) (r .quads) (r .marks .x-is) ∙ first-more q₀ (startY loopsOf n s cut) (startZ loopsOf n s cut) xs ys zs px (quads-room n s cut X j k (omega arith) (omega arith)) (omega arith))
+        ∙ ap (λ (l : List ℕ). sets l (m .z) pz) (ap (λ (i : ℕ). sets (sets (sets (sets q₀ 0 (xs ++ px)) (startY loopsOf n s cut) ys) (startZ loopsOf n s cut) zs) i py) (r .marks .y-is)
+        ∙ second-more q₀ (startY loopsOf n s cut) (startZ loopsOf n s cut) (xs ++ px) ys zs py (omega (arith, quads-room n s cut Y j k (omega arith) (omega arith))))
+        ∙ ap (λ (i : ℕ). sets (sets (sets (sets q₀ 0 (xs ++ px)) (startY loopsOf n s cut) (ys ++ py)) (startZ loopsOf n s cut) zs) i pz) (r .marks .z-is)
+        ∙ third-more q₀ (startY loopsOf n s cut) (startZ loopsOf n s cut) (xs ++ px) (ys ++ py) zs pz
+        ∙ all-same q₀ (sym (row-next n s cut X j k (omega arith))) (sym (row-next n s cut Y j k (omega arith))) (sym (row-next n s cut Z j k (omega arith)))
 
-  words-fit : (k : ℕ) (w₀ : List ℕ) → k < n .nz → 2 * vertexCount n s cut ≤ length w₀ → length (below (cubeWords n s cut) (layerSize n * k)) ≤ length w₀
-  words-fit k w₀ h r = omega (arith, words-length n s cut (layerSize n * k), first-le k h)
-
-  -- a layer with the rest behind it
-  layer-back : (k : ℕ) (w₀ w rest all : List ℕ) → all ≡ below (cubeWords n s cut) (layerSize n * k) ++ layerWords n s cut k ++ rest → length all ≤ length w₀ → w ≡ sets w₀ 0 all
-      → take (2 * layerFirst n s cut (k + 1) - 2 * layerFirst n s cut k) (drop (2 * layerFirst n s cut k) w) ≡ layerWords n s cut k
-  layer-back k w₀ w rest all is fits e =
-      let front = below (cubeWords n s cut) (layerSize n * k) in
-      ap₂ (λ (i j : ℕ). take i (drop j w)) size-of (sym (words-length n s cut (layerSize n * k)))
-      ∙ ap (λ (l : List ℕ). take (length (layerWords n s cut k)) (drop (length front) l)) (e ∙ ap (sets w₀ 0) is)
-      ∙ sets-part w₀ front (layerWords n s cut k) rest (subst (λ (l : List ℕ). length l ≤ length w₀) is fits)
-    where
-      size-of : 2 * layerFirst n s cut (k + 1) - 2 * layerFirst n s cut k ≡ length (layerWords n s cut k)
-      size-of = omega (arith, layer-words-length n s cut k, layer-first-next n s cut k)
-
-  pub here-part : (k : ℕ) (w₀ w : List ℕ) → k + 1 < n .nz → 2 * vertexCount n s cut ≤ length w₀ → w ≡ sets w₀ 0 (below (cubeWords n s cut) (layerSize n * (k + 1)))
-      → take (2 * layerFirst n s cut (k + 1) - 2 * layerFirst n s cut k) (drop (2 * layerFirst n s cut k) w) ≡ layerWords n s cut k
-  here-part k w₀ w h r e =
-      layer-back k w₀ w [] (below (cubeWords n s cut) (layerSize n * (k + 1)))
-      (layer-next (cubeWords n s cut) (layerSize n) k ∙ sym (append-nil (below (cubeWords n s cut) (layerSize n * k) ++ layerWords n s cut k)))
-      (words-fit (k + 1) w₀ h r) e
-
-  pub below-part : (k : ℕ) (w₀ w : List ℕ) → k + 1 + 1 < n .nz → 2 * vertexCount n s cut ≤ length w₀ → w ≡ sets w₀ 0 (below (cubeWords n s cut) (layerSize n * (k + 1 + 1)))
-      → take (2 * layerFirst n s cut (k + 1) - 2 * layerFirst n s cut k) (drop (2 * layerFirst n s cut k) w) ≡ layerWords n s cut k
-  below-part k w₀ w h r e =
-      layer-back k w₀ w (layerWords n s cut (k + 1)) (below (cubeWords n s cut) (layerSize n * (k + 1 + 1)))
-      (layer-next (cubeWords n s cut) (layerSize n) (k + 1) ∙ ap (λ (l : List ℕ). l ++ layerWords n s cut (k + 1)) (layer-next (cubeWords n s cut) (layerSize n) k))
-      (words-fit (k + 1 + 1) w₀ h r) e
-
-  -- ---- the three regions with the plane k more
-
-  module _ (k : ℕ) (m : Marks) (w₀ w : List ℕ) (o₀ o : List Float) (q₀ q : List ℕ) (r : Writing n s cut k m w₀ w o₀ o q₀ q) (h : k + 1 < n .nz) where
-    quads-next : (q′ : List ℕ)
-        → q′ ≡ sets (sets (sets q (m .x) (planeQuads n s cut X k)) (m .y) (planeQuads n s cut Y k)) (m .z) (planeQuads n s cut Z k)
-        → q′ ≡ sets (sets (sets q₀ 0 (quadsUpTo n s cut X (planeSize n * (k + 1)))) (startY n s cut) (quadsUpTo n s cut Y (planeSize n * (k + 1)))) (startZ n s cut) (quadsUpTo n s cut Z (planeSize n * (k + 1)))
-    quads-next q′ e =
-        let xs = quadsUpTo n s cut X (planeSize n * k) in
-        let ys = quadsUpTo n s cut Y (planeSize n * k) in
-        let zs = quadsUpTo n s cut Z (planeSize n * k) in
-        let px = planeQuads n s cut X k in
-        let py = planeQuads n s cut Y k in
-        let pz = planeQuads n s cut Z k in
-        e
-        ∙ ap (λ (l : List ℕ). sets (sets l (m .y) py) (m .z) pz) (ap₂ (λ (l : List ℕ) (i : ℕ). sets l i px) (r .quads) (r .x-is) ∙ first-more q₀ (startY n s cut) (startZ n s cut) xs ys zs px (plane-room X k (omega arith)) (omega arith))
-        ∙ ap (λ (l : List ℕ). sets l (m .z) pz) (ap (λ (i : ℕ). sets (sets (sets (sets q₀ 0 (xs ++ px)) (startY n s cut) ys) (startZ n s cut) zs) i py) (r .y-is)
-        ∙ second-more q₀ (startY n s cut) (startZ n s cut) (xs ++ px) ys zs py (omega (arith, plane-room Y k (omega arith))))
-        ∙ ap (λ (i : ℕ). sets (sets (sets (sets q₀ 0 (xs ++ px)) (startY n s cut) (ys ++ py)) (startZ n s cut) zs) i pz) (r .z-is)
-        ∙ third-more q₀ (startY n s cut) (startZ n s cut) (xs ++ px) (ys ++ py) zs pz
-        ∙ all-next (sym (planes-quads-next n s cut X k)) (sym (planes-quads-next n s cut Y k)) (sym (planes-quads-next n s cut Z k))
-      where
-        all-next : {a a′ b b′ c c′ : List ℕ} → a ≡ a′ → b ≡ b′ → c ≡ c′ → sets (sets (sets q₀ 0 a) (startY n s cut) b) (startZ n s cut) c ≡ sets (sets (sets q₀ 0 a′) (startY n s cut) b′) (startZ n s cut) c′
-        all-next p q r = cc
-
-    -- one layer more
-    pub writing-more : (next : ℕ) (w′ : List ℕ) (o′ : List Float) (q′ : List ℕ)
-        → next ≡ m .here + layerCount n s cut k
-        → w′ ≡ sets w (2 * m .here) (layerWords n s cut k) → o′ ≡ sets o (3 * m .here) (layerOffsets n s cut k)
-        → q′ ≡ sets (sets (sets q (m .x) (planeQuads n s cut X k)) (m .y) (planeQuads n s cut Y k)) (m .z) (planeQuads n s cut Z k)
-        → Writing n s cut (k + 1)
-        (marks (m .here) next (m .x + length (planeQuads n s cut X k)) (m .y + length (planeQuads n s cut Y k)) (m .z + length (planeQuads n s cut Z k)))
-        w₀ w′ o₀ o′ q₀ q′
-    writing-more next w′ o′ q′ en ew eo eq = record {
-      below-is = r .here-is ∙ ap (layerFirst n s cut) (back k);
-      here-is = en ∙ ap (λ (x : ℕ). x + layerCount n s cut k) (r .here-is) ∙ sym (layer-first-next n s cut k);
-      words = words-next k m w₀ w o₀ o q₀ q r w′ ew;
-      offsets = offsets-next k m w₀ w o₀ o q₀ q r o′ eo;
-      x-is = ap (λ (x : ℕ). x + length (planeQuads n s cut X k)) (r .x-is) ∙ length-next X;
-      y-is = omega (arith, r .y-is, length-next Y);
-      z-is = omega (arith, r .z-is, length-next Z);
-      quads = quads-next q′ eq;
+    pub writing-row : Writing loopsOf n s cut (j + 1) k m′ w₀ w′ o₀ o′ q₀ q′
+    writing-row = record {
+      marks = marked-row n s cut (startY loopsOf n s cut) (startZ loopsOf n s cut) j k (omega arith) (r .marks) (h .moved);
+      words =
+          store-next w₀ w w′ (below (cubeWords loopsOf n s cut) c) (runWords loopsOf n s cut c (n .nx - 1)) (below (cubeWords loopsOf n s cut) (rowCube (n .nx) (n .ny) (j + 1) k)) (2 * m .v)
+          (r .words) (omega (arith, r .marks .v-is, words-length n s cut c)) (h .words) (cubes (cubeWords loopsOf n s cut));
+      offsets =
+          store-next o₀ o o′ (below (cubeOffsets loopsOf n s cut) c) (runOffsets loopsOf n s cut c (n .nx - 1)) (below (cubeOffsets loopsOf n s cut) (rowCube (n .nx) (n .ny) (j + 1) k)) (3 * m .v)
+          (r .offsets) (omega (arith, r .marks .v-is, offsets-length n s cut c)) (h .offsets) (cubes (cubeOffsets loopsOf n s cut));
+      quads = quads-next;
     }
-      where
-        back : (k : ℕ) → k ≡ k + 1 - 1
-        back k = omega arith
 
-        length-next : (a : Axis) → length (quadsUpTo n s cut a (planeSize n * k)) + length (planeQuads n s cut a k) ≡ length (quadsUpTo n s cut a (planeSize n * (k + 1)))
-        length-next a = sym (length-append (quadsUpTo n s cut a (planeSize n * k)) (planeQuads n s cut a k)) ∙ ap length (sym (planes-quads-next n s cut a k))
+  -- ---- one layer more
+
+  pub writing-layer : (j k : ℕ) {m : Marks} {w₀ w : List ℕ} {o₀ o : List Float} {q₀ q : List ℕ} → j + 1 ≡ n .ny → Writing loopsOf n s cut j k m w₀ w o₀ o q₀ q → Writing loopsOf n s cut 0 (k + 1) m w₀ w o₀ o q₀ q
+  writing-layer j k {m} {w₀} {w} {o₀} {o} {q₀} {q} e r =
+      let cube = next-layer-cube (n .nx) (n .ny) j k e in
+      record {
+        marks = marked-layer n s cut (startY loopsOf n s cut) (startZ loopsOf n s cut) j k e (r .marks);
+        words = r .words ∙ ap (λ (c : ℕ). sets w₀ 0 (below (cubeWords loopsOf n s cut) c)) cube;
+        offsets = r .offsets ∙ ap (λ (c : ℕ). sets o₀ 0 (below (cubeOffsets loopsOf n s cut) c)) cube;
+        quads = r .quads ∙ all-same q₀ (sym (row-last n s cut X j k e)) (sym (row-last n s cut Y j k e)) (sym (row-last n s cut Z j k e));
+      }
 
   -- ---- the whole mesh
 
-  pub writing-all : (k : ℕ) (m : Marks) (w₀ w : List ℕ) (o₀ o : List Float) (q₀ q : List ℕ) → Writing n s cut k m w₀ w o₀ o q₀ q → k + 1 ≡ n .nz → Roomy n s cut w₀ o₀ q₀
-      → (w ≡ over (meshWords n s cut) w₀) × (o ≡ over (meshOffsets n s cut) o₀) × (q ≡ over (meshQuads n s cut) q₀)
+  pub block-written : (k : ℕ) {m : Marks} {w₀ w : List ℕ} {o₀ o : List Float} {q₀ q : List ℕ} → Writing loopsOf n s cut 0 k m w₀ w o₀ o q₀ q → k + 1 ≡ n .nz → Roomy loopsOf n s cut w₀ o₀ q₀ → BlockWritten loopsOf n s cut w₀ w o₀ o q₀ q
   unfolding meshWords meshOffsets
-  writing-all k m w₀ w o₀ o q₀ q r e room = (
-    r .words ∙ ap (λ (c : ℕ). sets w₀ 0 (below (cubeWords n s cut) c)) (layers-all n k e) ∙ sets-over w₀ (below (cubeWords n s cut) (cubeCount n)) (omega (arith, words-all, room .words)),
-    r .offsets ∙ ap (λ (c : ℕ). sets o₀ 0 (below (cubeOffsets n s cut) c)) (layers-all n k e) ∙ sets-over o₀ (below (cubeOffsets n s cut) (cubeCount n)) (omega (arith, offsets-all, room .offsets)),
-    r .quads
-        ∙ all-last (planes-quads-all n s cut X k e) (planes-quads-all n s cut Y k e) (planes-quads-all n s cut Z k e)
-        ∙ all-full q₀ (startY n s cut) (startZ n s cut) (quadsUpTo n s cut X (sampleCount n)) (quadsUpTo n s cut Y (sampleCount n)) (quadsUpTo n s cut Z (sampleCount n)) refl refl
+  block-written k {m} {w₀} {w} {o₀} {o} {q₀} {q} r e room = record {
+    words = r .words ∙ ap (λ (c : ℕ). sets w₀ 0 (below (cubeWords loopsOf n s cut) c)) (all-cubes n s cut k e) ∙ sets-over w₀ (below (cubeWords loopsOf n s cut) (cubeCount n)) (omega (arith, words-all, room .words));
+    offsets = r .offsets ∙ ap (λ (c : ℕ). sets o₀ 0 (below (cubeOffsets loopsOf n s cut) c)) (all-cubes n s cut k e) ∙ sets-over o₀ (below (cubeOffsets loopsOf n s cut) (cubeCount n)) (omega (arith, offsets-all, room .offsets));
+    quads =
+        r .quads
+        ∙ all-same q₀ (all-planes n s cut X k e) (all-planes n s cut Y k e) (all-planes n s cut Z k e)
+        ∙ all-full q₀ (startY loopsOf n s cut) (startZ loopsOf n s cut) (quadsUpTo loopsOf n s cut X (sampleCount n)) (quadsUpTo loopsOf n s cut Y (sampleCount n)) (quadsUpTo loopsOf n s cut Z (sampleCount n)) refl refl
         ∙ ap (sets q₀ 0) (sym (mesh-quads n s cut))
-        ∙ sets-over q₀ (meshQuads n s cut) (omega (arith, quads-all-length n s cut, room .quads)),
-  )
+        ∙ sets-over q₀ (meshQuads loopsOf n s cut) (omega (arith, quads-all-length n s cut, room .quads));
+  }
     where
-      words-all : length (below (cubeWords n s cut) (cubeCount n)) ≡ 2 * vertexCount n s cut
+      words-all : length (below (cubeWords loopsOf n s cut) (cubeCount n)) ≡ 2 * vertexCount n s cut
       words-all = words-length n s cut (cubeCount n) ∙ ap (λ (x : ℕ). 2 * x) (vertices-are n s cut)
 
-      offsets-all : length (below (cubeOffsets n s cut) (cubeCount n)) ≡ 3 * vertexCount n s cut
+      offsets-all : length (below (cubeOffsets loopsOf n s cut) (cubeCount n)) ≡ 3 * vertexCount n s cut
       offsets-all = offsets-length n s cut (cubeCount n) ∙ ap (λ (x : ℕ). 3 * x) (vertices-are n s cut)
-
-      all-last : {a a′ b b′ c c′ : List ℕ} → a ≡ a′ → b ≡ b′ → c ≡ c′ → sets (sets (sets q₀ 0 a) (startY n s cut) b) (startZ n s cut) c ≡ sets (sets (sets q₀ 0 a′) (startY n s cut) b′) (startZ n s cut) c′
-      all-last p q r = cc

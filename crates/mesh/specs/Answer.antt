@@ -2,7 +2,7 @@
 -- One verdict decides for the answer and for every buffer. Assumes nothing.
 use Prim.Native.Nat.{ℕ, _*_}
 use mathlib.Core.Path.{_≡_}
-use mathlib.Core.Bool.{Bool, cond, _&&_}
+use mathlib.Core.Bool.{cond, _&&_}
 use mathlib.Core.List.{List, [], _∷_}
 use lib.Dec.{leb}
 use lib.ListN.{length}
@@ -71,9 +71,9 @@ written (Refuses r) xs buffer = buffer
 -- the answer, and the three buffers w, o, q at entry and w′, o′, q′ at exit, where the checks say k
 pub record MeshedBy (k : Checked) (n : Size) (s : List ℕ) (cut : Cut) (w : List ℕ) (o : List Float) (q : List ℕ) (r : Counted) (w′ : List ℕ) (o′ : List Float) (q′ : List ℕ) : Type 0 where
   pub answer : saidCounts r ≡ judged k (countsOf n s cut)
-  pub words : w′ ≡ written k (meshWords n s cut) w
-  pub offsets : o′ ≡ written k (meshOffsets n s cut) o
-  pub quads : q′ ≡ written k (meshQuads n s cut) q
+  pub words : w′ ≡ written k (meshWords loopsOf n s cut) w
+  pub offsets : o′ ≡ written k (meshOffsets loopsOf n s cut) o
+  pub quads : q′ ≡ written k (meshQuads loopsOf n s cut) q
 
 -- the promise of `mesh`
 abbrev pub Meshed : ℕ → ℕ → ℕ → List ℕ → ℕ → List ℕ → List Float → List ℕ → Counted → List ℕ → List Float → List ℕ → Type 0

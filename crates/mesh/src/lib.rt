@@ -4,18 +4,21 @@ use block::Cut;
 use block::Refusal;
 use block::Size;
 use block::Sized;
+use layers::Marks;
+use vertices::Row;
 ghost use mathlib.Core.Path.{_≡_};
 ghost use mathlib.Core.List.{[], _∷_};
-ghost use Prim.Native.Nat.{_+_, _≤_};
+ghost use Prim.Native.Nat.{_+_, _-_, _/_, _<_, _≤_};
+ghost use Rattle.cube_rule.specs.Decider.{loopsOf};
 ghost use Rattle.block.specs.Answer.{inOrder, judged};
 ghost use Rattle.block.specs.Rows.{countRow, thresholdRow, ceilingRow};
 ghost use Rattle.block.specs.Size.{Limits};
 ghost use Rattle.vertices.specs.Layers.{Ready};
 ghost use lib.ListN.{length};
 ghost use Rattle.mesh.specs.Answer.{vertexCount, quadCount, vertexRow, quadRow, countsOf, saidCounts, CountsAnswered, MeshedBy, Meshed};
-ghost use Rattle.quads.specs.Writing.{Accepted};
-ghost use Rattle.mesh.specs.Steps.{Block, Counting, Tallied};
-ghost use Rattle.mesh.specs.Writes.{Roomy, PlanesReady, PlanesMore, Underway, LayerMore, BlockWritten};
+ghost use Rattle.mesh_rule.specs.Layers.{layerFirst};
+ghost use Rattle.mesh.specs.Steps.{Block, Accepted, rowOf, Counting, Tallied};
+ghost use Rattle.mesh.specs.Writes.{Roomy, BelowReady, BelowNoted, TablesReady, Underway, RowMore, LayerMore, BlockWritten};
 
 // How many vertices and quads a mesh has.
 pub struct Totals {
@@ -72,38 +75,38 @@ fn room(vertices: u32, quads: u32, words: usize, offsets: usize, lent: usize) ->
     Checked::Passes
 }
 
-// The vertices, and the crossed inner edges along each axis, of the layers and planes counted so far.
-struct Tally {
-    vertices: usize,
-    x: usize,
-    y: usize,
-    z: usize,
-}
-
-// The counts of a whole tally.
-fn total(t: Tally) -> Totals
-    requires { ⌜ (t .vertices ≤ 66325500) × (t .x + t .y + t .z ≤ 49354740) ⌝ }
-    ensures { λ r. ⌜ (r .vertices ≡ t .vertices) × (r .quads ≡ t .x + t .y + t .z) ⌝ }
+// The counts of a block whose marks are moved to its end.
+fn total(m: Marks) -> Totals
+    requires { ⌜ (m .v ≤ 66325500) × (m .x + m .y + m .z ≤ 197418960) ⌝ }
+    ensures { λ r. ⌜ (r .vertices ≡ m .v) × (r .quads ≡ (m .x + m .y + m .z) / 4) ⌝ }
 {
     Totals {
-        vertices: t.vertices as u32,
-        quads: (t.x + t.y + t.z) as u32,
+        vertices: m.v as u32,
+        quads: ((m.x + m.y + m.z) / 4) as u32,
     }
 }
 
-// How far the buffers are written: the numbers of the first vertex of the layer below and of this layer, and where the next quad along each
-// axis goes.
-struct Marks {
-    below: usize,
-    here: usize,
-    x: usize,
-    y: usize,
-    z: usize,
+// The row j of the layer k.
+fn row_of(size: Size, cut: Cut, j: usize, k: usize) -> Row
+    requires { ⌜ Limits size × (j + 1 < size .ny) × (k + 1 < size .nz) ⌝ }
+    ensures { λ r. ⌜ r ≡ rowOf size cut j k ⌝ }
+{
+    let nx = size.nx();
+    let ny = size.ny();
+    let c = (nx - 1) * (j + (ny - 1) * k);
+    Row {
+        cut,
+        nx,
+        j,
+        c,
+        lower: 0 < k,
+    }
 }
 
-// A tally with the layer k more, whose planes have the signs a and b.
+// The marks moved by the rows of the layer k, whose planes have the signs a and b. (The loop reads the size, so that its invariant can speak of
+// the block.)
 fn with_layer(
-    t: Tally,
+    m: Marks,
     size: Size,
     samples: &[u16],
     cut: Cut,
@@ -111,42 +114,45 @@ fn with_layer(
     a: &[u64],
     b: &[u64],
     k: usize,
-) -> Tally
-    requires { ⌜ Ready size (now samples) cut (now table) (now a) (now b) k × Counting size (now samples) cut k t ⌝ }
-    ensures { λ r. ⌜ Counting size (now (samples .entry)) cut (k + 1) r ⌝ }
+) -> Marks
+    requires { ⌜ Ready size (now samples) cut (now table) (now a) (now b) k × Counting loopsOf size (now samples) cut 0 k m ⌝ }
+    ensures { λ r. ⌜ Counting loopsOf size (now (samples .entry)) cut 0 (k + 1) r ⌝ }
 {
-    let vertices = vertices::count_layer(size, samples, cut, table, a, b, k);
-    let z = quads::count_z(size, samples, cut, a, b, k);
-    if k == 0 {
-        return Tally {
-            vertices: t.vertices + vertices,
-            x: t.x,
-            y: t.y,
-            z: t.z + z,
-        };
+    let rows = size.ny() - 1;
+    let mut w = m;
+    let mut j: usize = 0;
+    while j < rows {
+        let nx = size.nx();
+        let ny = size.ny();
+        let p = nx * (j + ny * k);
+        let q = p + nx * ny;
+        let row = row_of(size, cut, j, k);
+        w = layers::row_counts(
+            row,
+            table,
+            a,
+            b,
+            &samples[p..p + 2 * nx],
+            &samples[q..q + 2 * nx],
+            w,
+        );
+        j += 1;
     }
-    let x = quads::count_x(size, samples, cut, a, k);
-    let y = quads::count_y(size, samples, cut, a, k);
-    Tally {
-        vertices: t.vertices + vertices,
-        x: t.x + x,
-        y: t.y + y,
-        z: t.z + z,
-    }
+    w
 }
 
-// How many vertices the mesh of a block has, and how many quads along each axis.
-fn tally_block(size: Size, samples: &[u16], cut: Cut) -> Tally
+// How many vertices the mesh of a block has, and how many words its quads along each axis take.
+fn tally_block(size: Size, samples: &[u16], cut: Cut) -> Marks
     requires { ⌜ Block size (now samples) ⌝ }
-    ensures { λ r. ⌜ Tallied size (now (samples .entry)) cut r ⌝ }
+    ensures { λ r. ⌜ Tallied loopsOf size (now (samples .entry)) cut r ⌝ }
 {
     let table = cube::masks();
     let nz = size.nz();
     let mut a = [0u64; 1280];
     let mut b = [0u64; 1280];
     signs::plane_signs(size, samples, cut, 0, &mut a);
-    let mut t = Tally {
-        vertices: 0,
+    let mut m = Marks {
+        v: 0,
         x: 0,
         y: 0,
         z: 0,
@@ -154,11 +160,11 @@ fn tally_block(size: Size, samples: &[u16], cut: Cut) -> Tally
     let mut k: usize = 0;
     while k + 1 < nz {
         signs::plane_signs(size, samples, cut, k + 1, &mut b);
-        t = with_layer(t, size, samples, cut, &table, &a, &b, k);
+        m = with_layer(m, size, samples, cut, &table, &a, &b, k);
         a = b;
         k += 1;
     }
-    t
+    m
 }
 
 // The counts of a block whose size is made.
@@ -188,51 +194,86 @@ pub fn counts(nx: u32, ny: u32, nz: u32, samples: &[u16], t: u16) -> Counted
     }
 }
 
-// The quads from the plane k: those along x and y between the layers below and above it, and those along z in the layer above. `low` and `high`
-// are the words of those layers, and `next` the number of the vertex behind the layer above.
-fn write_planes(
-    m: Marks,
-    next: usize,
+// Notes the row j of the layer below layer k, where there is one: its vertices are those of the words buffer from `below` to `first`, of which
+// `passed` are in the rows before. Answers how many are passed then.
+fn note_below(
     size: Size,
     samples: &[u16],
     cut: Cut,
-    a: &[u64],
-    b: &[u64],
+    j: usize,
     k: usize,
-    low: &[u32],
-    high: &[u32],
-    quads: &mut [u32],
-) -> Marks
-    requires { ⌜ PlanesReady size (now samples) cut k m (now a) (now b) (now low) (now high) (now quads) ⌝ }
-    ensures { λ r. ⌜ PlanesMore size (now (samples .entry)) cut k m next r (now (quads .entry)) (now (quads .exit)) ⌝ }
+    below: usize,
+    first: usize,
+    passed: usize,
+    words: &[u32],
+    under: &mut [u32],
+) -> usize
+    requires { ⌜ BelowReady loopsOf size (now samples) cut j k below first passed (now words) (now under) ⌝ }
+    ensures { λ r. ⌜ BelowNoted loopsOf size (now (samples .entry)) cut j k (now (under .entry)) (now (under .exit)) r ⌝ }
 {
-    let below = m.below;
-    let here = m.here;
     if k == 0 {
-        let z = quads::write_z(size, samples, cut, a, b, k, high, here, quads, m.z);
-        return Marks {
-            below: here,
-            here: next,
-            x: m.x,
-            y: m.y,
-            z: z,
-        };
+        return passed;
     }
-    let x = quads::write_x(size, samples, cut, a, k, low, below, high, here, quads, m.x);
-    let y = quads::write_y(size, samples, cut, a, k, low, below, high, here, quads, m.y);
-    let z = quads::write_z(size, samples, cut, a, b, k, high, here, quads, m.z);
-    Marks {
-        below: here,
-        here: next,
-        x: x,
-        y: y,
-        z: z,
-    }
+    let nx = size.nx();
+    let ny = size.ny();
+    let h = 512 * (j % 2);
+    let low = 2 * below;
+    let high = 2 * first;
+    vertices::note_row(
+        &words[low..high],
+        passed,
+        below,
+        (nx - 1) * (j + (ny - 1) * (k - 1)),
+        nx - 1,
+        &mut under[h..h + 512],
+    )
 }
 
-// The vertices of the layer k, and the quads from its lower plane.
+// Writes the row j of the layer k: its vertices, and the quads from row j of plane k.
+fn step_row(
+    m: Marks,
+    size: Size,
+    samples: &[u16],
+    cut: Cut,
+    table: &[u32; 256],
+    a: &[u64],
+    b: &[u64],
+    j: usize,
+    k: usize,
+    words: &mut [u32],
+    offsets: &mut [f64],
+    quads: &mut [u32],
+    under: &[u32],
+    tab: &mut [u32],
+) -> Marks
+    requires { ⌜ Ready size (now samples) cut (now table) (now a) (now b) k × Accepted size (now samples) cut × TablesReady loopsOf size (now samples) cut j k (now under) (now tab) × Underway loopsOf size (now samples) cut j k m (now words) (now offsets) (now quads) ⌝ }
+    ensures { λ r. ⌜ RowMore loopsOf size (now (samples .entry)) cut j k m r (now (words .entry)) (now (words .exit)) (now (offsets .entry)) (now (offsets .exit)) (now (quads .entry)) (now (quads .exit)) (now (tab .exit)) ⌝ }
+{
+    let nx = size.nx();
+    let ny = size.ny();
+    let p = nx * (j + ny * k);
+    let q = p + nx * ny;
+    let row = row_of(size, cut, j, k);
+    layers::row_step(
+        row,
+        table,
+        a,
+        b,
+        &samples[p..p + 2 * nx],
+        &samples[q..q + 2 * nx],
+        under,
+        tab,
+        words,
+        offsets,
+        quads,
+        m,
+    )
+}
+
+// The vertices of the layer k, and the quads from its lower plane; `below` is the number of the first vertex of the layer below.
 fn write_layer(
     m: Marks,
+    below: usize,
     size: Size,
     samples: &[u16],
     cut: Cut,
@@ -244,32 +285,54 @@ fn write_layer(
     offsets: &mut [f64],
     quads: &mut [u32],
 ) -> Marks
-    requires { ⌜ Ready size (now samples) cut (now table) (now a) (now b) k × Accepted size (now samples) cut × Underway size (now samples) cut k m (now words) (now offsets) (now quads) ⌝ }
-    ensures { λ r. ⌜ LayerMore size (now (samples .entry)) cut k m r (now (words .entry)) (now (words .exit)) (now (offsets .entry)) (now (offsets .exit)) (now (quads .entry)) (now (quads .exit)) ⌝ }
+    requires { ⌜ Ready size (now samples) cut (now table) (now a) (now b) k × Accepted size (now samples) cut × (0 < k → below ≡ layerFirst loopsOf size (now samples) cut (k - 1)) × Underway loopsOf size (now samples) cut 0 k m (now words) (now offsets) (now quads) ⌝ }
+    ensures { λ r. ⌜ LayerMore loopsOf size (now (samples .entry)) cut k m r (now (words .entry)) (now (words .exit)) (now (offsets .entry)) (now (offsets .exit)) (now (quads .entry)) (now (quads .exit)) ⌝ }
 {
-    let next = vertices::write_layer(size, samples, cut, table, a, b, k, words, offsets, m.here);
-    let low = 2 * m.below;
-    let mid = 2 * m.here;
-    let high = 2 * next;
-    write_planes(
-        m,
-        next,
-        size,
-        samples,
-        cut,
-        a,
-        b,
-        k,
-        &words[low..mid],
-        &words[mid..high],
-        quads,
-    )
+    let first = m.v;
+    let rows = size.ny() - 1;
+    let mut under = [0u32; 1024];
+    let mut tab = [0u32; 1024];
+    let mut passed: usize = 0;
+    let mut w = m;
+    let mut j: usize = 0;
+    while j < rows {
+        passed = note_below(
+            size,
+            samples,
+            cut,
+            j,
+            k,
+            below,
+            first,
+            passed,
+            words,
+            &mut under,
+        );
+        w = step_row(
+            w,
+            size,
+            samples,
+            cut,
+            table,
+            a,
+            b,
+            j,
+            k,
+            words,
+            offsets,
+            quads,
+            &under,
+            &mut tab,
+        );
+        j += 1;
+    }
+    w
 }
 
 // The whole mesh of a block that is tallied, into buffers that have room for it. The quads along y start behind those along x, and those along
 // z behind both.
 fn write_block(
-    t: Tally,
+    t: Marks,
     size: Size,
     samples: &[u16],
     cut: Cut,
@@ -277,8 +340,8 @@ fn write_block(
     offsets: &mut [f64],
     quads: &mut [u32],
 )
-    requires { ⌜ Accepted size (now samples) cut × Tallied size (now samples) cut t × Roomy size (now samples) cut (now words) (now offsets) (now quads) ⌝ }
-    ensures { λ _. ⌜ BlockWritten size (now (samples .entry)) cut (now (words .entry)) (now (words .exit)) (now (offsets .entry)) (now (offsets .exit)) (now (quads .entry)) (now (quads .exit)) ⌝ }
+    requires { ⌜ Accepted size (now samples) cut × Tallied loopsOf size (now samples) cut t × Roomy loopsOf size (now samples) cut (now words) (now offsets) (now quads) ⌝ }
+    ensures { λ _. ⌜ BlockWritten loopsOf size (now (samples .entry)) cut (now (words .entry)) (now (words .exit)) (now (offsets .entry)) (now (offsets .exit)) (now (quads .entry)) (now (quads .exit)) ⌝ }
 {
     let table = cube::masks();
     let nz = size.nz();
@@ -286,17 +349,19 @@ fn write_block(
     let mut b = [0u64; 1280];
     signs::plane_signs(size, samples, cut, 0, &mut a);
     let mut m = Marks {
-        below: 0,
-        here: 0,
+        v: 0,
         x: 0,
-        y: 4 * t.x,
-        z: 4 * (t.x + t.y),
+        y: t.x,
+        z: t.x + t.y,
     };
+    let mut below: usize = 0;
     let mut k: usize = 0;
     while k + 1 < nz {
         signs::plane_signs(size, samples, cut, k + 1, &mut b);
+        let first = m.v;
         m = write_layer(
             m,
+            below,
             size,
             samples,
             cut,
@@ -308,6 +373,7 @@ fn write_block(
             offsets,
             quads,
         );
+        below = first;
         a = b;
         k += 1;
     }

@@ -1,8 +1,6 @@
 -- `check` meets its contract: the first of rows 2, 3 and 4 that refuses decides.
 -- Assumes nothing.
-use mathlib.Core.Path.{_≡_, sym, _∙_}
-use mathlib.Core.List.{[], _∷_}
-use Rattle.block.specs.Rows.{countRow, thresholdRow, ceilingRow}
+use mathlib.Core.Path.{sym, _∙_}
 use Rattle.block.proofs.Order.{order-refuses, order-passes, order-last}
 use borrow.Author.Needs.{needs}
 use Rattle.mesh.proofs.check.Statement.{statement}

@@ -1,6 +1,6 @@
 -- `room` meets its contract: the first of rows 5 and 6 that refuses decides.
 -- Assumes nothing.
-use mathlib.Core.Path.{_≡_, sym, _∙_}
+use mathlib.Core.Path.{sym}
 use native.Mathlib.Omega.{arith}
 use Rattle.mesh.proofs.RoomRows.{short-words, short-offsets, short-quads, roomy}
 use borrow.Author.Needs.{needs}

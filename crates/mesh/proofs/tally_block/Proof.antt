@@ -5,24 +5,19 @@ use mathlib.Core.Path.{_≡_, refl}
 use native.Mathlib.Omega.{arith}
 use lib.ListN.{length}
 use borrow.Author.Needs.{needs}
+use Rattle.cube_rule.specs.Decider.{loopsOf}
 use Rattle.signs.specs.Signs.{Plane}
 use Rattle.signs.proofs.Planes.{plane-of}
 use Rattle.mesh.specs.Steps.{Counting}
-use Rattle.mesh.proofs.Tallies.{counting-none, counting-all}
+use Rattle.mesh.proofs.Tallies.{marked-start, marked-all}
 use Rattle.mesh.proofs.tally_block.Statement.{statement}
 use Rattle.mesh.proofs.tally_block.Tie as tie
-use Rattle.mesh.proofs.tally_block.Reads as reads
-use Rattle.mesh.proofs.tally_block.Lts as lts
-use Rattle.block.proofs.Size.nz.Reads as nz-reads
-use Rattle.cube.proofs.masks.Reads as masks-reads
-use Rattle.mesh.proofs.with_layer.Reads as with-layer-reads
-use Rattle.signs.proofs.plane_signs.Reads as plane-signs-reads
 
 abbrev Inv-loop : tie.InvT-loop
-Inv-loop size samples cut table nz a₀ b₀ t₀ k₀ a b t k = (k + 1 ≤ nz) × Plane size samples cut k a × (length b ≡ 1280) × Counting size samples cut k t
+Inv-loop size samples cut table nz a₀ b₀ m₀ k₀ a b m k = (k + 1 ≤ nz) × Plane size samples cut k a × (length b ≡ 1280) × Counting loopsOf size samples cut 0 k m
 
 abbrev μ-loop : tie.MeasureT-loop
-μ-loop size samples cut table nz a₀ b₀ t₀ k₀ a b t k = nz - k
+μ-loop size samples cut table nz a₀ b₀ m₀ k₀ a b m k = nz - k
 
 masks-requires : tie.Need-masks-requires Inv-loop μ-loop
 masks-requires c κs = search needs
@@ -39,7 +34,7 @@ plane-signs-requires c κs = search needs
 loop-holds : tie.Need-loop-holds Inv-loop μ-loop
 loop-holds c =
     let a = c .before .before .before .before .before .before in
-    (omega (arith, c .before .before .before .nz .ensures, a .pre .limits .z-low), plane-of (a .args .size) (a .args .samples .now) (a .args .cut) 0 _ _ (a .pre .limits) refl (c .before .plane-signs .ensures), refl, counting-none (a .args .size) (a .args .samples .now) (a .args .cut))
+    (omega (arith, c .before .before .before .nz .ensures, a .pre .limits .z-low), plane-of (a .args .size) (a .args .samples .now) (a .args .cut) 0 _ _ (a .pre .limits) refl (c .before .plane-signs .ensures), refl, marked-start (a .args .size) (a .args .samples .now) (a .args .cut) 0 0)
 
 add-loop : tie.Need-add-loop Inv-loop μ-loop
 add-loop c = search needs
@@ -97,7 +92,7 @@ returns : tie.Need-returns Inv-loop μ-loop
 returns c =
     let a = c .before .before .before .before .before .before .before .before in
     let l = c .before .loop in
-    counting-all (a .args .size) (a .args .samples .now) (a .args .cut) (l .k) (l .t) (l .inv .3) (omega (arith, c .before .before .before .before .before .nz .ensures))
+    marked-all (a .args .size) (a .args .samples .now) (a .args .cut) 0 0 (l .k) (omega (arith, c .before .before .before .before .before .nz .ensures)) (l .inv .3)
 
 pub tally-block-spec : {M : Type 1} → statement M
 tally-block-spec =

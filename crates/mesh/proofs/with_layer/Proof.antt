@@ -1,90 +1,150 @@
--- `with_layer` meets its contract: the counts of a layer are those that the tally lacks.
+-- `with_layer` meets its contract. The loop's invariant: the rows before j are counted. The measure is what is left of the rows.
 -- Assumes nothing.
-use Prim.Native.Nat.{_≤_}
+use Prim.Native.Nat.{_+_, _*_, _-_, _≤_, _<_}
 use native.Mathlib.Omega.{arith}
-use Rattle.mesh.proofs.Tallies.{counting-first, counting-more}
 use borrow.Author.Needs.{needs}
+use denote.Ref.{now}
+use Rattle.cube_rule.specs.Decider.{loopsOf}
+use Rattle.vertices.proofs.CubeCorners.{Windows}
+use Rattle.vertices.proofs.Layers.{row-bounds, low-fits, high-fits, lentLow, lentHigh, lent-windows}
+use Rattle.mesh.specs.Steps.{Counting}
+use Rattle.mesh.proofs.RowSteps.{counts-ready, counts-next}
+use Rattle.mesh.proofs.Tallies.{marked-layer}
 use Rattle.mesh.proofs.with_layer.Statement.{statement}
 use Rattle.mesh.proofs.with_layer.Tie as tie
-use Rattle.mesh.proofs.with_layer.Reads as reads
-use Rattle.mesh.proofs.with_layer.Lts as lts
-use Rattle.quads.proofs.count_x.Reads as count-x-reads
-use Rattle.quads.proofs.count_y.Reads as count-y-reads
-use Rattle.quads.proofs.count_z.Reads as count-z-reads
-use Rattle.vertices.proofs.count_layer.Reads as count-layer-reads
 
--- a layer of the block
-nz-high : (a : tie.Start) → a .args .k ≤ 256
-nz-high a = omega (arith, a .pre .0 .inside, a .pre .0 .limits .z-high)
+abbrev Inv-loop : tie.InvT-loop
+Inv-loop size samples cut table a b k rows w₀ j₀ w j = (j ≤ size .ny - 1) × Counting loopsOf size samples cut j k w
 
-count-layer-requires : tie.Need-count-layer-requires
-count-layer-requires c κs = search needs
+abbrev μ-loop : tie.MeasureT-loop
+μ-loop size samples cut table a b k rows w₀ j₀ w j = size .ny - 1 - j
 
-count-z-requires : tie.Need-count-z-requires
-count-z-requires c κs = search needs
+-- a row of the layer
+in-layer : (d : tie.In-loop Inv-loop μ-loop) → d .before .loop .j + 1 < d .before .before .before .before .before .before .args .size .ny
+in-layer d = omega (arith, d .loop-test .taken, d .before .before .ny .ensures)
 
-add-t14 : tie.Need-add-t14
-add-t14 c = search needs
+-- the row's numbers fit
+bounds : (d : tie.After-ny2 Inv-loop μ-loop) → let a = d .before .before .before .before .before .before .before .before .args in let nx = d .before .nx .result in let ny = d .ny2 .result in let j = d .before .before .before .loop .j in
+    (nx * ny ≤ 65536) × (ny * a .k ≤ 65024) × (nx * (j + ny * a .k) ≤ 16711168) × ((ny - 1) * a .k ≤ 64770) × ((nx - 1) * (j + (ny - 1) * a .k) ≤ 16581120)
+bounds d = let s = d .before .before .before .before .before .before .before .before in row-bounds (s .args .size) _ _ _ _ (s .pre .0 .limits) (d .before .nx .ensures) (d .ny2 .ensures) (in-layer (d .before .before)) (s .pre .0 .inside)
 
-add-t15 : tie.Need-add-t15
-add-t15 c = search needs
+nx-few : (d : tie.After-ny2 Inv-loop μ-loop) → (d .before .nx .result ≤ 256) × (d .before .before .before .loop .j < 256)
+nx-few d = let l = d .before .before .before .before .before .before .before .before .pre .0 .limits in (omega (arith, d .before .nx .ensures, l .x-high), omega (arith, in-layer (d .before .before), l .y-high))
 
-returns : tie.Need-returns
+-- its windows as they are lent
+windows : (d : tie.After-ny2 Inv-loop μ-loop) → let s = d .before .before .before .before .before .before .before .before in let j = d .before .before .before .loop .j in
+    Windows (s .args .size) (now (s .args .samples)) j (s .args .k) (lentLow (s .pre .0) j (d .before .nx .result) (d .ny2 .result) (d .before .nx .ensures) (d .ny2 .ensures) (in-layer (d .before .before))) (lentHigh (s .pre .0) j (d .before .nx .result) (d .ny2 .result) (d .before .nx .ensures) (d .ny2 .ensures) (in-layer (d .before .before)))
+windows d = let s = d .before .before .before .before .before .before .before .before in lent-windows (s .pre .0) (d .before .before .before .loop .j) _ _ (d .before .nx .ensures) (d .ny2 .ensures) (in-layer (d .before .before))
+
+sub-rows : tie.Need-sub-rows Inv-loop μ-loop
+sub-rows c = omega (arith, c .ny .ensures, c .before .before .before .before .pre .0 .limits .y-low)
+
+loop-holds : tie.Need-loop-holds Inv-loop μ-loop
+loop-holds c = (omega arith, c .before .before .before .before .pre .1)
+
+mul-p : tie.Need-mul-p Inv-loop μ-loop
+mul-p c = omega (arith, bounds c, nx-few c)
+
+add-p : tie.Need-add-p Inv-loop μ-loop
+add-p c = omega (arith, bounds c, nx-few c)
+
+mul-p-2 : tie.Need-mul-p-2 Inv-loop μ-loop
+mul-p-2 c = omega (arith, bounds c, nx-few c)
+
+mul-q : tie.Need-mul-q Inv-loop μ-loop
+mul-q c = omega (arith, bounds c, nx-few c)
+
+add-q : tie.Need-add-q Inv-loop μ-loop
+add-q c = omega (arith, bounds c, nx-few c)
+
+mul-row-counts : tie.Need-mul-row-counts Inv-loop μ-loop
+mul-row-counts c = omega (arith, bounds (c .before), nx-few (c .before))
+
+add-row-counts : tie.Need-add-row-counts Inv-loop μ-loop
+add-row-counts c = omega (arith, bounds (c .before), nx-few (c .before))
+
+mul-row-counts-2 : tie.Need-mul-row-counts-2 Inv-loop μ-loop
+mul-row-counts-2 c = omega (arith, bounds (c .before), nx-few (c .before))
+
+sub-row-counts : tie.Need-sub-row-counts Inv-loop μ-loop
+sub-row-counts c = omega (arith, bounds (c .before), nx-few (c .before))
+
+part-row-counts-start : tie.Need-part-row-counts-start Inv-loop μ-loop
+part-row-counts-start c = omega (arith, bounds (c .before), nx-few (c .before))
+
+part-row-counts-end : tie.Need-part-row-counts-end Inv-loop μ-loop
+part-row-counts-end c = let s = c .before .before .before .before .before .before .before .before .before in low-fits (s .args .size) (now (s .args .samples)) (c .before .before .before .before .loop .j) (s .args .k) _ _ (c .before .before .nx .ensures) (c .before .ny2 .ensures) (s .pre .0 .samples) (in-layer (c .before .before .before)) (s .pre .0 .inside)
+
+mul-row-counts-3 : tie.Need-mul-row-counts-3 Inv-loop μ-loop
+mul-row-counts-3 c = omega (arith, bounds (c .before .before), nx-few (c .before .before))
+
+add-row-counts-2 : tie.Need-add-row-counts-2 Inv-loop μ-loop
+add-row-counts-2 c = omega (arith, bounds (c .before .before), nx-few (c .before .before))
+
+mul-row-counts-4 : tie.Need-mul-row-counts-4 Inv-loop μ-loop
+mul-row-counts-4 c = omega (arith, bounds (c .before .before), nx-few (c .before .before))
+
+sub-row-counts-2 : tie.Need-sub-row-counts-2 Inv-loop μ-loop
+sub-row-counts-2 c = omega (arith, bounds (c .before .before), nx-few (c .before .before))
+
+part-row-counts-start-2 : tie.Need-part-row-counts-start-2 Inv-loop μ-loop
+part-row-counts-start-2 c = omega (arith, bounds (c .before .before), nx-few (c .before .before))
+
+part-row-counts-end-2 : tie.Need-part-row-counts-end-2 Inv-loop μ-loop
+part-row-counts-end-2 c = let s = c .before .before .before .before .before .before .before .before .before .before in high-fits (s .args .size) (now (s .args .samples)) (c .before .before .before .before .before .loop .j) (s .args .k) _ _ (c .before .before .before .nx .ensures) (c .before .before .ny2 .ensures) (s .pre .0 .samples) (in-layer (c .before .before .before .before)) (s .pre .0 .inside)
+
+row-of-requires : tie.Need-row-of-requires Inv-loop μ-loop
+row-of-requires c κs = (c .before .before .before .before .before .before .before .before .pre .0 .limits, in-layer (c .before .before), c .before .before .before .before .before .before .before .before .pre .0 .inside)
+
+row-counts-requires : tie.Need-row-counts-requires Inv-loop μ-loop
+row-counts-requires c κs = counts-ready (c .before .before .before .before .before .before .before .before .before .before .before .pre .0) _ (in-layer (c .before .before .before .before .before)) (windows (c .before .before .before)) _ (c .before .before .row-of .ensures) (c .before .before .before .before .before .before .loop .inv .1)
+
+add-j : tie.Need-add-j Inv-loop μ-loop
+add-j c = omega (arith, in-layer (c .before .before .before .before .before .before), c .before .before .before .before .before .before .before .before .before .before .before .before .pre .0 .limits .y-high)
+
+loop-less : tie.Need-loop-less Inv-loop μ-loop
+loop-less c = omega (arith, in-layer (c .before .before .before .before .before .before))
+
+loop-again : tie.Need-loop-again Inv-loop μ-loop
+loop-again c = (omega (arith, in-layer (c .before .before .before .before .before .before)), counts-next (c .before .before .before .before .before .before .before .before .before .before .before .before .pre .0) _ (in-layer (c .before .before .before .before .before .before)) (windows (c .before .before .before .before)) _ (c .before .before .before .row-of .ensures) (c .before .before .before .before .before .before .before .loop .inv .1) (c .row-counts .ensures))
+
+returns : tie.Need-returns Inv-loop μ-loop
 returns c =
-    let l = c .before .before .before .before in
-    let a = l .before .before .before .before in
-    counting-first (a .args .size) (a .args .samples .now) (a .args .cut) (a .args .k) (a .args .t) (l .count-layer .result) (c .before .before .before .count-z .result)
-    (c .before .before .if1 .taken) (a .pre .1) (l .count-layer .ensures .0) (l .count-layer .ensures .1)
-    (c .before .before .before .count-z .ensures .0) (c .before .before .before .count-z .ensures .1)
-
-count-x-requires : tie.Need-count-x-requires
-count-x-requires c κs = search needs
-
-count-y-requires : tie.Need-count-y-requires
-count-y-requires c κs = search needs
-
-add-t16 : tie.Need-add-t16
-add-t16 c = search needs
-
-add-t17 : tie.Need-add-t17
-add-t17 c = search needs
-
-add-t18 : tie.Need-add-t18
-add-t18 c =
-    let y = c .before .before .before in
-    let a = y .before .before .before .before .before .before .before .before in
-    omega (arith, a .pre .1 .few-y, y .count-y .ensures .1, nz-high a)
-
-add-t19 : tie.Need-add-t19
-add-t19 c =
-    let y = c .before .before .before .before in
-    let a = y .before .before .before .before .before .before .before .before in
-    omega (arith, a .pre .1 .few-z, y .before .before .before .count-z .ensures .1, nz-high a)
-
-returns-2 : tie.Need-returns-2
-returns-2 c =
-    let y = c .before .before .before .before in
-    let x = y .before in
-    let z = x .before .before in
-    let l = z .before in
-    let a = l .before .before .before .before in
-    counting-more (a .args .size) (a .args .samples .now) (a .args .cut) (a .args .k) (a .args .t) (l .count-layer .result) (x .count-x .result) (y .count-y .result) (z .count-z .result)
-    (a .pre .1) (l .count-layer .ensures .0) (l .count-layer .ensures .1) (x .count-x .ensures .0) (x .count-x .ensures .1)
-    (y .count-y .ensures .0) (y .count-y .ensures .1) (z .count-z .ensures .0) (z .count-z .ensures .1)
+    let a = c .before .before .before .before .before .before .args in
+    let h = c .before .loop in
+    marked-layer (a .size) (now (a .samples)) (a .cut) 0 0 (h .j) (a .k) (omega (arith, c .loop-test .left, c .before .before .ny .ensures, h .inv .0, c .before .before .before .before .before .before .pre .0 .limits .y-low)) (h .inv .1)
 
 pub with-layer-spec : {M : Type 1} → statement M
 with-layer-spec =
     tie.close
     (tie.spec
-    count-layer-requires
-    count-z-requires
-    add-t14
-    add-t15
-    returns
-    count-x-requires
-    count-y-requires
-    add-t16
-    add-t17
-    add-t18
-    add-t19
-    returns-2)
+    Inv-loop
+    μ-loop
+    (λ c κs. search needs)
+    sub-rows
+    loop-holds
+    (λ c κs. search needs)
+    (λ c κs. search needs)
+    mul-p
+    add-p
+    mul-p-2
+    mul-q
+    add-q
+    row-of-requires
+    mul-row-counts
+    add-row-counts
+    mul-row-counts-2
+    sub-row-counts
+    part-row-counts-start
+    part-row-counts-end
+    mul-row-counts-3
+    add-row-counts-2
+    mul-row-counts-4
+    sub-row-counts-2
+    part-row-counts-start-2
+    part-row-counts-end-2
+    row-counts-requires
+    add-j
+    loop-less
+    loop-again
+    returns)

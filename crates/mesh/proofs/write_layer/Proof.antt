@@ -1,107 +1,90 @@
--- `write_layer` meets its contract: the layer's vertices are written, read back by the part that they fill, and its quads written.
+-- `write_layer` meets its contract. The loop's invariant: the rows before j are written, and the tables of the row before are there. The measure
+-- is what is left of the rows.
 -- Assumes nothing.
-use native.Mathlib.Omega.{arith}
-use Rattle.mesh.proofs.LayerSteps.{vertex-room, parts-rise, planes-ready, layer-more}
+use Prim.Native.Nat.{_+_, _-_, _≤_, _<_}
+use mathlib.Core.Path.{refl}
+use denote.Ref.{now}
+use Rattle.mesh.proofs.LayerSteps.{RowState, state-start, below-ready, tables-ready, row-underway, state-more, state-words, state-offsets, state-quads}
+use Rattle.mesh.proofs.Writings.{writing-layer}
 use borrow.Author.Needs.{needs}
+use native.Mathlib.Omega.{arith}
 use Rattle.mesh.proofs.write_layer.Statement.{statement}
 use Rattle.mesh.proofs.write_layer.Tie as tie
-use Rattle.mesh.proofs.write_layer.Reads as reads
-use Rattle.mesh.proofs.write_layer.Lts as lts
-use Rattle.mesh.proofs.write_planes.Reads as write-planes-reads
-use Rattle.vertices.proofs.write_layer.Reads as write-layer-reads
 
-write-layer-requires : tie.Need-write-layer-requires
-write-layer-requires c κs =
-    let a = c .before .before .before .before .before .before .before .before in
-    (a .pre .0, vertex-room (a .pre .0) (a .pre .1) (a .pre .2))
+abbrev Inv-loop : tie.InvT-loop
+Inv-loop below size samples cut table a b k words₀ offsets₀ quads₀ first rows under₀ tab₀ passed₀ w₀ j₀ words offsets quads under tab passed w j =
+    (j ≤ size .ny - 1) × RowState size samples cut j k w₀ words₀ offsets₀ quads₀ passed under tab w words offsets quads
 
-mul-low : tie.Need-mul-low
-mul-low c =
-    let a = c .before .before .before .before .before .before .before .before .before .before .before .before .before .before in
-    omega (arith, parts-rise (a .pre .0) (a .pre .1) (a .pre .2) (c .before .before .before .before .before .write-layer .ensures))
+abbrev μ-loop : tie.MeasureT-loop
+μ-loop below size samples cut table a b k words₀ offsets₀ quads₀ first rows under₀ tab₀ passed₀ w₀ j₀ words offsets quads under tab passed w j = size .ny - 1 - j
 
-mul-mid : tie.Need-mul-mid
-mul-mid c =
-    let a = c .before .before .before .before .before .before .before .before .before .before .before .before .before .before .before in
-    omega (arith, parts-rise (a .pre .0) (a .pre .1) (a .pre .2) (c .before .before .before .before .before .before .write-layer .ensures))
+-- a row of the layer
+in-layer : (d : tie.In-loop Inv-loop μ-loop) → d .before .loop .j + 1 < d .before .before .before .before .before .before .before .before .before .args .size .ny
+in-layer d = omega (arith, d .loop-test .taken, d .before .before .ny .ensures)
 
-mul-high : tie.Need-mul-high
-mul-high c =
-    let a = c .before .before .before .before .before .before .before .before .before .before .before .before .before .before .before in
-    omega (arith, parts-rise (a .pre .0) (a .pre .1) (a .pre .2) (c .before .before .before .before .before .before .write-layer .ensures))
+sub-rows : tie.Need-sub-rows Inv-loop μ-loop
+sub-rows c = omega (arith, c .ny .ensures, c .before .before .before .before .before .before .before .pre .0 .limits .y-low)
 
-mul-write-planes : tie.Need-mul-write-planes
-mul-write-planes c =
-    let a = c .before .before .before .before .before .before .before .before .before .before .before .before .before .before .before in
-    omega (arith, parts-rise (a .pre .0) (a .pre .1) (a .pre .2) (c .before .before .before .before .before .before .write-layer .ensures))
+loop-holds : tie.Need-loop-holds Inv-loop μ-loop
+loop-holds c = (omega arith, state-start _ _ _ _ _ _ _ _ _ _ refl refl)
 
-sub-write-planes : tie.Need-sub-write-planes
-sub-write-planes c =
-    let a = c .before .before .before .before .before .before .before .before .before .before .before .before .before .before .before in
-    omega (arith, parts-rise (a .pre .0) (a .pre .1) (a .pre .2) (c .before .before .before .before .before .before .write-layer .ensures))
+note-below-requires : tie.Need-note-below-requires Inv-loop μ-loop
+note-below-requires c κs = let s = c .before .before .before .before .before .before .before .before .before .before .before in below-ready (s .pre .0) (s .pre .1) (s .pre .3) (in-layer (c .before .before)) (c .before .before .before .loop .inv .1) _ (s .pre .2)
 
-part-write-planes-start : tie.Need-part-write-planes-start
-part-write-planes-start c =
-    let a = c .before .before .before .before .before .before .before .before .before .before .before .before .before .before .before .before in
-    omega (arith, parts-rise (a .pre .0) (a .pre .1) (a .pre .2) (c .before .before .before .before .before .before .before .write-layer .ensures))
+step-row-requires : tie.Need-step-row-requires Inv-loop μ-loop
+step-row-requires c κs =
+    let s = c .before .before .before .before .before .before .before .before .before .before .before .before .before .before .before .before .before .before in
+    let st = c .before .before .before .before .before .before .before .before .before .before .loop .inv .1 in
+    let l = c .before .before .before .before .before .before .note-below .ensures in (
+      s .pre .0,
+      s .pre .1,
+      tables-ready (s .pre .0) (s .pre .1) (s .pre .3) (in-layer (c .before .before .before .before .before .before .before .before .before)) st l,
+      row-underway (s .pre .0) (s .pre .1) (s .pre .3) (in-layer (c .before .before .before .before .before .before .before .before .before)) st l,
+    )
 
-part-write-planes-end : tie.Need-part-write-planes-end
-part-write-planes-end c =
-    let a = c .before .before .before .before .before .before .before .before .before .before .before .before .before .before .before .before in
-    omega (arith, parts-rise (a .pre .0) (a .pre .1) (a .pre .2) (c .before .before .before .before .before .before .before .write-layer .ensures))
+add-j : tie.Need-add-j Inv-loop μ-loop
+add-j c = omega (arith, in-layer (c .before .before .before .before .before .before .before .before .before .before .before .before .before .before .before .before .before), c .before .before .before .before .before .before .before .before .before .before .before .before .before .before .before .before .before .before .before .before .before .before .before .before .before .before .pre .0 .limits .y-high)
 
-mul-write-planes-2 : tie.Need-mul-write-planes-2
-mul-write-planes-2 c =
-    let a = c .before .before .before .before .before .before .before .before .before .before .before .before .before .before .before .before .before in
-    omega (arith, parts-rise (a .pre .0) (a .pre .1) (a .pre .2) (c .before .before .before .before .before .before .before .before .write-layer .ensures))
+loop-less : tie.Need-loop-less Inv-loop μ-loop
+loop-less c = omega (arith, in-layer (c .before .before .before .before .before .before .before .before .before .before .before .before .before .before .before .before .before))
 
-sub-write-planes-2 : tie.Need-sub-write-planes-2
-sub-write-planes-2 c = search needs
+loop-again : tie.Need-loop-again Inv-loop μ-loop
+loop-again c =
+    let s = c .before .before .before .before .before .before .before .before .before .before .before .before .before .before .before .before .before .before .before .before .before .before .before .before .before .before in
+    (omega (arith, in-layer (c .before .before .before .before .before .before .before .before .before .before .before .before .before .before .before .before .before)), state-more (s .pre .0) (s .pre .1) (s .pre .3) (in-layer (c .before .before .before .before .before .before .before .before .before .before .before .before .before .before .before .before .before)) (c .before .before .before .before .before .before .before .before .before .before .before .before .before .before .before .before .before .before .loop .inv .1) (c .before .before .before .before .before .before .before .before .before .before .before .before .before .before .note-below .ensures) (c .before .before .before .before .before .before .before .step-row .ensures))
 
-part-write-planes-start-2 : tie.Need-part-write-planes-start-2
-part-write-planes-start-2 c = search needs
+same-length : tie.Need-same-length Inv-loop μ-loop
+same-length c = state-words (c .before .before .before .before .before .before .before .before .before .pre .3) (c .before .loop .inv .1)
 
-part-write-planes-end-2 : tie.Need-part-write-planes-end-2
-part-write-planes-end-2 c =
-    let a = c .before .before .before .before .before .before .before .before .before .before .before .before .before .before .before .before .before in
-    omega (arith, parts-rise (a .pre .0) (a .pre .1) (a .pre .2) (c .before .before .before .before .before .before .before .before .write-layer .ensures))
+same-length-2 : tie.Need-same-length-2 Inv-loop μ-loop
+same-length-2 c = state-offsets (c .before .before .before .before .before .before .before .before .before .pre .3) (c .before .loop .inv .1)
 
-write-planes-requires : tie.Need-write-planes-requires
-write-planes-requires c κs =
-    let a = c .before .before .before .before .before .before .before .before .before .before .before .before .before .before .before .before .before .before .before in
-    planes-ready (a .pre .0) (a .pre .1) (a .pre .2) (c .before .before .before .before .before .before .before .before .before .before .write-layer .ensures)
+same-length-3 : tie.Need-same-length-3 Inv-loop μ-loop
+same-length-3 c = state-quads (c .before .before .before .before .before .before .before .before .before .pre .3) (c .before .loop .inv .1)
 
-same-length : tie.Need-same-length
-same-length c = search needs
-
-same-length-2 : tie.Need-same-length-2
-same-length-2 c = search needs
-
-same-length-3 : tie.Need-same-length-3
-same-length-3 c = search needs
-
-returns : tie.Need-returns
+returns : tie.Need-returns Inv-loop μ-loop
 returns c =
-    let a = c .before .before .before .before .before .before .before .before .before .before .before .before .before .before .before .before .before .before .before .before .before .before in
-    layer-more (a .pre .0) (a .pre .1) (a .pre .2) (c .before .before .before .before .before .before .before .before .before .before .before .before .before .write-layer .ensures) (c .before .before .write-planes .ensures)
+    let h = c .before .loop in
+    let s = c .before .before .before .before .before .before .before .before .before in
+    λ w₀ o₀ q₀ room x. writing-layer (s .args .size) (now (s .args .samples)) (s .args .cut) (h .j) (s .args .k) (omega (arith, c .loop-test .left, c .before .before .ny .ensures, h .inv .0, s .pre .0 .limits .y-low)) (h .inv .1 .writing w₀ o₀ q₀ room x)
 
 pub write-layer-spec : {M : Type 1} → statement M
 write-layer-spec =
     tie.close
     (tie.spec
-    write-layer-requires
-    mul-low
-    mul-mid
-    mul-high
-    mul-write-planes
-    sub-write-planes
-    part-write-planes-start
-    part-write-planes-end
-    mul-write-planes-2
-    sub-write-planes-2
-    part-write-planes-start-2
-    part-write-planes-end-2
-    write-planes-requires
+    Inv-loop
+    μ-loop
+    (λ c κs. search needs)
+    sub-rows
+    loop-holds
+    (λ c. search needs)
+    note-below-requires
+    (λ c. search needs)
+    (λ c. search needs)
+    step-row-requires
+    add-j
+    loop-less
+    loop-again
     same-length
     same-length-2
     same-length-3
