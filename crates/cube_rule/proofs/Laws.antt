@@ -1,29 +1,28 @@
 -- The loops of a cube of samples keep THE RULE, and so the laws by which the layers above know them, for every decider.
 -- Assumes nothing.
-use mathlib.Core.Path.{_≡_, refl, sym, ap, ap₂, _∙_, subst}
+use mathlib.Core.Path.{_≡_, refl, ap, ap₂, _∙_}
 use mathlib.Core.Bool.{Bool, true, false, cond}
-use mathlib.Core.Logic.{_⊎_, inl, inr, ⊎-elim}
 use mathlib.Core.List.{List, [], _∷_, List·Memᴰ, List·Memᴰ·head, List·Memᴰ·tail}
-use Prim.Native.Nat.{ℕ, zero, suc, _+_, _^_, _≤_, _<_}
+use Prim.Native.Nat.{ℕ, suc, _<_}
 use native.Mathlib.Omega.{arith}
 use lib.Dec.{T}
 use lib.ListN.{length}
-use Rattle.laws.specs.Bits.{bit, differ, holds, maskOf}
+use Rattle.laws.specs.Bits.{bit, differ, holds}
 use Rattle.laws.proofs.Bits.{mask-lt, mask-none, holds-mask}
 use Rattle.block.specs.declared.Cut.{Cut}
 use Rattle.block.specs.Grey.{positive}
 use Rattle.cube_rule.specs.Edges.{cornerSample, lower, upper, patternOf, crossed, crossedMask, crossedAt}
 use Rattle.cube_rule.specs.Faces.{ringEdge, ringCorner}
-use Rattle.cube_rule.specs.Links.{linkedIf, linkedAt, Decider, decisions}
-use Rattle.cube_rule.specs.Loops.{linksOf, loopsFrom, loopsIn, loopsBy}
-use Rattle.cube_rule.specs.Rule.{linkedOn, Linked, holders, firstHolder, Loop, Rule}
+use Rattle.cube_rule.specs.Links.{linkedAt, Decider, decisions}
+use Rattle.cube_rule.specs.Loops.{linksOf, loopsFrom, loopsBy}
+use Rattle.cube_rule.specs.Rule.{linkedOn, firstHolder, Rule}
 use Rattle.cube_rule.specs.Laws.{CubeLaws}
 use Rattle.cube_rule.specs.Plain.{mixed, plain}
 use Rattle.cube_rule.specs.Sorts.{joinedOn, one, two}
 use Rattle.cube_rule.proofs.Tables.{lower-lt, upper-lt, ring-corner-lt}
 use Rattle.cube_rule.proofs.Tested.{lasts, good, good-one, good-two, good-some, good-lasts}
 use Rattle.cube_rule.proofs.Ways.{sortOf, good-always}
-use Rattle.cube_rule.proofs.Ruled.{ruled, loops-four}
+use Rattle.cube_rule.proofs.Ruled.{ruled}
 use Rattle.cube_rule.proofs.Unique.{rule-unique}
 
 module _ (cut : Cut) (cs : List ℕ) where
@@ -42,10 +41,6 @@ module _ (cut : Cut) (cs : List ℕ) where
   pub mask-crossed : (e : ℕ) → e < 12 → holds (crossedMask (patternOf cut cs)) e ≡ crossedAt cut cs e
   unfolding crossedMask
   mask-crossed e h = holds-mask (crossed (patternOf cut cs)) 12 e h ∙ pattern-crossed e h
-
-  pub crossed-mask-lt : crossedMask (patternOf cut cs) < 4096
-  unfolding crossedMask
-  crossed-mask-lt = mask-lt (crossed (patternOf cut cs)) 12
 
 module _ (D : Decider) (cut : Cut) (cs : List ℕ) where
   -- the loops of a cube keep the rule

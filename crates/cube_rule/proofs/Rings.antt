@@ -1,13 +1,12 @@
 -- The links of a face as sets: they are those of the face rule, each crossed edge has just one, and a face's set as a set of the
 -- cube's edges has the same edges. By tests that antt computes over all signs and both decisions.
 -- Assumes nothing.
-use Prim.Native.Nat.{ℕ, zero, suc, _+_, _*_, _/_, _%_, _^_, _≤_, _<_}
-use mathlib.Core.Path.{_≡_, refl, sym, ap, _∙_}
-use mathlib.Core.Bool.{Bool, true, false, not, cond, _&&_, _||_, Bool·beq}
-use mathlib.Core.Logic.{_⊎_, inl, inr, ⊎-elim}
+use Prim.Native.Nat.{ℕ, _+_, _<_}
+use mathlib.Core.Path.{_≡_}
+use mathlib.Core.Bool.{Bool, true, not, _&&_, _||_, Bool·beq}
 use lib.Dec.{T, eqb, ltb, eqb→eq, ltb→lt}
 use Rattle.laws.specs.Bits.{bit, holds}
-use Rattle.laws.proofs.Tests.{both, one-of, left, right, cases, imply, is-true, same-eq, either-way, either-way-at, below, below-at, some, some-at}
+use Rattle.laws.proofs.Tests.{both, one-of, left, right, imply, is-true, same-eq, either-way, either-way-at, below, below-at, some, some-at}
 use Rattle.cube_rule.specs.Faces.{ringEdge}
 use Rattle.cube_rule.specs.Links.{ringCrossed, linkedIf}
 use Rattle.cube_rule.specs.Loops.{firstLink, secondLink, placed}

@@ -1,29 +1,26 @@
 -- The loops of every sign pattern, however its faces are decided, keep THE RULE; so do the loops of every cube.
 -- Assumes nothing.
-use mathlib.Core.Path.{_≡_, refl, sym, ap, ap₂, _∙_, subst}
+use mathlib.Core.Path.{_≡_, refl, sym, ap, _∙_, subst}
 use mathlib.Core.Bool.{Bool, true, false, not, cond, _&&_, _||_, false≢true, or-true}
 use mathlib.Core.Logic.{_⊎_, inl, inr, ⊎-elim}
-use mathlib.Core.List.{List, [], _∷_, List·Memᴰ}
+use mathlib.Core.List.{List, [], _∷_}
 use Prim.Native.Nat.{ℕ, zero, suc, _+_, _*_, _^_, _≤_, _<_}
 use native.Mathlib.Omega.{arith}
 use lib.Dec.{T, eqb, ltb, ltb→lt}
 use lib.ListN.{length, getD}
-use lib.Count.{ones}
 use borrow.Author.Tests.{eqb-true}
-use Rattle.laws.specs.Bits.{bit, holds, maskOf, differ}
-use Rattle.laws.proofs.Bits.{mask-lt, holds-mask, both-or-none, holds-past}
-use Rattle.laws.proofs.Tests.{both, one-of, left, right, cases, is-true, was-true, some, some-at, lt-or-ge}
-use Rattle.block.specs.declared.Cut.{Cut}
-use Rattle.block.specs.Grey.{positive}
-use Rattle.cube_rule.specs.Edges.{cornerSample, lower, upper, patternOf, crossed, crossedMask, crossedAt}
+use Rattle.laws.specs.Bits.{bit, holds, differ}
+use Rattle.laws.proofs.Bits.{holds-mask, both-or-none, holds-past}
+use Rattle.laws.proofs.Tests.{both, left, right, cases, is-true, some, some-at, lt-or-ge}
+use Rattle.cube_rule.specs.Edges.{crossed, crossedMask}
 use Rattle.cube_rule.specs.Faces.{ringEdge, ringCorner}
-use Rattle.cube_rule.specs.Links.{next, ringCrossed, linkedIf, Decider, decisions}
-use Rattle.cube_rule.specs.Loops.{firstLink, secondLink, placed, faceLink, linksOf, loopsFrom, loopsIn, loopsBy}
+use Rattle.cube_rule.specs.Links.{next, ringCrossed}
+use Rattle.cube_rule.specs.Loops.{firstLink, secondLink, placed, linksOf, loopsFrom, loopsIn}
 use Rattle.cube_rule.specs.Rule.{linkedOn, Linked, Loop, Rule}
-use Rattle.cube_rule.proofs.Tables.{ring-edge-lt, ring-edge-crossed, lower-lt, upper-lt}
-use Rattle.cube_rule.proofs.Rings.{sets, linked-sets, first-lt, second-lt, one-link, placed-at, placed-from}
+use Rattle.cube_rule.proofs.Tables.{ring-edge-crossed}
+use Rattle.cube_rule.proofs.Rings.{linked-sets, first-lt, second-lt, one-link, placed-at, placed-from}
 use Rattle.cube_rule.proofs.Trails.{has, linksOn, linked, hangs-same}
-use Rattle.cube_rule.proofs.Tested.{kept, keptOn, kept-or-not, good, good-loop, loop-sized, loop-kept, loop-hangs, good-each, good-loops, good-order}
+use Rattle.cube_rule.proofs.Tested.{kept, keptOn, kept-or-not, good-loop, loop-sized, loop-kept, loop-hangs, good-each, good-loops, good-order}
 use Rattle.cube_rule.specs.Sorts.{joinedOn}
 use Rattle.cube_rule.proofs.Ways.{sortOf, good-always}
 

@@ -1,15 +1,15 @@
 -- Two cubes that share a face link it alike: the links of a face depend on its own four samples and the threshold alone.
 -- Assumes nothing.
-use mathlib.Core.Path.{_≡_, refl, sym, ap, _∙_}
-use mathlib.Core.Bool.{Bool, true, false}
+use mathlib.Core.Path.{_≡_, ap, _∙_}
+use mathlib.Core.Bool.{Bool}
 use mathlib.Core.List.{List}
-use Prim.Native.Nat.{ℕ, zero, suc, _+_, _*_, _^_, _<_}
+use Prim.Native.Nat.{ℕ, _+_, _*_, _^_, _<_}
 use native.Mathlib.Omega.{arith}
 use lib.Dec.{T, eqb, eqb→eq}
 use Rattle.laws.proofs.Tests.{both, left, right, below, below-at}
 use Rattle.block.specs.declared.Cut.{Cut}
 use Rattle.cube_rule.specs.Edges.{cornerSample, cornerOn}
-use Rattle.cube_rule.specs.Faces.{faceCorners, ringCorner}
+use Rattle.cube_rule.specs.Faces.{ringCorner}
 use Rattle.cube_rule.specs.Links.{Decider, linkedAt}
 
 -- the face g of the one cube and the face f of the other have the same samples

@@ -1,17 +1,15 @@
 -- The tables of edges and faces have the cube's geometry, each by one computed test: an edge runs along its axis, lies on just the
 -- faces that both its corners lie on, which are two, and stands in a face's ring between two corners.
 -- Assumes nothing.
-use Prim.Native.Nat.{ℕ, zero, suc, _+_, _*_, _/_, _%_, _^_, _<_}
-use mathlib.Core.Path.{_≡_, refl, sym, ap, ap₂, _∙_}
-use mathlib.Core.Bool.{Bool, true, false, not, _&&_, _||_, Bool·beq}
+use Prim.Native.Nat.{ℕ, _+_, _/_, _%_, _^_, _<_}
+use mathlib.Core.Path.{_≡_, refl, ap₂, _∙_}
+use mathlib.Core.Bool.{Bool, true, false, _&&_, Bool·beq}
 use mathlib.Core.Logic.{_⊎_, inl, inr, ⊎-elim}
-use native.Mathlib.Omega.{arith}
 use lib.Dec.{T, eqb, ltb, eqb→eq, ltb→lt}
-use lib.ListN.{getD}
-use Rattle.laws.specs.Bits.{bit, differ, holds}
+use Rattle.laws.specs.Bits.{bit, differ}
 use Rattle.laws.proofs.Tests.{both, one-of, left, right, cases, same-eq, below, below-at}
-use Rattle.cube_rule.specs.Edges.{lower, upper, axisOf, cornerOn, edges, crossed}
-use Rattle.cube_rule.specs.Faces.{faceEdges, faceCorners, ringEdge, ringCorner, onFace}
+use Rattle.cube_rule.specs.Edges.{lower, upper, axisOf, cornerOn}
+use Rattle.cube_rule.specs.Faces.{ringEdge, ringCorner, onFace}
 use Rattle.cube_rule.specs.Links.{next}
 
 -- ---- an edge runs from its lower corner to the upper one, along its axis
@@ -91,10 +89,6 @@ ring-computed = tt
 module _ (f i : ℕ) (hf : f < 6) (hi : i < 4) where
   at-ring : T (ring-test f i)
   at-ring = below-at 4 (ring-test f) (below-at 6 (λ f. below 4 (ring-test f)) ring-computed f hf) i hi
-
-  pub ring-edge-lt : ringEdge f i < 12
-  unfolding ring-test
-  ring-edge-lt = ltb→lt (ringEdge f i) 12 (left (ltb (ringEdge f i) 12) _ (left (both (ltb (ringEdge f i) 12) (ltb (ringCorner f i) 8)) _ at-ring))
 
   pub ring-corner-lt : ringCorner f i < 8
   unfolding ring-test

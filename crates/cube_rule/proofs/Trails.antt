@@ -1,16 +1,16 @@
 -- A loop hangs together: a trail of its edges, each linked to the next, on which all of them lie. `ls` are the twelve links of a cube
 -- as sets of its edges, two for each face.
 -- Assumes nothing.
-use mathlib.Core.Path.{_≡_, refl, sym, ap, _∙_}
+use mathlib.Core.Path.{_≡_, sym, ap, _∙_}
 use mathlib.Core.Bool.{Bool, true, false, not}
-use mathlib.Core.Logic.{_⊎_, inl, inr, ⊎-elim}
+use mathlib.Core.Logic.{⊎-elim}
 use mathlib.Core.List.{List, [], _∷_}
-use Prim.Native.Nat.{ℕ, zero, suc, _+_, _-_, _*_, _/_, _%_, _^_, _<_}
-use lib.Dec.{T, eqb, ltb, eqb→eq, ltb→lt}
+use Prim.Native.Nat.{ℕ, zero, suc, _+_, _-_, _*_, _/_, _%_, _<_}
+use lib.Dec.{T, eqb, ltb, eqb→eq}
 use lib.ListN.{getD}
 use lib.Count.{trailingZeros}
 use Rattle.laws.specs.Bits.{holds}
-use Rattle.laws.proofs.Tests.{both, one-of, left, right, cases, imply, is-true, below, below-at, some, some-at}
+use Rattle.laws.proofs.Tests.{both, one-of, left, right, cases, imply, below, below-at, some}
 
 -- ---- the trail from an edge
 

@@ -5,18 +5,15 @@ use mathlib.Core.Path.{_≡_, refl, sym, ap, ap₂, _∙_, subst}
 use mathlib.Core.Bool.{Bool, true, false, false≢true}
 use mathlib.Core.Logic.{_⊎_, inl, inr, ⊎-elim}
 use mathlib.Core.List.{List, [], _∷_, List·Memᴰ, List·Memᴰ·head, List·Memᴰ·tail, List·Memᴰ·not-nil, List·Memᴰ·cases-cons}
-use Prim.Native.Nat.{ℕ, zero, suc, _+_, _*_, _/_, _%_, _^_, _≤_, _<_}
+use Prim.Native.Nat.{ℕ, _+_, _^_, _≤_, _<_}
 use native.Mathlib.Omega.{arith}
-use lib.Dec.{eqb}
-use lib.Count.{ones, trailingZeros}
 use borrow.Author.Tests.{eq-eqb}
 use Rattle.laws.specs.Bits.{bit, holds}
 use Rattle.laws.proofs.Bits.{mask-ext, holds-past, some-ones}
 use Rattle.laws.proofs.Trailing.{trailing-lt, trailing-set}
 use Rattle.laws.proofs.Tests.{lt-or-ge}
-use Rattle.cube_rule.specs.Edges.{crossed}
 use Rattle.cube_rule.specs.Loops.{loopsIn}
-use Rattle.cube_rule.specs.Rule.{Linked, holders, lowestEdge, Rising, Loop, Rule}
+use Rattle.cube_rule.specs.Rule.{holders, lowestEdge, Rising, Loop, Rule}
 use Rattle.cube_rule.proofs.Ruled.{ruled}
 
 -- ---- lists that rise

@@ -3,9 +3,9 @@
 -- Assumes nothing.
 use mathlib.Core.Path.{_≡_, refl, subst}
 use mathlib.Core.Bool.{Bool, true, false, not, cond, _&&_, Bool·beq}
-use mathlib.Core.Logic.{_⊎_, inl, inr, ⊎-elim}
+use mathlib.Core.Logic.{⊎-elim}
 use mathlib.Core.List.{List, [], _∷_}
-use Prim.Native.Nat.{ℕ, zero, suc, _+_, _-_, _*_, _^_, _≤_, _<_, zero-le}
+use Prim.Native.Nat.{ℕ, _+_, _-_, _≤_, _<_, zero-le}
 use native.Mathlib.Omega.{arith}
 use lib.Dec.{T, eqb}
 use lib.Count.{trailingZeros}
@@ -14,7 +14,7 @@ use Rattle.laws.proofs.Tests.{both, left, right, below, below-at, lt-or-ge}
 use Rattle.cube_rule.specs.Edges.{crossedMask}
 use Rattle.cube_rule.specs.Faces.{ringCorner}
 use Rattle.cube_rule.specs.Loops.{ringMask, firstLink, secondLink, placed, faceLink, linksFrom, linksOf, grow, loopFrom, loopsFrom, loopsIn}
-use Rattle.cube_rule.specs.Plain.{alternate, alternateOn, mixed, plain}
+use Rattle.cube_rule.specs.Plain.{alternate, alternateOn, mixed}
 use Rattle.cube_rule.specs.Sorts.{joinedOn, one, two}
 use Rattle.cube_rule.proofs.Alike.{at, facesOf}
 use Rattle.cube_rule.proofs.Tested.{Sort, good}

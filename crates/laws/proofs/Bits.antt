@@ -1,10 +1,10 @@
 -- Masks: the bits of a mask made by a test, masks with equal bits, the bits of a meet, and how many bits there are.
 -- Assumes nothing.
-use mathlib.Core.Path.{_≡_, refl, ap, sym, _∙_, subst}
+use mathlib.Core.Path.{_≡_, refl, ap, sym, _∙_}
 use mathlib.Core.Logic.{_⊎_, inl, inr, ⊎-elim}
 use mathlib.Core.Bool.{Bool, true, false, false≢true}
 use Prim.Native.Nat.{ℕ, zero, suc, _+_, _*_, _-_, _/_, _%_, _^_, _≤_, _<_}
-use native.Mathlib.Nat.{not-suc-le-zero, eq-or-lt-of-le, le-of-suc-le-suc, pow-suc, add-zero, zero-add, zero-div, div-one, one-mul, zero-mul, add-div-right, div-eq-of-lt, add-mul-div-left, add-mul-mod-self-left, eq-zero-or-pos, div-div-eq-div-mul, pow-succ', mod-eq-of-lt, lt-of-lt-of-le}
+use native.Mathlib.Nat.{not-suc-le-zero, eq-or-lt-of-le, le-of-suc-le-suc, pow-suc, add-zero, zero-div, div-one, one-mul, zero-mul, add-div-right, div-eq-of-lt, add-mul-div-left, add-mul-mod-self-left, eq-zero-or-pos, div-div-eq-div-mul, pow-succ', mod-eq-of-lt, lt-of-lt-of-le}
 use native.Mathlib.Omega.{arith}
 use borrow.Author.Tests.{eqb-true, eqb-false}
 use lib.Dec.{eqb}
@@ -74,12 +74,6 @@ pub mask-none : (f : ℕ → Bool) (n : ℕ) → ((e : ℕ) → e < n → f e �
 unfolding maskOf
 mask-none f zero h = refl
 mask-none f (suc n) h = rw (mask-none f n (λ e l. h e (omega arith)), h n (omega arith), zero-mul)
-
--- tests that say the same make the same mask
-pub mask-same : (f g : ℕ → Bool) (n : ℕ) → ((e : ℕ) → e < n → f e ≡ g e) → maskOf f n ≡ maskOf g n
-unfolding maskOf
-mask-same f g zero h = refl
-mask-same f g (suc n) h = rw (mask-same f g n (λ e l. h e (omega arith)), h n (omega arith))
 
 -- ---- masks by their bits
 

@@ -1,6 +1,6 @@
 -- Places that are filled one after the other.
 -- Assumes nothing.
-use mathlib.Core.Path.{_≡_, refl, sym, ap, _∙_}
+use mathlib.Core.Path.{_≡_, sym, ap, _∙_}
 use mathlib.Core.Logic.{_⊎_, inl, inr, ⊎-elim}
 use mathlib.Core.List.{List, [], _∷_, _++_, append-assoc}
 use Prim.Native.Nat.{ℕ, suc, _+_, _-_, _≤_, _<_}
@@ -11,19 +11,6 @@ use Rattle.laws.specs.Filled.{filled}
 use Rattle.laws.proofs.Tests.{lt-or-ge}
 
 module _ {A : Type 0} (n : ℕ) (d : A) where
-  -- all of the places are there
-  pub filled-length : (xs : List A) → length xs ≤ n → length (filled n d xs) ≡ n
-  unfolding filled
-  filled-length xs h = simp (length-append, length-replicate) (omega arith)
-
-  -- before the first
-  pub filled-none : replicate n d ≡ filled n d []
-  unfolding filled
-  filled-none = ap (λ (k : ℕ). replicate k d) (less n)
-    where
-      less : (n : ℕ) → n ≡ n - 0
-      less n = omega arith
-
   -- the next place takes x
   pub filled-more : (xs : List A) (x : A) → length xs < n → set (filled n d xs) (length xs) x ≡ filled n d (xs ++ x ∷ [])
   unfolding filled

@@ -1,7 +1,7 @@
 -- The index of (i,j,k) in a box: it is below the box's size, and its coordinates are read back by / and %.
 -- Assumes nothing.
-use Prim.Native.Nat.{ℕ, zero, suc, _+_, _*_, _-_, _/_, _%_, _≤_, _<_}
-use mathlib.Core.Path.{_≡_, refl, ap, sym, _∙_}
+use Prim.Native.Nat.{ℕ, _+_, _*_, _/_, _%_, _≤_, _<_}
+use mathlib.Core.Path.{_≡_, _∙_}
 use native.Mathlib.Nat.{add-mul-mod-self-left, mod-eq-of-lt, add-mul-div-left, div-eq-of-lt, zero-add, mul-le-mul-left, mul-add, mul-one, mod-add-div}
 use native.Mathlib.Omega.{arith}
 use Rattle.laws.specs.Index.{indexIn}

@@ -7,7 +7,7 @@ use native.Mathlib.Nat.{add-zero, add-suc, add-mul, mul-assoc, mul-comm, mul-one
 use native.Mathlib.Numerals.{add-one}
 use native.Mathlib.Omega.{arith}
 use native.Mathlib.Decide.{decLt}
-use lib.Bits.{bitAnd, bitOr, bitXor, and-block, or-block, xor-block, and-mask, and-lt, or-lt, xor-lt, or-add-and, xor-add-and, and-le-l, and-le-r, or-shifted-r}
+use lib.Bits.{bitAnd, bitOr, bitXor, and-block, xor-block, and-lt, xor-lt, or-add-and, xor-add-and, and-le-l, and-le-r, or-shifted-r}
 use lib.Count.{ones, ones-cat, ones-step}
 use lib.Pow.{ones-split, ones-lt, pow-pos, pow-add, high, low, shl-exact}
 use Rattle.laws.specs.Bits.{bit, maskOf}
@@ -94,10 +94,6 @@ module _ (op : ℕ → ℕ → ℕ) (op0 : op 0 0 ≡ 0)
       block n (f n) (g n) (pack f n) (pack g n) (pack-lt f bf n) (pack-lt g bg n)
       ∙ ap (λ (x : ℕ). op (f n) (g n) * 2 ^ n + x) (pack-op f g bf bg n)
 
-pub pack-or : (f g : ℕ → ℕ) → ((i : ℕ) → f i ≤ 1) → ((i : ℕ) → g i ≤ 1) → (n : ℕ)
-    → bitOr (pack f n) (pack g n) ≡ pack (λ i. bitOr (f i) (g i)) n
-pack-or = pack-op bitOr refl or-block
-
 pub pack-and : (f g : ℕ → ℕ) → ((i : ℕ) → f i ≤ 1) → ((i : ℕ) → g i ≤ 1) → (n : ℕ)
     → bitAnd (pack f n) (pack g n) ≡ pack (λ i. bitAnd (f i) (g i)) n
 pack-and = pack-op bitAnd refl and-block
@@ -105,10 +101,6 @@ pack-and = pack-op bitAnd refl and-block
 pub pack-xor : (f g : ℕ → ℕ) → ((i : ℕ) → f i ≤ 1) → ((i : ℕ) → g i ≤ 1) → (n : ℕ)
     → bitXor (pack f n) (pack g n) ≡ pack (λ i. bitXor (f i) (g i)) n
 pack-xor = pack-op bitXor refl xor-block
-
--- bits in, bits out
-pub or-bit : (a b : ℕ) → a ≤ 1 → b ≤ 1 → bitOr a b ≤ 1
-or-bit a b ha hb = omega (arith, or-lt 1 a b (omega arith) (omega arith))
 
 pub and-bit : (a b : ℕ) → a ≤ 1 → b ≤ 1 → bitAnd a b ≤ 1
 and-bit a b ha hb = omega (arith, and-lt 1 a b (omega arith) (omega arith))
@@ -148,9 +140,6 @@ ones-shr n h =
   where
     all : 64 ≡ n + (64 - n)
     all = omega arith
-
-pub mask-low : (w n : ℕ) → n ≤ 64 → bitAnd w (18446744073709551615 / 2 ^ (64 - n)) ≡ w % 2 ^ n
-mask-low w n h = rw (ones-shr n h) (and-mask w n)
 
 -- a count of ones is the sum of the bits
 bit-ones : (a : ℕ) → a ≤ 1 → ones a ≡ a

@@ -1,11 +1,11 @@
 -- Runs of stores into a buffer: one behind the other, in separate parts, over its front, and read back.
 -- Assumes nothing.
-use Prim.Native.Nat.{ℕ, zero, suc, _+_, _-_, _≤_, _<_}
+use Prim.Native.Nat.{ℕ, suc, _+_, _≤_, _<_}
 use mathlib.Core.Path.{_≡_, refl, ap, sym, _∙_}
 use mathlib.Core.List.{List, [], _∷_, _++_, append-assoc}
 use native.Mathlib.Nat.{add-zero, add-suc, suc-add, zero-add}
 use native.Mathlib.Omega.{arith}
-use lib.ListN.{length, set, take, drop, length-append}
+use lib.ListN.{length, set, take, drop}
 use lib.Seq.{sets, sets-eq, length-sets, set-comm, take-at, drop-at}
 use Rattle.laws.specs.Below.{over}
 

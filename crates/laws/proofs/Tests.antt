@@ -3,13 +3,11 @@
 use mathlib.Core.Path.{_≡_, refl, sym, subst}
 use mathlib.Core.Bool.{Bool, true, false, not, Bool·beq}
 use mathlib.Core.Logic.{_⊎_, inl, inr, ⊎-elim}
-use mathlib.Core.List.{List, [], _∷_}
-use Prim.Native.Nat.{ℕ, zero, suc, _+_, _≤_, _<_}
-use native.Mathlib.Nat.{add-zero, zero-add, add-suc, suc-add, le-of-suc-le-suc, not-suc-le-zero, le-refl, le-trans, le-suc, eq-or-lt-of-le}
+use Prim.Native.Nat.{ℕ, zero, suc, _≤_, _<_}
+use native.Mathlib.Nat.{le-of-suc-le-suc, not-suc-le-zero, le-refl, le-trans, le-suc, eq-or-lt-of-le}
 use native.Mathlib.Decide.{decLt}
 use native.Mathlib.Omega.{arith}
 use lib.Dec.{T}
-use lib.ListN.{length, getD}
 
 abbrev pub both : Bool → Bool → Bool
 both true b = b
@@ -39,10 +37,6 @@ imply false b t e = absurd (subst T (sym e) tt)
 pub is-true : (b : Bool) → T b → b ≡ true
 is-true true t = refl
 is-true false t = absurd t
-
-pub was-true : (b : Bool) → b ≡ true → T b
-was-true true e = tt
-was-true false e = subst T (sym e) tt
 
 pub same-eq : (a b : Bool) → T (Bool·beq a b) → a ≡ b
 same-eq true true t = refl
@@ -90,21 +84,3 @@ some-at (suc n) f t =
     ⊎-elim (λ (g : T (f n)). (n, le-refl (suc n), g))
     (λ (g : T (some n f)). let r = some-at n f g in (r .0, le-trans (r .1) (le-suc n), r .2))
     (cases (f n) (some n f) t)
-
--- f passes at each entry of a table and its place, counted from i
-abbrev pub every : (ℕ → ℕ → Bool) → ℕ → List ℕ → Bool
-every f i [] = true
-every f i (x ∷ xs) = both (f i x) (every f (suc i) xs)
-
-every-from : (f : ℕ → ℕ → Bool) (xs : List ℕ) (i : ℕ) → T (every f i xs) → (k : ℕ) → k < length xs → T (f (i + k) (getD xs k 0))
-every-from f [] i t k h = absurd (not-suc-le-zero h)
-every-from f (x ∷ xs) i t zero h = subst (λ (m : ℕ). T (f m x)) (sym (add-zero i)) (left (f i x) (every f (suc i) xs) t)
-every-from f (x ∷ xs) i t (suc k) h =
-    subst (λ (m : ℕ). T (f m (getD xs k 0))) (step i k)
-    (every-from f xs (suc i) (right (f i x) (every f (suc i) xs) t) k (le-of-suc-le-suc h))
-  where
-    step : (i k : ℕ) → suc i + k ≡ i + suc k
-    step i k = omega arith
-
-pub every-at : (f : ℕ → ℕ → Bool) (xs : List ℕ) → T (every f 0 xs) → (k : ℕ) → k < length xs → T (f k (getD xs k 0))
-every-at f xs t k h = subst (λ (m : ℕ). T (f m (getD xs k 0))) (zero-add k) (every-from f xs 0 t k h)

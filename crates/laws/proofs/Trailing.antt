@@ -2,7 +2,7 @@
 -- Assumes nothing.
 use mathlib.Core.Path.{_≡_, refl, sym, ap, _∙_, subst}
 use mathlib.Core.Logic.{_⊎_, inl, inr, ⊎-elim}
-use Prim.Native.Nat.{ℕ, zero, suc, _+_, _*_, _/_, _%_, _^_, _≤_, _<_, zero-le, suc-le-suc}
+use Prim.Native.Nat.{ℕ, zero, suc, _*_, _/_, _%_, _^_, _<_, zero-le, suc-le-suc}
 use native.Mathlib.Nat.{not-suc-le-zero, le-of-suc-le-suc, div-div-eq-div-mul, pow-succ', div-one, eq-zero-or-pos, pow-suc}
 use native.Mathlib.Omega.{arith}
 use lib.Count.{trailingZeros, under}
@@ -54,18 +54,4 @@ trailing-set (suc k) n h =
     (λ (e : n % 2 ≡ 0). subst (λ (x : ℕ). n / 2 ^ x % 2 ≡ 1) (sym (under-zero (n % 2) t e))
     (shift-down n t ∙ trailing-set k (n / 2) (le-of-suc-le-suc (subst (λ (x : ℕ). x < suc k) (under-zero (n % 2) t e) h))))
     (λ (e : n % 2 ≡ 1). subst (λ (x : ℕ). n / 2 ^ x % 2 ≡ 1) (sym (under-one (n % 2) t e)) (ap (λ (x : ℕ). x % 2) (div-one n) ∙ e))
-    (digit-is n)
-
--- and those below it are not
-pub trailing-low : (k n j : ℕ) → j < trailingZeros k n → n / 2 ^ j % 2 ≡ 0
-unfolding trailingZeros
-trailing-low zero n j h = absurd (not-suc-le-zero h)
-trailing-low (suc k) n zero h =
-    ⊎-elim (λ (e : n % 2 ≡ 0). ap (λ (x : ℕ). x % 2) (div-one n) ∙ e)
-    (λ (e : n % 2 ≡ 1). absurd (not-suc-le-zero (subst (λ (x : ℕ). 0 < x) (under-one (n % 2) (trailingZeros k (n / 2)) e) h)))
-    (digit-is n)
-trailing-low (suc k) n (suc j) h =
-    ⊎-elim
-    (λ (e : n % 2 ≡ 0). shift-down n j ∙ trailing-low k (n / 2) j (le-of-suc-le-suc (subst (λ (x : ℕ). suc j < x) (under-zero (n % 2) (trailingZeros k (n / 2)) e) h)))
-    (λ (e : n % 2 ≡ 1). absurd (not-suc-le-zero (subst (λ (x : ℕ). suc j < x) (under-one (n % 2) (trailingZeros k (n / 2)) e) h)))
     (digit-is n)

@@ -113,33 +113,3 @@ unfolding below
 below-skip g m zero e = rw (add-zero m)
 below-skip g m (suc k) e =
     rw (add-suc m k, e k (omega arith), append-nil (below g (m + k))) (below-skip g m k (λ j h. e j (omega arith)))
-
--- the lists of n places from c on, of which those with a bit 0 are empty
-module _ {A : Type 0} (g : ℕ → List A) (f : ℕ → ℕ) (n c : ℕ) (none : (x : ℕ) → x < n → f x ≡ 0 → g (c + x) ≡ [])
-    {i w : ℕ} (l : Left f n i w) where
-  at : (j : ℕ) → c + (i + j) ≡ c + i + j
-  at j = omega arith
-
-  -- up to the lowest set bit
-  pub visit-to : (w ≡ 0 → ⊥) → below g (c + (i + trailingZeros 64 w)) ≡ below g (c + i)
-  visit-to ne =
-      ap (below g) (at (trailingZeros 64 w))
-      ∙ below-skip g (c + i) (trailingZeros 64 w)
-      (λ j h. subst (λ (x : ℕ). g x ≡ []) (at j) (none (i + j) (omega (arith, left-in l ne)) (left-skip l ne j h)))
-
-  -- and past it
-  pub visit-next : (w ≡ 0 → ⊥) → below g (c + (i + trailingZeros 64 w + 1)) ≡ below g (c + i) ++ g (c + (i + trailingZeros 64 w))
-  visit-next ne =
-      ap (below g) up ∙ below-one g (c + (i + trailingZeros 64 w)) ∙ ap (λ (b : List A). b ++ g (c + (i + trailingZeros 64 w))) (visit-to ne)
-    where
-      up : c + (i + trailingZeros 64 w + 1) ≡ c + (i + trailingZeros 64 w) + 1
-      up = omega arith
-
-  -- to the end
-  pub visit-end : w ≡ 0 → below g (c + n) ≡ below g (c + i)
-  visit-end e =
-      ap (below g) along
-      ∙ below-skip g (c + i) (n - i) (λ j h. subst (λ (x : ℕ). g x ≡ []) (at j) (none (i + j) (omega (arith, l .in-n)) (left-end l e j h)))
-    where
-      along : c + n ≡ c + i + (n - i)
-      along = omega (arith, l .in-n)

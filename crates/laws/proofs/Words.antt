@@ -12,7 +12,7 @@ use lib.Pow.{mod-pow-add}
 use Rattle.laws.specs.Bits.{bit, differ, holds}
 use Rattle.laws.specs.Pack.{pack, total}
 use Rattle.laws.proofs.Bits.{bit-le}
-use Rattle.laws.proofs.Pack.{pack-lt, pack-cong, pack-more, pack-high, pack-low, pack-or, pack-and, pack-xor, pack-ones, or-bit, and-bit, xor-bit, or-none, xor-none}
+use Rattle.laws.proofs.Pack.{pack-lt, pack-cong, pack-high, pack-low, pack-and, pack-xor, pack-ones, and-bit, xor-bit, or-none, xor-none}
 
 -- the n bits of a are those of f
 pub record Word (a : ℕ) (f : ℕ → ℕ) (n : ℕ) : Type 0 where
@@ -20,12 +20,6 @@ pub record Word (a : ℕ) (f : ℕ → ℕ) (n : ℕ) : Type 0 where
   pub bit : (i : ℕ) → f i ≤ 1
 
 -- ---- the word of an operation
-
-pub word-or : {a b n : ℕ} {f g : ℕ → ℕ} → Word a f n → Word b g n → Word (bitOr a b) (λ i. bitOr (f i) (g i)) n
-word-or {a} {b} {n} {f} {g} x y = record {
-  is = ap₂ bitOr (x .is) (y .is) ∙ pack-or f g (x .bit) (y .bit) n;
-  bit = λ i. or-bit (f i) (g i) (x .bit i) (y .bit i);
-}
 
 pub word-and : {a b n : ℕ} {f g : ℕ → ℕ} → Word a f n → Word b g n → Word (bitAnd a b) (λ i. bitAnd (f i) (g i)) n
 word-and {a} {b} {n} {f} {g} x y = record {
@@ -74,16 +68,6 @@ word-further {lo} {hi} {f} {g} x y e = record {
   where
     one : g 0 * 2 ^ 0 + 0 ≡ g 0
     one = omega arith
-
--- without the zeros on top
-pub word-short : {a n : ℕ} {f : ℕ → ℕ} (m : ℕ) → Word a f n → m ≤ n → ((i : ℕ) → m ≤ i → i < n → f i ≡ 0) → Word a f m
-word-short {a} {n} {f} m x h e = record {
-  is = x .is ∙ ap (pack f) all ∙ pack-more f m (n - m) (λ i p q. e i p (omega arith));
-  bit = x .bit;
-}
-  where
-    all : n ≡ m + (n - m)
-    all = omega arith
 
 -- the count of its ones
 pub word-ones : {a n : ℕ} {f : ℕ → ℕ} → Word a f n → ones a ≡ total f n

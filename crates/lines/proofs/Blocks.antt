@@ -53,10 +53,6 @@ pub block-small : (nx ny nz : ℕ) → AtMostEight nx ny nz → nx * (ny * nz) �
 block-small nx ny nz h = mul-le-mul (h .x) (h .rows)
 
 module _ (bytes : List ℕ) (n : Size) where
-  pub samples-length : length (samplesRead bytes n) ≡ sampleCount n
-  unfolding samplesRead
-  samples-length = each-length (sampleRead bytes (n .nx)) (sampleCount n)
-
   pub samples-grey : SixteenBit (samplesRead bytes n)
   unfolding samplesRead
   samples-grey i = go (lt-or-ge i (sampleCount n))

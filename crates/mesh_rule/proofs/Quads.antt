@@ -1,7 +1,7 @@
 -- "Each crossed inner edge gives one quad": the quads are those of the crossed inner edges and no others, as many as there are such edges,
 -- and each of their four numbers is that of the one vertex of its cube whose mask holds the edge.
 -- Assumes nothing.
-use Prim.Native.Nat.{ℕ, _+_, _/_, _%_, _<_}
+use Prim.Native.Nat.{ℕ, _+_, _<_}
 use mathlib.Core.Path.{_≡_, refl}
 use mathlib.Core.Logic.{⊎-elim}
 use mathlib.Core.Bool.{Bool, true, false, cond, _&&_}
@@ -18,7 +18,7 @@ use Rattle.block.specs.declared.Size.{Size}
 use Rattle.block.specs.Numbering.{Axis, X, Y, Z, sampleIndex, sampleCount, cubeNumber}
 use Rattle.cube_rule.specs.Laws.{CubeLaws}
 use Rattle.cube_rule.specs.Links.{Decider}
-use Rattle.mesh_rule.specs.Grid.{innerFrom, crossedInner, metal, inner, crossedFrom}
+use Rattle.mesh_rule.specs.Grid.{crossedInner, metal, inner, crossedFrom}
 use Rattle.mesh_rule.specs.Mesh.{Quad, turned, flat, vertices, vertexAt, around, quadAt, quadsBefore, quads}
 use Rattle.mesh_rule.proofs.Inner.{both, inner-facts, inner-sample, Round, map-round, crossed-round}
 use Rattle.mesh_rule.proofs.Numbers.{Holder, vertex-at}

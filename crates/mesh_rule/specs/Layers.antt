@@ -36,12 +36,9 @@ module _ (loopsOf : Cut → List ℕ → List ℕ) (n : Size) (s : List ℕ) (cu
   abbrev pub runOffsets : ℕ → ℕ → List Float
   runOffsets c m = below (λ (x : ℕ). cubeOffsets loopsOf n s cut (c + x)) m
 
-  -- of the layer k: its words, its offsets, how many vertices it has, and the number of its first vertex
+  -- of the layer k: its words, how many vertices it has, and the number of its first vertex
   abbrev pub layerWords : ℕ → List ℕ
   layerWords k = runWords (layerSize n * k) (layerSize n)
-
-  abbrev pub layerOffsets : ℕ → List Float
-  layerOffsets k = runOffsets (layerSize n * k) (layerSize n)
 
   abbrev pub layerCount : ℕ → ℕ
   layerCount k = length (runMasks (layerSize n * k) (layerSize n))

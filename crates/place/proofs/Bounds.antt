@@ -22,7 +22,7 @@ use Rattle.block.specs.Grey.{positive, isCeiling, noThreshold, SixteenBit}
 use Rattle.cube_rule.specs.Edges.{lower, upper, axisOf, cornerOn, cornerSample}
 use Rattle.place.specs.declared.Crossing.the-variants.{At}
 use Rattle.place.specs.Crossing.{gap, float, fraction, apartInSign, EdgeAnswered}
-use Rattle.place.specs.Place.{plusZero, one, local, fractionAt, sumOn, meanOn, placeOf, Placeable}
+use Rattle.place.specs.Place.{plusZero, one, local, fractionAt, sumOn, meanOn, placeOf}
 use Rattle.place.specs.Unit.{InUnit, Inside, CrossedSet}
 use Rattle.place.proofs.Answers.{cutAt, refusedBy, edge-answers}
 use Rattle.place.proofs.Counts.{countBelow, count-le, count-small}
@@ -124,10 +124,6 @@ module _ (a m : ℕ) (cut : Cut) (corners : List ℕ) (grey : SixteenBit corners
   mean-within =
       div-within binary64 (sumOn a m cut corners 12) (ones m) (ones-pos 12 m (set .small) (set .some)) (le-trans (ones-le 12 m (set .small)) (lit≤ tt))
       (wider (sumOn a m cut corners 12) (count-le m 12) (sum-within 12 (le-refl 12)))
-
--- what `place` requires, of a mask that is not empty
-pub placeable-crossed : (cut : Cut) (corners : List ℕ) (m : ℕ) → Placeable cut corners m → 0 < m → CrossedSet cut corners m
-placeable-crossed cut corners m ready some = record { some = some; small = ready .small; crossed = ready .crossed }
 
 -- every coordinate of the place of a set of crossed edges that is not empty, for 16-bit samples and every threshold
 pub place-in-unit : (cut : Cut) (corners : List ℕ) (m : ℕ) → SixteenBit corners → CrossedSet cut corners m → Inside (placeOf cut corners m)

@@ -3,9 +3,8 @@
 use mathlib.Core.Path.{_≡_, refl, ap}
 use mathlib.Core.Bool.{Bool, true, false, not}
 use mathlib.Core.List.{List, [], _∷_}
-use Prim.Native.Nat.{ℕ, _+_, _-_, _≤_, _<_}
+use Prim.Native.Nat.{ℕ, _+_, _-_}
 use native.Mathlib.Nat.{sub-zero}
-use native.Mathlib.Omega.{arith}
 use lib.ListN.{length}
 use Rattle.block.specs.declared.Cut.{Cut}
 use Rattle.block.specs.declared.Size.{Size}
@@ -38,16 +37,6 @@ module _ (n : Size) (s : List ℕ) (cut : Cut) where
   crossed-ring AxisZ x j k h c =
       let r = crossed-round n s cut Z x j k h c in
       record { q0 = r .0; q1 = r .1; q2 = r .2; q3 = r .3 }
-
-  back-le : (along : Along) (x j k : ℕ) → Inner n (alongAxis along) x j k → backOf along ≤ x
-  back-le AxisX x j k h = omega arith
-  back-le AxisY x j k h = h .0 .0
-  back-le AxisZ x j k h = h .0 .0
-
-  next-in : (along : Along) (x j k : ℕ) → Inner n (alongAxis along) x j k → x + 1 < n .nx
-  next-in AxisX x j k h = h .0
-  next-in AxisY x j k h = h .0 .1
-  next-in AxisZ x j k h = h .0 .1
 
 module _ (loopsOf : Cut → List ℕ → List ℕ) (n : Size) (s : List ℕ) (cut : Cut) where
   -- the four vertices, in this order

@@ -3,16 +3,16 @@
 use mathlib.Core.Path.{_≡_, refl, sym, ap, ap₂, _∙_}
 use mathlib.Core.Logic.{_⊎_, inl, inr}
 use mathlib.Core.Bool.{Bool, true, false, false≢true, _&&_}
-use Prim.Native.Nat.{ℕ, min, _+_, _-_, _*_, _/_, _%_, _^_, _≤_, _<_}
+use Prim.Native.Nat.{ℕ, _+_, _-_, _*_, _/_, _%_, _^_, _≤_, _<_}
 use native.Mathlib.Omega.{arith}
 use borrow.Author.Tests.{lt-ltb, le-ltb, ltb-true}
-use lib.Bits.{bitAnd, and-mask}
+use lib.Bits.{bitAnd}
 use lib.Dec.{ltb}
 use Rattle.laws.specs.Bits.{bit}
 use Rattle.laws.specs.Pack.{pack}
 use Rattle.laws.proofs.Pack.{pack-cong, pack-full, pack-more}
 use Rattle.laws.proofs.Tests.{lt-or-ge}
-use Rattle.laws.proofs.Words.{Word, word-tests, word-under, word-masked, mask-keeps, mask-clears, low-bits}
+use Rattle.laws.proofs.Words.{Word, word-tests, word-under, word-masked, mask-keeps, mask-clears}
 use Rattle.mesh_rule.specs.Grid.{between}
 use Rattle.signs.specs.Signs.{limitOf, innerOf}
 
@@ -77,9 +77,6 @@ module _ (a n w i : ℕ) (h : i < 64) where
   pub limit-clears : n ≤ 64 * w + i → bitAnd a (limitOf n w) / 2 ^ i % 2 ≡ 0
   limit-clears g = mask-clears (λ i. ltb (64 * w + i) n) 64 a i h (le-ltb (64 * w + i) n g)
 
-  pub inner-keeps : between n (64 * w + i) ≡ true → bitAnd a (innerOf n w) / 2 ^ i % 2 ≡ a / 2 ^ i % 2
-  inner-keeps e = mask-keeps (λ i. between n (64 * w + i)) 64 a i h e
-
   pub inner-clears : between n (64 * w + i) ≡ false → bitAnd a (innerOf n w) / 2 ^ i % 2 ≡ 0
   inner-clears e = mask-clears (λ i. between n (64 * w + i)) 64 a i h e
 
@@ -92,15 +89,6 @@ module _ {a : ℕ} {f : ℕ → ℕ} (p : ℕ → Bool) (x : Word a f 64) (n w :
   pub word-inner : ((i : ℕ) → i < 64 → between n (64 * w + i) ≡ true → f i ≡ bit (p i))
       → Word (bitAnd a (innerOf n w)) (λ i. bit (between n (64 * w + i) && p i)) 64
   word-inner e = word-masked (λ i. between n (64 * w + i)) p x e
-
--- a limit leaves the lowest bits
-pub limit-low : (a n w : ℕ) → bitAnd a (limitOf n w) ≡ a % 2 ^ min 64 (n - 64 * w)
-limit-low a n w =
-    ap (bitAnd a) (sym (limit-part n w (min 64 (n - 64 * w)) (omega arith) (λ i h. omega arith) (λ i h l. omega arith)))
-    ∙ and-mask a (min 64 (n - 64 * w))
-
-pub limit-word : (a n w : ℕ) → Word (bitAnd a (limitOf n w)) (λ i. a / 2 ^ i % 2) (min 64 (n - 64 * w))
-limit-word a n w = record { is = limit-low a n w ∙ sym (low-bits a (min 64 (n - 64 * w))); bit = λ i. omega arith }
 
 -- no place past the end is inner
 pub inner-past : (n x : ℕ) → n ≤ x + 1 → between n x ≡ false

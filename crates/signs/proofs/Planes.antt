@@ -78,13 +78,6 @@ module _ {n : Size} {s : List ℕ} {cut : Cut} {k : ℕ} {ws : List ℕ} (p : Pl
       seam : 64 * w + 64 ≡ 64 * (w + 1) + 0
       seam = omega arith
 
-  -- the word of the row above, five words further on
-  pub above-word : j + 1 < n .ny → w < 5 → Word (getD ws (5 * j + w + 5) 0) (λ i. rowSign n s cut (j + 1) k (64 * w + i)) 64
-  above-word ha hw = record { is = ap (λ (q : ℕ). getD ws q 0) five ∙ p .word (j + 1) w ha hw; bit = λ i. row-bit n s cut (j + 1) k (64 * w + i) }
-    where
-      five : 5 * j + w + 5 ≡ 5 * (j + 1) + w
-      five = omega arith
-
   -- bit i of a word is the sign of sample 64 w + i of the row
   pub sign-bit : (i : ℕ) → w < 5 → i < 64 → 64 * w + i < n .nx → getD ws (5 * j + w) 0 / 2 ^ i % 2 ≡ bit (metal n s cut (64 * w + i) j k)
   sign-bit i hw hi hx = word-bit (word-at hw) i hi ∙ row-in n s cut j k (64 * w + i) hx

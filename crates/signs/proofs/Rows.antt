@@ -21,7 +21,7 @@ use Rattle.laws.proofs.Tests.{lt-or-ge}
 use Rattle.block.specs.declared.Cut.{Cut}
 use Rattle.block.specs.declared.Size.{Size}
 use Rattle.mesh_rule.specs.Grid.{metal}
-use Rattle.signs.specs.Signs.{rowSign, rowWord}
+use Rattle.signs.specs.Signs.{rowSign}
 use Rattle.signs.specs.Steps.{signByte, SignBytes, BitBytes, rowFrom, fiveWords}
 
 module _ (n : Size) (s : List ℕ) (cut : Cut) (j k : ℕ) where
@@ -32,15 +32,6 @@ module _ (n : Size) (s : List ℕ) (cut : Cut) (j k : ℕ) where
   pub row-in : (x : ℕ) → x < n .nx → rowSign n s cut j k x ≡ bit (metal n s cut x j k)
   unfolding rowSign
   row-in x h = simp (lt-ltb x (n .nx) h)
-
-  pub row-out : (x : ℕ) → n .nx ≤ x → rowSign n s cut j k x ≡ 0
-  unfolding rowSign
-  row-out x h = simp (le-ltb x (n .nx) h)
-
-  -- a row of the block by the index of its first sample
-  pub row-from : (w : ℕ) → rowFrom s (cut .t) (n .nx * (j + n .ny * k)) (n .nx) w ≡ rowWord n s cut j k w
-  unfolding rowFrom rowSign
-  row-from w = refl
 
 -- no byte yet
 pub bytes-none : (row : List ℕ) (t n : ℕ) → SignBytes row t 0 (replicate n 0)

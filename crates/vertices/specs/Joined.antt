@@ -16,19 +16,19 @@ use Rattle.signs.specs.declared.Sorts.{Sorts}
 use Rattle.signs.specs.Windows.{windowCorners}
 use Rattle.vertices.specs.Cubes.{loopsAt}
 
--- ---- the faces on one side of the word's cubes: those of cube x have the samples i + x and a step further in a, and k + x and a step further in b
+-- ---- the faces on one side of the word's cubes: those of cube x have the samples i + x and a step further in `near`, and k + x and a step further in `far`
 
 -- the positive corners of the face of cube x are joined
 abbrev pub joinedAt : Cut → List ℕ → ℕ → List ℕ → ℕ → ℕ → ℕ → Bool
-joinedAt cut a i b k step x = joined cut (getD a (i + x) 0) (getD a (i + step + x) 0) (getD b (k + step + x) 0) (getD b (k + x) 0)
+joinedAt cut near i far k step x = joined cut (getD near (i + x) 0) (getD near (i + step + x) 0) (getD far (k + step + x) 0) (getD far (k + x) 0)
 
 -- bit x is set if it is in `doubtful` and they are joined
 abbrev pub joinedWord : Cut → ℕ → List ℕ → ℕ → List ℕ → ℕ → ℕ → ℕ
-joinedWord cut doubtful a i b k step = pack (λ (x : ℕ). bit (holds doubtful x && joinedAt cut a i b k step x)) 64
+joinedWord cut doubtful near i far k step = pack (λ (x : ℕ). bit (holds doubtful x && joinedAt cut near i far k step x)) 64
 
 -- the faces whose bits are set lie in the windows
 abbrev pub FacesIn : ℕ → List ℕ → ℕ → List ℕ → ℕ → ℕ → Type 0
-FacesIn doubtful a i b k step = (x : ℕ) → x < 64 → holds doubtful x ≡ true → (i + step + x < length a) × (k + step + x < length b)
+FacesIn doubtful near i far k step = (x : ℕ) → x < 64 → holds doubtful x ≡ true → (i + step + x < length near) × (k + step + x < length far)
 
 -- ---- all six sides, x=0, x=1, y=0, y=1, z=0, z=1
 

@@ -161,10 +161,18 @@ fn as_bit(b: bool) -> u64
 }
 
 // The faces on one side of a word's cubes with joined positive corners: bit x is set if it is in `doubtful` and the corners of that face of cube x,
-// two samples of a and two of b, are joined.
-fn joined_on(cut: Cut, doubtful: u64, a: &[u16], i: usize, b: &[u16], k: usize, step: usize) -> u64
-    requires { ⌜ FacesIn doubtful (now a) i (now b) k step ⌝ }
-    ensures { λ r. ⌜ r ≡ joinedWord cut doubtful (now (a .entry)) i (now (b .entry)) k step ⌝ }
+// two samples of `near` and two of `far`, are joined.
+fn joined_on(
+    cut: Cut,
+    doubtful: u64,
+    near: &[u16],
+    i: usize,
+    far: &[u16],
+    k: usize,
+    step: usize,
+) -> u64
+    requires { ⌜ FacesIn doubtful (now near) i (now far) k step ⌝ }
+    ensures { λ r. ⌜ r ≡ joinedWord cut doubtful (now (near .entry)) i (now (far .entry)) k step ⌝ }
 {
     let mut w = doubtful;
     let mut n: usize = 0;
@@ -172,7 +180,13 @@ fn joined_on(cut: Cut, doubtful: u64, a: &[u16], i: usize, b: &[u16], k: usize, 
     while w != 0 {
         let z = u64::trailing_zeros(w) as usize;
         let x = n + z;
-        let joined = cube::decide(cut, a[i + x], a[i + step + x], b[k + step + x], b[k + x]);
+        let joined = cube::decide(
+            cut,
+            near[i + x],
+            near[i + step + x],
+            far[k + step + x],
+            far[k + x],
+        );
         v |= as_bit(joined) << x;
         w = (w >> z) >> 1;
         n = x + 1;

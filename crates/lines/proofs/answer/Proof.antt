@@ -1,6 +1,6 @@
 -- `answer` meets its contract: the samples that were read are those of the block.
 -- Assumes nothing.
-use mathlib.Core.Path.{_≡_, sym, subst}
+use mathlib.Core.Path.{sym, subst}
 use native.Mathlib.Omega.{arith}
 use Prim.Native.Nat.{ℕ}
 use mathlib.Core.List.{List}
@@ -12,7 +12,7 @@ use Rattle.block.specs.Rows.{ceilingRow}
 use Rattle.lines.specs.Output.{printed, blockText}
 use Rattle.lines.specs.Steps.{Put}
 use Rattle.lines.proofs.Axes.{at-most-eight}
-use Rattle.lines.proofs.Blocks.{block-small, samples-length, samples-grey, samples-front}
+use Rattle.lines.proofs.Blocks.{block-small, samples-grey, samples-front}
 use borrow.Author.Needs.{needs}
 use Rattle.lines.proofs.answer.Statement.{statement}
 use Rattle.lines.proofs.answer.Tie as tie

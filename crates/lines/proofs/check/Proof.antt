@@ -1,9 +1,9 @@
 -- `check` meets its contract: the first of five rows that refuses decides.
 -- Assumes nothing.
-use mathlib.Core.Path.{_≡_, sym, _∙_}
+use mathlib.Core.Path.{sym, _∙_}
 use native.Mathlib.Omega.{arith}
 use Rattle.block.proofs.Order.{order-refuses, order-passes, order-last}
-use Rattle.lines.proofs.Axes.{AtMostEight, at-most-eight}
+use Rattle.lines.proofs.Axes.{at-most-eight}
 use borrow.Author.Needs.{needs}
 use Rattle.lines.proofs.check.Statement.{statement}
 use Rattle.lines.proofs.check.Tie as tie

@@ -1,12 +1,11 @@
 -- `put_hex` meets its contract: the digits above the bits that are left are put.
 -- Assumes nothing.
-use Prim.Native.Nat.{ℕ, _+_, _*_, _-_, _/_, _%_, _^_, _≤_, _<_}
-use mathlib.Core.Path.{_≡_, refl, sym, _∙_}
-use native.Mathlib.Nat.{mod-lt}
+use Prim.Native.Nat.{_+_, _*_, _-_, _≤_}
+use mathlib.Core.Path.{_≡_, refl}
 use native.Mathlib.Omega.{arith}
 use borrow.Author.Needs.{needs}
 use lib.ListN.{length}
-use Rattle.lines.proofs.Writing.{PutTo, hex-start, hex-digit, hex-end, put-length}
+use Rattle.lines.proofs.Writing.{PutTo, hex-start, hex-digit, hex-end}
 use Rattle.lines.proofs.put_hex.Statement.{statement}
 use Rattle.lines.proofs.put_hex.Tie as tie
 use Rattle.lines.proofs.put_hex.Reads as reads

@@ -1,6 +1,6 @@
 -- `run` meets its promise: a row before row 4 refuses, or the block is answered.
 -- Assumes nothing.
-use mathlib.Core.Path.{_≡_, sym, _∙_}
+use mathlib.Core.Path.{sym, _∙_}
 use Rattle.lines.proofs.Outputs.{output-refused, output-block, readable, ran}
 use borrow.Author.Needs.{needs}
 use Rattle.lines.proofs.run.Statement.{statement}

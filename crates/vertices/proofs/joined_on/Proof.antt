@@ -19,11 +19,11 @@ use Rattle.vertices.proofs.joined_on.Statement.{statement}
 use Rattle.vertices.proofs.joined_on.Tie as tie
 
 abbrev Inv-loop : tie.InvT-loop
-Inv-loop cut doubtful a i b k step w₀ n₀ v₀ w n v =
-    Left (bitsOf doubtful) 64 n w × (v ≡ pack (bitsWhere doubtful (joinedAt cut a i b k step)) n)
+Inv-loop cut doubtful near i far k step w₀ n₀ v₀ w n v =
+    Left (bitsOf doubtful) 64 n w × (v ≡ pack (bitsWhere doubtful (joinedAt cut near i far k step)) n)
 
 abbrev μ-loop : tie.MeasureT-loop
-μ-loop cut doubtful a i b k step w₀ n₀ v₀ w n v = 64 - n
+μ-loop cut doubtful near i far k step w₀ n₀ v₀ w n v = 64 - n
 
 abbrev start : tie.In-loop Inv-loop μ-loop → tie.Start Inv-loop μ-loop
 start c = c .before .before .before .before
@@ -34,7 +34,7 @@ inside c = visit-in _ (c .before .loop .inv .0) (c .loop-test .taken)
 
 -- the samples of its face are in the windows
 fit : (c : tie.In-loop Inv-loop μ-loop) → let h = c .before .loop in let s = start c .args in
-    (s .i + s .step + (h .n + trailingZeros 64 (h .w)) < length (now (s .a))) × (s .k + s .step + (h .n + trailingZeros 64 (h .w)) < length (now (s .b)))
+    (s .i + s .step + (h .n + trailingZeros 64 (h .w)) < length (now (s .near))) × (s .k + s .step + (h .n + trailingZeros 64 (h .w)) < length (now (s .far)))
 fit c = start c .pre _ (inside c) (visit-set _ (c .before .loop .inv .0) (c .loop-test .taken))
 
 abbrev loop-of : tie.After-as-bit Inv-loop μ-loop → tie.In-loop Inv-loop μ-loop
