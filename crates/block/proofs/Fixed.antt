@@ -8,7 +8,7 @@ use Rattle.laws.proofs.Fixed.{equation-fixes}
 use Rattle.block.specs.declared.Checked.{Checked}
 use Rattle.block.specs.declared.Cut.{Cut}
 use Rattle.block.specs.declared.Size.{Size}
-use Rattle.block.specs.Numbering.{sampleCount, cubeCount}
+use Rattle.block.specs.Numbering.{sampleCount}
 use Rattle.block.specs.Rows.{countRow, thresholdRow, ceilingRow}
 
 -- of `Size::nx`, `Size::ny` and `Size::nz`
@@ -21,16 +21,13 @@ ny-fixed n = equation-fixes (n .ny)
 pub nz-fixed : (n : Size) → Fixes (λ (r : ℕ). r ≡ n .nz)
 nz-fixed n = equation-fixes (n .nz)
 
--- of `Size::samples` and `Size::cubes`
+-- of `Size::samples`
 pub samples-fixed : (n : Size) → Fixes (λ (r : ℕ). (r ≡ sampleCount n) × (r ≤ 16777216))
 samples-fixed n a b p q = equation-fixes (sampleCount n) a b (p .0) (q .0)
 
-pub cubes-fixed : (n : Size) → Fixes (λ (r : ℕ). (r ≡ cubeCount n) × (r ≤ 16581375))
-cubes-fixed n a b p q = equation-fixes (cubeCount n) a b (p .0) (q .0)
-
 -- of `check_count`, `check_threshold` and `check_ceiling`
-pub check-count-fixed : (n : Size) (samples : List ℕ) → Fixes (λ (r : Checked). r ≡ countRow n samples)
-check-count-fixed n samples = equation-fixes (countRow n samples)
+pub check-count-fixed : (n : Size) (count : ℕ) → Fixes (λ (r : Checked). r ≡ countRow n count)
+check-count-fixed n count = equation-fixes (countRow n count)
 
 pub check-threshold-fixed : (cut : Cut) → Fixes (λ (r : Checked). r ≡ thresholdRow cut)
 check-threshold-fixed cut = equation-fixes (thresholdRow cut)

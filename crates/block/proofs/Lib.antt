@@ -4,4 +4,5 @@ pub mod Rows
 pub mod Sizes
 pub mod Fixed
 pub mod Order
+pub mod Accepted
 pub mod ClearRuns

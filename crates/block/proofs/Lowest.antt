@@ -1,5 +1,4 @@
 -- The lowest place at which a test holds: it holds there and nowhere before. What follows for a row of the table of refusals.
--- Assumes nothing.
 use mathlib.Core.Path.{_≡_, refl, ap, sym, _∙_, subst}
 use mathlib.Core.Bool.{Bool, true, false, cond, true≢false}
 use mathlib.Core.Logic.{_⊎_, inl, inr}
@@ -16,8 +15,8 @@ use Rattle.block.specs.declared.Checked.the-variants.{Passes, Refuses}
 use Rattle.block.specs.Answer.{refuses}
 use Rattle.block.specs.Rows.{lowest, lowestRow}
 
-module _ (bad : ℕ → Bool) where
-  pub lowest-le : (xs : List ℕ) → lowest bad xs ≤ length xs
+module _ {A : Type 0} (bad : A → Bool) where
+  pub lowest-le : (xs : List A) → lowest bad xs ≤ length xs
   unfolding lowest
   lowest-le [] = omega arith
   lowest-le (x ∷ xs) = go (bad x) (lowest-le xs)
@@ -26,52 +25,55 @@ module _ (bad : ℕ → Bool) where
       go true h = omega arith
       go false h = omega arith
 
+  -- the row holds where some element is bad
+  pub row-refuses : (number : ℕ) (xs : List A) → lowest bad xs < length xs → lowestRow number bad xs ≡ refuses number (lowest bad xs)
+  unfolding lowestRow
+  row-refuses number xs h = simp (lt-ltb (lowest bad xs) (length xs) h)
+
+  -- and passes where none is
+  pub row-passes : (number : ℕ) (xs : List A) → length xs ≤ lowest bad xs → lowestRow number bad xs ≡ Passes
+  unfolding lowestRow
+  row-passes number xs h = simp (le-ltb (lowest bad xs) (length xs) h)
+
+-- d stands for what is past the end
+module _ {A : Type 0} (bad : A → Bool) (d : A) where
   -- the test fails at each place before
-  pub lowest-before : (xs : List ℕ) (k : ℕ) → k < lowest bad xs → bad (getD xs k 0) ≡ false
+  pub lowest-before : (xs : List A) (k : ℕ) → k < lowest bad xs → bad (getD xs k d) ≡ false
   unfolding lowest
   lowest-before [] k h = absurd (not-suc-le-zero h)
   lowest-before (x ∷ xs) k h = go (bad x) refl k h (lowest-before xs)
     where
-      go : (b : Bool) → bad x ≡ b → (k : ℕ) → k < cond b 0 (suc (lowest bad xs)) → ((k : ℕ) → k < lowest bad xs → bad (getD xs k 0) ≡ false)
-          → bad (getD (x ∷ xs) k 0) ≡ false
+      go : (b : Bool) → bad x ≡ b → (k : ℕ) → k < cond b 0 (suc (lowest bad xs)) → ((k : ℕ) → k < lowest bad xs → bad (getD xs k d) ≡ false)
+          → bad (getD (x ∷ xs) k d) ≡ false
       go true e k h ih = absurd (not-suc-le-zero h)
       go false e zero h ih = e
       go false e (suc k) h ih = ih k (le-of-suc-le-suc h)
 
   -- and holds there
-  pub lowest-there : (xs : List ℕ) → lowest bad xs < length xs → bad (getD xs (lowest bad xs) 0) ≡ true
+  pub lowest-there : (xs : List A) → lowest bad xs < length xs → bad (getD xs (lowest bad xs) d) ≡ true
   unfolding lowest
   lowest-there [] h = absurd (not-suc-le-zero h)
   lowest-there (x ∷ xs) h = go (bad x) refl h (lowest-there xs)
     where
-      go : (b : Bool) → bad x ≡ b → cond b 0 (suc (lowest bad xs)) < suc (length xs) → (lowest bad xs < length xs → bad (getD xs (lowest bad xs) 0) ≡ true)
-          → bad (getD (x ∷ xs) (cond b 0 (suc (lowest bad xs))) 0) ≡ true
+      go : (b : Bool) → bad x ≡ b → cond b 0 (suc (lowest bad xs)) < suc (length xs) → (lowest bad xs < length xs → bad (getD xs (lowest bad xs) d) ≡ true)
+          → bad (getD (x ∷ xs) (cond b 0 (suc (lowest bad xs))) d) ≡ true
       go true e h ih = e
       go false e h ih = ih (le-of-suc-le-suc h)
 
   -- no other place is so
-  pub lowest-is : (xs : List ℕ) (k : ℕ) → k ≤ length xs → ((i : ℕ) → i < k → bad (getD xs i 0) ≡ false) → (k < length xs → bad (getD xs k 0) ≡ true)
+  pub lowest-is : (xs : List A) (k : ℕ) → k ≤ length xs → ((i : ℕ) → i < k → bad (getD xs i d) ≡ false) → (k < length xs → bad (getD xs k d) ≡ true)
       → k ≡ lowest bad xs
   lowest-is xs k h before there = go (lt-or-ge k (lowest bad xs)) (lt-or-ge (lowest bad xs) k)
     where
       go : (k < lowest bad xs) ⊎ (lowest bad xs ≤ k) → (lowest bad xs < k) ⊎ (k ≤ lowest bad xs) → k ≡ lowest bad xs
-      go (inl l) _ = absurd (true≢false (sym (there (omega (arith, lowest-le xs))) ∙ lowest-before xs k l))
+      go (inl l) _ = absurd (true≢false (sym (there (omega (arith, lowest-le bad xs))) ∙ lowest-before xs k l))
       go (inr g) (inl l) = absurd (true≢false (sym (lowest-there xs (omega arith)) ∙ before (lowest bad xs) l))
       go (inr g) (inr g′) = omega arith
 
-  -- the row holds where some element is bad
-  pub row-refuses : (number : ℕ) (xs : List ℕ) → lowest bad xs < length xs → lowestRow number bad xs ≡ refuses number (lowest bad xs)
-  unfolding lowestRow
-  row-refuses number xs h = simp (lt-ltb (lowest bad xs) (length xs) h)
-
-  -- and passes where none is
-  pub row-passes : (number : ℕ) (xs : List ℕ) → length xs ≤ lowest bad xs → lowestRow number bad xs ≡ Passes
-  unfolding lowestRow
-  row-passes number xs h = simp (le-ltb (lowest bad xs) (length xs) h)
-
-  pub row-clear : (number : ℕ) (xs : List ℕ) → lowestRow number bad xs ≡ Passes → (k : ℕ) → k < length xs → bad (getD xs k 0) ≡ false
+  -- a row that passes: no element is bad
+  pub row-clear : (number : ℕ) (xs : List A) → lowestRow number bad xs ≡ Passes → (k : ℕ) → k < length xs → bad (getD xs k d) ≡ false
   row-clear number xs e k h = go (lt-or-ge (lowest bad xs) (length xs))
     where
-      go : (lowest bad xs < length xs) ⊎ (length xs ≤ lowest bad xs) → bad (getD xs k 0) ≡ false
-      go (inl l) = let clash : refuses number (lowest bad xs) ≡ Passes = sym (row-refuses number xs l) ∙ e in let z : _≡_ {A = ℕ} 0 1 = cc in absurd (omega arith)
+      go : (lowest bad xs < length xs) ⊎ (length xs ≤ lowest bad xs) → bad (getD xs k d) ≡ false
+      go (inl l) = let clash : refuses number (lowest bad xs) ≡ Passes = sym (row-refuses bad number xs l) ∙ e in let z : _≡_ {A = ℕ} 0 1 = cc in absurd (omega arith)
       go (inr g) = lowest-before xs k (omega arith)

@@ -24,12 +24,12 @@ given-large n h = omega arith
 abbrev refusal : ℕ → ℕ → Checked
 refusal number value = Refuses (record { number = number; value = value })
 
-module _ (n : Size) (samples : List ℕ) where
-  pub count-passes : length samples ≡ sampleCount n → countRow n samples ≡ Passes
-  count-passes h = simp (eq-eqb (length samples) (sampleCount n) h)
+module _ (n : Size) (count : ℕ) where
+  pub count-passes : count ≡ sampleCount n → countRow n count ≡ Passes
+  count-passes h = simp (eq-eqb count (sampleCount n) h)
 
-  pub count-refuses : (length samples ≡ sampleCount n → ⊥) → sampleCount n ≤ 4294967295 → countRow n samples ≡ refusal 2 (sampleCount n)
-  count-refuses h l = rw (ne-eqb (length samples) (sampleCount n) h) (ap (refusal 2) (given-small (sampleCount n) l))
+  pub count-refuses : (count ≡ sampleCount n → ⊥) → sampleCount n ≤ 4294967295 → countRow n count ≡ refusal 2 (sampleCount n)
+  count-refuses h l = rw (ne-eqb count (sampleCount n) h) (ap (refusal 2) (given-small (sampleCount n) l))
 
 module _ (samples : List ℕ) (i : ℕ) (is : i ≡ lowest isCeiling samples) where
   pub ceiling-passes : i ≡ length samples → ceilingRow samples ≡ Passes

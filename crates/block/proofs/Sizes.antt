@@ -8,16 +8,15 @@ use native.Mathlib.Omega.{arith}
 use lib.Dec.{ltb}
 use lib.ListN.{length, getD}
 use borrow.Author.Tests.{ltb-true, ltb-false, lt-ltb, le-ltb}
-use Rattle.laws.specs.Fixed.{Fixes, Injective}
-use Rattle.laws.proofs.Fixed.{said-fixes}
+use Rattle.laws.specs.Fixed.{Fixes}
+use Rattle.laws.proofs.Fixed.{Injective, said-fixes}
 use Rattle.block.specs.declared.Refusal.{Refusal}
 use Rattle.block.specs.declared.Checked.{Checked}
 use Rattle.block.specs.declared.Checked.the-variants.{Passes, Refuses}
 use Rattle.block.specs.declared.Size.{Size}
 use Rattle.block.specs.declared.Sized.{Sized}
 use Rattle.block.specs.declared.Sized.the-variants.{Made, BadAxis}
-use Rattle.block.specs.Answer.{Answer, accepted, refused, inOrder, judged}
-use Rattle.block.specs.Numbering.{Axis, X, Y, Z, sampleIndex, upperIndex}
+use Rattle.block.specs.Answer.{Answer, accepted, refused, inOrder, decided, judged}
 use Rattle.block.specs.Rows.{shortest, longest, outOfLimits, axisRow, lowestRow, lowest}
 use Rattle.block.specs.Size.{saidSize, sizeAnswer, SizeMade, Limits}
 use Rattle.block.proofs.Lowest.{row-clear}
@@ -55,26 +54,26 @@ in-limits n l h = rw (le-ltb n shortest l) (le-ltb longest n h)
 -- what `Size::new` says, by the first axis that is out of its limits
 module _ (nx ny nz : ℕ) where
   pub first-bad : outOfLimits nx ≡ true → saidSize (BadAxis 0) ≡ sizeAnswer nx ny nz
-  unfolding lowestRow lowest inOrder judged
+  unfolding lowestRow lowest inOrder decided
   first-bad x = simp x
 
   pub second-bad : outOfLimits nx ≡ false → outOfLimits ny ≡ true → saidSize (BadAxis 1) ≡ sizeAnswer nx ny nz
-  unfolding lowestRow lowest inOrder judged
+  unfolding lowestRow lowest inOrder decided
   second-bad x y = simp (x, y)
 
   pub third-bad : outOfLimits nx ≡ false → outOfLimits ny ≡ false → outOfLimits nz ≡ true → saidSize (BadAxis 2) ≡ sizeAnswer nx ny nz
-  unfolding lowestRow lowest inOrder judged
+  unfolding lowestRow lowest inOrder decided
   third-bad x y z = simp (x, y, z)
 
   pub none-bad : outOfLimits nx ≡ false → outOfLimits ny ≡ false → outOfLimits nz ≡ false
       → saidSize (Made (record { nx = nx; ny = ny; nz = nz })) ≡ sizeAnswer nx ny nz
-  unfolding lowestRow lowest inOrder judged
+  unfolding lowestRow lowest inOrder decided
   none-bad x y z = simp (x, y, z)
 
 -- axis lengths that row 1 passes
 pub axes-within : (nx ny nz : ℕ) → axisRow nx ny nz ≡ Passes → Limits (record { nx = nx; ny = ny; nz = nz })
 axes-within nx ny nz e =
-    let clear = row-clear outOfLimits 1 (nx ∷ ny ∷ nz ∷ []) e in
+    let clear = row-clear outOfLimits 0 1 (nx ∷ ny ∷ nz ∷ []) e in
     let x = within nx (clear 0 (omega arith)) in
     let y = within ny (clear 1 (omega arith)) in
     let z = within nz (clear 2 (omega arith)) in
@@ -82,7 +81,7 @@ axes-within nx ny nz e =
 
 -- every size that `Size::new` answers is that of the three axis lengths, and within its limits
 pub size-made : (nx ny nz : ℕ) (n : Size) → SizeMade nx ny nz (Made n) → (n ≡ record { nx = nx; ny = ny; nz = nz }) × Limits n
-unfolding inOrder judged
+unfolding inOrder decided
 size-made nx ny nz n e = go (axisRow nx ny nz) refl e
   where
     size : Size
@@ -91,19 +90,3 @@ size-made nx ny nz n e = go (axisRow nx ny nz) refl e
     go : (k : Checked) → axisRow nx ny nz ≡ k → accepted n ≡ judged (inOrder (k ∷ [])) size → (n ≡ size) × Limits n
     go Passes p q = let same : n ≡ size = cc in (same, rw same (axes-within nx ny nz p))
     go (Refuses r) p q = let z : _≡_ {A = ℕ} 0 1 = cc in absurd (omega arith)
-
--- the upper sample of an edge is the next one along its axis
-pub upper-x : (n : Size) (i j k : ℕ) → upperIndex n X (sampleIndex n i j k) ≡ sampleIndex n (i + 1) j k
-upper-x n i j k = omega arith
-
-pub upper-y : (n : Size) (i j k : ℕ) → upperIndex n Y (sampleIndex n i j k) ≡ sampleIndex n i (j + 1) k
-upper-y n i j k = step (n .nx) (n .ny) i j k
-  where
-    step : (w h i j k : ℕ) → i + w * (j + h * k) + w ≡ i + w * (j + 1 + h * k)
-    step w h i j k = omega arith
-
-pub upper-z : (n : Size) (i j k : ℕ) → upperIndex n Z (sampleIndex n i j k) ≡ sampleIndex n i j (k + 1)
-upper-z n i j k = step (n .nx) (n .ny) i j k
-  where
-    step : (w h i j k : ℕ) → i + w * (j + h * k) + w * h ≡ i + w * (j + h * (k + 1))
-    step w h i j k = omega arith

@@ -1,15 +1,19 @@
 -- Grey values and the threshold (document 01, "The block and its numbering").
--- Assumes nothing.
 use Prim.Native.Nat.{ℕ, _<_}
 use mathlib.Core.Bool.{Bool, _||_}
 use mathlib.Core.List.{List}
 use lib.Dec.{leb, eqb}
 use lib.ListN.{getD}
+use Rattle.laws.specs.Bits.{differ}
 use Rattle.block.specs.declared.Cut.{Cut}
 
 -- "Samples are 16-bit"
 abbrev pub SixteenBit : List ℕ → Type 0
 SixteenBit samples = (k : ℕ) → getD samples k 0 < 65536
+
+-- the threshold t as a value that travels whole
+abbrev pub cutOf : ℕ → Cut
+cutOf t = record { t = t }
 
 -- the detector's ceiling: "no grey value"
 abbrev pub ceiling : ℕ
@@ -25,3 +29,7 @@ noThreshold cut = eqb (cut .t) 0 || eqb (cut .t) ceiling
 -- "A sample is positive (metal) if it is at least t, else negative (hollow)"
 abbrev pub positive : Cut → ℕ → Bool
 positive cut s = leb (cut .t) s
+
+-- two samples differ in sign
+abbrev pub apart : Cut → ℕ → ℕ → Bool
+apart cut p q = differ (positive cut p) (positive cut q)

@@ -1,3 +1,4 @@
+pub mod Accepted
 pub mod Answer
 pub mod Grey
 pub mod Numbering

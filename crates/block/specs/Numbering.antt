@@ -1,6 +1,5 @@
 -- The numbering of a block's samples, cubes and edges, x fastest (document 01, "The block and its numbering").
--- Assumes nothing.
-use Prim.Native.Nat.{ℕ, _+_, _-_, _*_}
+use Prim.Native.Nat.{ℕ, _-_, _*_}
 use Rattle.laws.specs.Index.{indexIn}
 use Rattle.block.specs.declared.Size.{Size}
 
@@ -21,9 +20,3 @@ cubeCount n = (n .nx - 1) * ((n .ny - 1) * (n .nz - 1))
 -- an edge of the block is named by the axis along which it runs and by its lower sample
 pub data Axis : Type 0 where
   X Y Z : Axis
-
--- the index of the upper sample of the edge along the axis whose lower sample has the index p
-abbrev pub upperIndex : Size → Axis → ℕ → ℕ
-upperIndex n X p = p + 1
-upperIndex n Y p = p + n .nx
-upperIndex n Z p = p + n .nx * n .ny

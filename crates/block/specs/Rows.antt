@@ -1,5 +1,4 @@
 -- Rows 1 to 4 of the table of refusals, each as a check of its own (document 01, "Numbers of refusal").
--- Assumes nothing.
 use Prim.Native.Nat.{ℕ, zero, suc}
 use mathlib.Core.Bool.{Bool, cond, _||_}
 use mathlib.Core.List.{List, [], _∷_}
@@ -14,12 +13,12 @@ use Rattle.block.specs.Grey.{isCeiling, noThreshold}
 use Rattle.block.specs.Numbering.{sampleCount}
 
 -- the lowest place of a list at which the test holds; its length where there is none
-unfoldable pub lowest : (ℕ → Bool) → List ℕ → ℕ
+unfoldable pub lowest : {A : Type 0} → (A → Bool) → List A → ℕ
 lowest bad [] = 0
 lowest bad (x ∷ xs) = cond (bad x) 0 (suc (lowest bad xs))
 
 -- a row that holds where the test holds of some element, with the lowest such place as its value
-unfoldable pub lowestRow : ℕ → (ℕ → Bool) → List ℕ → Checked
+unfoldable pub lowestRow : {A : Type 0} → ℕ → (A → Bool) → List A → Checked
 unfolding lowest
 lowestRow number bad xs = cond (ltb (lowest bad xs) (length xs)) (refuses number (lowest bad xs)) Passes
 
@@ -38,8 +37,8 @@ abbrev pub axisRow : ℕ → ℕ → ℕ → Checked
 axisRow nx ny nz = lowestRow 1 outOfLimits (nx ∷ ny ∷ nz ∷ [])
 
 -- 2: the sample count is not nx·ny·nz; nx·ny·nz
-abbrev pub countRow : Size → List ℕ → Checked
-countRow n samples = cond (eqb (length samples) (sampleCount n)) Passes (refuses 2 (sampleCount n))
+abbrev pub countRow : Size → ℕ → Checked
+countRow n count = cond (eqb count (sampleCount n)) Passes (refuses 2 (sampleCount n))
 
 -- 3: t is 0 or 65,535; t
 abbrev pub thresholdRow : Cut → Checked
@@ -48,3 +47,7 @@ thresholdRow cut = cond (noThreshold cut) (refuses 3 (cut .t)) Passes
 -- 4: some sample is 65,535; the lowest such index (of a cube's corners: the lowest corner; of an edge's ends: lower 0, upper 1)
 abbrev pub ceilingRow : List ℕ → Checked
 ceilingRow samples = lowestRow 4 isCeiling samples
+
+-- rows 3 and 4, which are tried of samples wherever there are some
+abbrev pub sampleRows : Cut → List ℕ → List Checked
+sampleRows cut samples = thresholdRow cut ∷ ceilingRow samples ∷ []

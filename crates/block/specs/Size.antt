@@ -1,5 +1,4 @@
 -- A block's size: what `Size::new` answers, in 01's numbers, and the limits that every size keeps.
--- Assumes nothing.
 use Prim.Native.Nat.{ℕ, _≤_}
 use mathlib.Core.Path.{_≡_}
 use mathlib.Core.List.{List, [], _∷_}

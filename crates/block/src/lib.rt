@@ -6,7 +6,7 @@ ghost use lib.ListN.{length, getD};
 ghost use Rattle.laws.specs.Bits.{bit};
 ghost use Rattle.laws.specs.Counting.{count};
 ghost use Rattle.block.specs.Grey.{isCeiling};
-ghost use Rattle.block.specs.Numbering.{sampleCount, cubeCount};
+ghost use Rattle.block.specs.Numbering.{sampleCount};
 ghost use Rattle.block.specs.Rows.{countRow, thresholdRow, ceilingRow, lowest};
 ghost use Rattle.block.specs.Steps.{ClearBefore};
 ghost use Rattle.block.specs.Size.{Limits, SizeMade};
@@ -101,24 +101,15 @@ impl Size {
     {
         self.nx * (self.ny * self.nz)
     }
-
-    // How many cubes a block of this size has.
-    pub fn cubes(self) -> usize
-        requires { ⌜ Limits self ⌝ }
-        ensures { λ r. ⌜ r ≡ cubeCount self ⌝ }
-        ensures { λ r. ⌜ r ≤ 16581375 ⌝ }
-    {
-        (self.nx - 1) * ((self.ny - 1) * (self.nz - 1))
-    }
 }
 
 // Row 2: the sample count is not nx·ny·nz.
-pub fn check_count(size: Size, samples: &[u16]) -> Checked
+pub fn check_count(size: Size, count: usize) -> Checked
     requires { ⌜ Limits size ⌝ }
-    ensures { λ r. ⌜ r ≡ countRow size (now (samples .entry)) ⌝ }
+    ensures { λ r. ⌜ r ≡ countRow size count ⌝ }
 {
     let wanted = size.samples();
-    if samples.len() == wanted {
+    if count == wanted {
         return Checked::Passes;
     }
     Checked::Refuses(Refusal {

@@ -9,25 +9,28 @@ use native.Mathlib.Omega.{arith}
 use lib.ListN.{length, getD}
 use Rattle.laws.specs.Bits.{bit}
 use Rattle.laws.specs.Filled.{filled}
-use Rattle.laws.specs.Fixed.{Fixes, Injective}
+use Rattle.laws.specs.Fixed.{Fixes}
+use Rattle.laws.proofs.Fixed.{Injective}
 use Rattle.laws.proofs.Bits.{some-ones}
 use Rattle.block.specs.declared.Cut.{Cut}
 use Rattle.block.specs.declared.Refusal.{Refusal}
 use Rattle.block.specs.declared.Checked.{Checked}
 use Rattle.block.specs.declared.Checked.the-variants.{Passes, Refuses}
-use Rattle.block.specs.Answer.{inOrder, judged}
+use Rattle.block.specs.Answer.{inOrder, judged, decided}
 use Rattle.block.specs.Rows.{thresholdRow, ceilingRow}
+use Rattle.block.proofs.Accepted.{accepted-by}
 use Rattle.cube_rule.specs.Decider.{joined, loopsOf}
 use Rattle.cube_rule.specs.Edges.{crossedAt}
 use Rattle.cube_rule.proofs.Laws.{cube-laws}
 use Rattle.cube_rule.proofs.Unique.{holding}
 use Rattle.place.specs.declared.Offset.{Offset}
-use Rattle.place.specs.Place.{Placeable, placeOf}
+use Rattle.place.specs.Place.{placeOf}
+use Rattle.place.specs.Steps.{Placeable}
 use Rattle.place.specs.Unit.{CrossedSet}
 use Rattle.cell.specs.declared.Found.{Found}
 use Rattle.cell.specs.declared.Found.the-variants.{Loops, Refused}
 use Rattle.cell.specs.declared.CubeAnswer.{CubeAnswer}
-use Rattle.cell.specs.Answer.{wordOf, origin, cubeVerdict, saidCube, loopsIf, loopsAnswered, CubeAnswered}
+use Rattle.cell.specs.Answer.{wordOf, origin, cubeVerdict, saidCube, loopsAnswered, CubeAnswered}
 use Rattle.cell.specs.Steps.{emptyAnswer}
 use Rattle.cell.proofs.Filled.{place-mask, with-mask, places-by-mask}
 
@@ -50,25 +53,25 @@ module _ (cut : Cut) (corners : List ℕ) where
   }
 
   pub loop-placeable : cubeVerdict cut corners ≡ Passes → (m : ℕ) → List·Memᴰ m (loopsOf cut corners) → Placeable cut corners m
-  loop-placeable v m d = record { small = loop-crossed m d .small; crossed = loop-crossed m d .crossed; passes = v }
+  loop-placeable v m d = record { small = loop-crossed m d .small; crossed = loop-crossed m d .crossed; accepted = accepted-by cut corners [] v }
 
   -- ---- the answer of an accepted cube, and of a refused one
 
   pub accepted-found : cubeVerdict cut corners ≡ Passes → (n : ℕ) → n ≡ length (loopsOf cut corners)
       → saidCube (Loops n) ≡ judged (cubeVerdict cut corners) (length (loopsOf cut corners))
-  unfolding judged
+  unfolding decided
   accepted-found v n e = rw (v, e)
 
   pub accepted-loops : cubeVerdict cut corners ≡ Passes → loopsAnswered cut corners ≡ loopsOf cut corners
-  unfolding loopsIf
+  unfolding decided
   accepted-loops v = rw v
 
   pub refused-loops : (r : Refusal) → cubeVerdict cut corners ≡ Refuses r → loopsAnswered cut corners ≡ []
-  unfolding loopsIf
+  unfolding decided
   refused-loops r v = rw v
 
   pub refused-found : (r : Refusal) → cubeVerdict cut corners ≡ Refuses r → saidCube (Refused r) ≡ judged (cubeVerdict cut corners) (length (loopsOf cut corners))
-  unfolding judged
+  unfolding decided
   refused-found r v = rw v
 
 -- an accepted cube's verdict: neither row refuses
@@ -93,15 +96,15 @@ abbrev pub made : Found → List ℕ → List Offset → CubeAnswer
 made f ws os = record { found = f; words = ws; offsets = os }
 
 -- any two answers that the promise of `cube` allows are equal
-pub cube-fixed : (corners : List ℕ) (t : ℕ) → Fixes (CubeAnswered corners t)
-cube-fixed corners t a b p q =
+pub cube-fixed : (corners : List ℕ) (cut : Cut) → Fixes (CubeAnswered corners cut)
+cube-fixed corners cut a b p q =
     ap (λ (f : Found). made f (a .words) (a .offsets)) (said-cube-injective (a .found) (b .found) (p .found ∙ sym (q .found)))
     ∙ ap₂ (made (b .found)) (p .words ∙ sym (q .words)) (p .offsets ∙ sym (q .offsets))
 
 -- ---- the whole answer
 
 module _ (cut : Cut) (corners : List ℕ) where
-  pub refused-answer : (r : Refusal) → cubeVerdict cut corners ≡ Refuses r → CubeAnswered corners (cut .t) (emptyAnswer r)
+  pub refused-answer : (r : Refusal) → cubeVerdict cut corners ≡ Refuses r → CubeAnswered corners cut (emptyAnswer r)
   unfolding filled
   refused-answer r v = record {
     found = refused-found cut corners r v;
@@ -122,7 +125,7 @@ module _ (cut : Cut) (corners : List ℕ) where
   placed m = with-mask (placeOf cut corners) origin m
 
   pub accepted-answer : cubeVerdict cut corners ≡ Passes → (n : ℕ) (masks : List ℕ) → n ≡ length (loopsOf cut corners) → masks ≡ filled 4 0 (loopsOf cut corners)
-      → CubeAnswered corners (cut .t) (made (Loops n) masks (placed (getD masks 0 0) ∷ placed (getD masks 1 0) ∷ placed (getD masks 2 0) ∷ placed (getD masks 3 0) ∷ []))
+      → CubeAnswered corners cut (made (Loops n) masks (placed (getD masks 0 0) ∷ placed (getD masks 1 0) ∷ placed (getD masks 2 0) ∷ placed (getD masks 3 0) ∷ []))
   accepted-answer v n masks e f = record {
     found = accepted-found cut corners v n e;
     words = rw (accepted-loops cut corners v, words-same (loopsOf cut corners)) f;

@@ -1,16 +1,14 @@
 -- What the cube question answers (document 01, "Faces, loops and places"): "how many loops there are and, in order, the mask and offset
 -- of each. Unused places of an answer hold zero, on refusal too."
--- Assumes nothing.
 use Prim.Native.Nat.{ℕ}
 use mathlib.Core.Path.{_≡_}
-use mathlib.Core.List.{List, [], _∷_, map}
+use mathlib.Core.List.{List, [], map}
 use lib.ListN.{length}
 use Rattle.laws.specs.Filled.{filled}
 use Rattle.block.specs.declared.Cut.{Cut}
 use Rattle.block.specs.declared.Checked.{Checked}
-use Rattle.block.specs.declared.Checked.the-variants.{Passes, Refuses}
-use Rattle.block.specs.Answer.{Answer, accepted, refused, inOrder, judged}
-use Rattle.block.specs.Rows.{thresholdRow, ceilingRow}
+use Rattle.block.specs.Answer.{Answer, accepted, refused, inOrder, decided, judged}
+use Rattle.block.specs.Rows.{sampleRows}
 use Rattle.cube_rule.specs.Decider.{loopsOf}
 use Rattle.place.specs.declared.Offset.{Offset}
 use Rattle.place.specs.Place.{plusZero, placeOf}
@@ -28,7 +26,7 @@ origin = record { x = plusZero; y = plusZero; z = plusZero }
 
 -- "cube and edge questions give 3 and 4"
 abbrev pub cubeVerdict : Cut → List ℕ → Checked
-cubeVerdict cut corners = inOrder (thresholdRow cut ∷ ceilingRow corners ∷ [])
+cubeVerdict cut corners = inOrder (sampleRows cut corners)
 
 -- 01's number and values of each case
 abbrev pub saidCube : Found → Answer ℕ
@@ -36,15 +34,11 @@ saidCube (Loops n) = accepted n
 saidCube (Refused r) = refused r
 
 -- the loops that are answered: none on refusal
-unfoldable pub loopsIf : Checked → List ℕ → List ℕ
-loopsIf Passes masks = masks
-loopsIf (Refuses r) masks = []
-
 abbrev pub loopsAnswered : Cut → List ℕ → List ℕ
-loopsAnswered cut corners = loopsIf (cubeVerdict cut corners) (loopsOf cut corners)
+loopsAnswered cut corners = decided (cubeVerdict cut corners) (loopsOf cut corners) (λ r. [])
 
 -- the promise of `cube`
-pub record CubeAnswered (corners : List ℕ) (t : ℕ) (r : CubeAnswer) : Type 0 where
-  pub found : saidCube (r .found) ≡ judged (cubeVerdict (record { t = t }) corners) (length (loopsOf (record { t = t }) corners))
-  pub words : r .words ≡ filled 4 0 (map (wordOf corners) (loopsAnswered (record { t = t }) corners))
-  pub offsets : r .offsets ≡ filled 4 origin (map (placeOf (record { t = t }) corners) (loopsAnswered (record { t = t }) corners))
+pub record CubeAnswered (corners : List ℕ) (cut : Cut) (r : CubeAnswer) : Type 0 where
+  pub found : saidCube (r .found) ≡ judged (cubeVerdict cut corners) (length (loopsOf cut corners))
+  pub words : r .words ≡ filled 4 0 (map (wordOf corners) (loopsAnswered cut corners))
+  pub offsets : r .offsets ≡ filled 4 origin (map (placeOf cut corners) (loopsAnswered cut corners))

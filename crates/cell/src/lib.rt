@@ -9,7 +9,8 @@ ghost use Prim.Native.Nat.{_<_};
 ghost use lib.Dec.{eqb};
 ghost use Rattle.block.specs.Grey.{SixteenBit};
 ghost use Rattle.cube.specs.Table.{maskTable};
-ghost use Rattle.place.specs.Place.{Placeable, placeOf};
+ghost use Rattle.place.specs.Place.{placeOf};
+ghost use Rattle.place.specs.Steps.{Placeable};
 ghost use Rattle.cell.specs.Answer.{CubeAnswered, cubeVerdict, origin};
 ghost use Rattle.cell.specs.Steps.{emptyAnswer};
 
@@ -27,19 +28,18 @@ pub struct CubeAnswer {
 }
 
 // The cube question. Any eight samples and any threshold may be asked.
-pub fn cube(corners: [u16; 8], t: u16) -> CubeAnswer
-    ensures { λ r. ⌜ CubeAnswered corners t r ⌝ }
+pub fn cube(corners: [u16; 8], cut: Cut) -> CubeAnswer
+    ensures { λ r. ⌜ CubeAnswered corners cut r ⌝ }
 {
     let table = cube::masks();
-    cube_by(&table, corners, t)
+    cube_by(&table, corners, cut)
 }
 
 // The same by a lent table of 256 masks: a caller that asks often makes it once.
-pub fn cube_by(table: &[u32; 256], corners: [u16; 8], t: u16) -> CubeAnswer
+pub fn cube_by(table: &[u32; 256], corners: [u16; 8], cut: Cut) -> CubeAnswer
     requires { ⌜ now table ≡ maskTable ⌝ }
-    ensures { λ r. ⌜ CubeAnswered corners t r ⌝ }
+    ensures { λ r. ⌜ CubeAnswered corners cut r ⌝ }
 {
-    let cut = Cut { t: t };
     let checked = check(corners, cut);
     if let Checked::Refuses(r) = checked {
         return refuse(r);

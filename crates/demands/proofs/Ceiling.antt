@@ -12,7 +12,7 @@ use Rattle.laws.specs.Below.{over}
 use Rattle.block.specs.declared.Refusal.{Refusal}
 use Rattle.block.specs.declared.Checked.{Checked}
 use Rattle.block.specs.declared.Checked.the-variants.{Passes, Refuses}
-use Rattle.block.specs.Answer.{Answer, inOrder, judged}
+use Rattle.block.specs.Answer.{Answer, inOrder, judged, decided}
 use Rattle.block.specs.Grey.{isCeiling, SixteenBit}
 use Rattle.block.specs.Rows.{ceilingRow, thresholdRow, axisRow}
 use Rattle.block.proofs.Lowest.{row-clear}
@@ -32,14 +32,14 @@ use Rattle.demands.specs.Ceiling.{NoCeilingPasses}
 -- ---- row 4 passes, so no sample is at the ceiling
 
 below : (s : List ℕ) → SixteenBit s → ceilingRow s ≡ Passes → BelowCeiling s
-below s grey e k h = under (getD s k 0) (grey k) (eqb-false (getD s k 0) 65535 (row-clear isCeiling 4 s e k h))
+below s grey e k h = under (getD s k 0) (grey k) (eqb-false (getD s k 0) 65535 (row-clear isCeiling 0 4 s e k h))
   where
     under : (x : ℕ) → x < 65536 → (x ≡ 65535 → ⊥) → x < 65535
     under x l d = omega arith
 
 -- an answer that is no refusal comes from checks that pass
 passed : {A : Type 0} (k : Checked) (a : A) (b : Answer A) → b ≡ judged k a → NotRefused b → k ≡ Passes
-unfolding judged
+unfolding decided
 passed Passes a b e h = refl
 passed (Refuses r) a b e h = absurd (h r e)
 
@@ -72,7 +72,7 @@ written-output bytes out r out′ m = rw (m .text) (take-at (outputOf bytes) _ r
 
 -- an output that is no refusal comes from checks that pass
 printed-text : (bytes : List ℕ) → ((x : Refusal) → outputOf bytes ≡ refusalLine x → ⊥) → inputVerdict bytes ≡ Passes
-unfolding outputOf printed
+unfolding outputOf decided
 printed-text bytes h = go (inputVerdict bytes) refl
   where
     text : List ℕ

@@ -9,7 +9,7 @@ use native.Mathlib.Omega.{arith}
 use Rattle.block.specs.declared.Refusal.{Refusal}
 use Rattle.block.specs.declared.Checked.{Checked}
 use Rattle.block.specs.declared.Checked.the-variants.{Passes, Refuses}
-use Rattle.block.specs.Answer.{Answer, accepted, refused, inOrder, judged}
+use Rattle.block.specs.Answer.{Answer, accepted, refused, inOrder, judged, decided}
 use Rattle.demands.specs.Table.{Row, NoRow, FirstRow}
 
 -- ---- one check and one row
@@ -89,12 +89,12 @@ accepted-refused {a} {r} e = let z : _≡_ {A = ℕ} 0 1 = cc in omega arith
 
 -- what was judged refuses as its checks do
 pub judged-refused : {A : Type 0} (k : Checked) (a : A) (r : Refusal) → (judged k a ≡ refused r) ↔ (k ≡ Refuses r)
-unfolding judged
+unfolding decided
 judged-refused Passes a r = (λ e. absurd (accepted-refused e), λ e. absurd (passes-refuses e))
 judged-refused (Refuses q) a r = (λ e. cc, λ e. cc)
 
 pub judged-accepted : {A : Type 0} (k : Checked) (a b : A) → (judged k a ≡ accepted b) ↔ ((k ≡ Passes) × (b ≡ a))
-unfolding judged
+unfolding decided
 judged-accepted Passes a b = (λ e. (refl, cc), λ e. ap accepted (sym (e .1)))
 judged-accepted (Refuses q) a b = (λ e. absurd (accepted-refused (sym e)), λ e. absurd (passes-refuses (sym (e .0))))
 

@@ -14,7 +14,7 @@ use Rattle.block.specs.declared.Refusal.{Refusal}
 use Rattle.block.specs.declared.Sized.{Sized}
 use Rattle.block.specs.declared.Checked.{Checked}
 use Rattle.block.specs.declared.Checked.the-variants.{Passes, Refuses}
-use Rattle.block.specs.Answer.{accepted, refused}
+use Rattle.block.specs.Answer.{accepted, refused, decided}
 use Rattle.block.specs.Rows.{axisRow, countRow, thresholdRow, ceilingRow}
 use Rattle.block.specs.Size.{saidSize, SizeMade}
 use Rattle.cube_rule.specs.Decider.{loopsOf}
@@ -81,7 +81,7 @@ module _ (nx ny nz : ℕ) (s : List ℕ) (t : ℕ) (r : Counted) (promise : Coun
 
 -- a buffer that is not written keeps its contents
 kept : {A : Type 0} (k : Checked) (x : Refusal) (xs buffer : List A) → k ≡ Refuses x → written k xs buffer ≡ buffer
-unfolding written
+unfolding decided
 kept k x xs buffer e = rw e
 
 module _ (nx ny nz : ℕ) (s : List ℕ) (t : ℕ) (w : List ℕ) (o : List Float) (q : List ℕ) (r : Counted) (w′ : List ℕ) (o′ : List Float) (q′ : List ℕ)
@@ -149,11 +149,11 @@ module _ (bytes : List ℕ) where
   output-by k e = ap (λ (j : Checked). printed j textRead) e
 
   output-refused : (x : Refusal) → FirstRow (runRows bytes) x → outputOf bytes ≡ refusalLine x
-  unfolding printed
+  unfolding decided
   output-refused x f = output-by (Refuses x) (verdict-refuses x .1 f)
 
   output-accepted : NoRow (runRows bytes) → outputOf bytes ≡ textRead
-  unfolding printed
+  unfolding decided
   output-accepted n = output-by Passes (verdict-passes .1 n)
 
   -- an input is refused by some row, or by none

@@ -12,7 +12,7 @@ use Rattle.block.specs.declared.Cut.{Cut}
 use Rattle.block.specs.declared.Size.{Size}
 use Rattle.block.specs.declared.Checked.{Checked}
 use Rattle.block.specs.declared.Checked.the-variants.{Passes, Refuses}
-use Rattle.block.specs.Answer.{accepted, judged}
+use Rattle.block.specs.Answer.{accepted, judged, decided}
 use Rattle.block.specs.Rows.{axisRow}
 use Rattle.block.specs.Size.{Limits}
 use Rattle.block.proofs.Order.{order-first}
@@ -36,12 +36,12 @@ use Rattle.demands.specs.Given.{MeshGiven}
 
 -- the checks pass, and the answer is that of an accepted block
 pub accepted-by : {A : Type 0} (k : Checked) (a b : A) → accepted b ≡ judged k a → (k ≡ Passes) × (b ≡ a)
-unfolding judged
+unfolding decided
 accepted-by Passes a b e = (refl, cc)
 accepted-by (Refuses q) a b e = let z : _≡_ {A = ℕ} 0 1 = cc in absurd (omega arith)
 
 pub written-by : {A : Type 0} (k : Checked) (xs b c : List A) → k ≡ Passes → c ≡ written k xs b → c ≡ over xs b
-unfolding written
+unfolding decided
 written-by k xs b c e d = rw e at d
 
 -- a place at the front

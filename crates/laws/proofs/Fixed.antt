@@ -1,7 +1,10 @@
 -- An equation fixes its answer.
--- Assumes nothing.
 use mathlib.Core.Path.{_≡_, sym, _∙_}
-use Rattle.laws.specs.Fixed.{Fixes, Injective}
+use Rattle.laws.specs.Fixed.{Fixes}
+
+-- no two values are told alike
+abbrev pub Injective : {A B : Type 0} → (A → B) → Type 0
+Injective {A} f = (a b : A) → f a ≡ f b → a ≡ b
 
 -- an answer that is given by an equation
 pub equation-fixes : {A : Type 0} (d : A) → Fixes (λ (a : A). a ≡ d)

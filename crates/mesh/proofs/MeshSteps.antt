@@ -3,7 +3,7 @@
 use Prim.Native.Nat.{ℕ, _*_}
 use mathlib.Core.Path.{_≡_, refl, ap, sym, _∙_}
 use mathlib.Core.Bool.{Bool, true, false, cond, _&&_}
-use mathlib.Core.List.{List, [], _∷_}
+use mathlib.Core.List.{List, [], _∷_, _++_}
 use native.Mathlib.Omega.{arith}
 use lib.Dec.{leb}
 use lib.ListN.{length}
@@ -16,16 +16,13 @@ use Rattle.block.specs.declared.Size.{Size}
 use Rattle.block.specs.declared.Refusal.{Refusal}
 use Rattle.block.specs.declared.Checked.{Checked}
 use Rattle.block.specs.declared.Checked.the-variants.{Passes, Refuses}
-use Rattle.block.specs.Answer.{inOrder, refuses}
-use Rattle.block.specs.Rows.{countRow, thresholdRow, ceilingRow}
-use Rattle.block.specs.Size.{Limits}
+use Rattle.block.specs.Answer.{inOrder, refuses, decided}
 use Rattle.block.proofs.Order.{orders-refuse, orders-pass, order-first, order-rest}
 use Rattle.mesh.specs.declared.Totals.{Totals}
 use Rattle.mesh.specs.declared.Counted.the-variants as counted
-use Rattle.mesh.specs.Answer.{countsOf, vertexRow, quadRow, vertexCount, quadCount, written, MeshedBy}
-use Rattle.mesh.specs.Steps.{Accepted}
+use Rattle.mesh.specs.Answer.{blockRows, roomRows, countsOf, vertexRow, quadRow, vertexCount, quadCount, written, MeshedBy}
 use Rattle.mesh.specs.Writes.{Roomy, BlockWritten}
-use Rattle.mesh.proofs.Verdicts.{refused-by, judged-passed, block-of, threshold-of, ceiling-of}
+use Rattle.mesh.proofs.Verdicts.{refused-by, judged-passed}
 
 -- both tests of a row that passes hold
 both : (a b : Bool) (number value : ℕ) → cond (a && b) Passes (refuses number value) ≡ Passes → (a ≡ true) × (b ≡ true)
@@ -34,33 +31,27 @@ both true false number value e = let z : _≡_ {A = ℕ} 0 1 = cc in absurd (ome
 both false b number value e = let z : _≡_ {A = ℕ} 0 1 = cc in absurd (omega arith)
 
 written-passed : {A : Type 0} (k : Checked) (xs b b′ : List A) → k ≡ Passes → b′ ≡ over xs b → b′ ≡ written k xs b
-unfolding written
+unfolding decided
 written-passed k xs b b′ e h = rw e h
 
 module _ (n : Size) (s : List ℕ) (cut : Cut) where
   abbrev early : Checked
-  early = inOrder (countRow n s ∷ thresholdRow cut ∷ ceilingRow s ∷ [])
-
-  pub accepted-of : Limits n → early ≡ Passes → Accepted n s cut
-  accepted-of l e =
-      let b = block-of n s cut l e in
-      record { limits = l; count = b .samples; threshold = threshold-of n s cut e; ceiling = ceiling-of n s cut e }
+  early = inOrder (blockRows n s cut)
 
   module _ (w : List ℕ) (o : List Float) (q : List ℕ) where
     abbrev late : Totals → Checked
-    late c = inOrder (vertexRow (c .vertices) (length w) (length o) ∷ quadRow (c .quads) (length q) ∷ [])
+    late c = inOrder (roomRows c (length w) (length o) (length q))
 
     abbrev verdict : Checked
-    verdict =
-        inOrder (countRow n s ∷ thresholdRow cut ∷ ceilingRow s ∷ vertexRow (vertexCount n s cut) (length w) (length o) ∷ quadRow (quadCount n s cut) (length q) ∷ [])
+    verdict = inOrder (blockRows n s cut ++ roomRows (countsOf n s cut) (length w) (length o) (length q))
 
     -- rows 2 to 4 refuse
     pub early-refused : (r : Refusal) → early ≡ Refuses r → MeshedBy verdict n s cut w o q (counted.Refused r) w o q
-    early-refused r e = refused-by verdict n s cut w o q r (orders-refuse (countRow n s ∷ thresholdRow cut ∷ ceilingRow s ∷ []) _ r e)
+    early-refused r e = refused-by verdict n s cut w o q r (orders-refuse (blockRows n s cut) _ r e)
 
     -- they pass, and rows 5 and 6 decide
     late-decides : early ≡ Passes → (c : Totals) → c ≡ countsOf n s cut → verdict ≡ late c
-    late-decides e c f = orders-pass (countRow n s ∷ thresholdRow cut ∷ ceilingRow s ∷ []) _ e ∙ ap late (sym f)
+    late-decides e c f = orders-pass (blockRows n s cut) _ e ∙ ap late (sym f)
 
     pub late-refused : early ≡ Passes → (c : Totals) → c ≡ countsOf n s cut → (r : Refusal) → late c ≡ Refuses r → MeshedBy verdict n s cut w o q (counted.Refused r) w o q
     late-refused e c f r h = refused-by verdict n s cut w o q r (late-decides e c f ∙ h)

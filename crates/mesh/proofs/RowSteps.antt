@@ -26,7 +26,7 @@ use Rattle.vertices.specs.Cubes.{namesBy}
 use Rattle.vertices.specs.Layers.{Ready, RowReady, RowRoom}
 use Rattle.vertices.specs.Tables.{Numbered}
 use Rattle.vertices.proofs.Notes.{numbered}
-use Rattle.vertices.proofs.CubeCorners.{Windows, windows-clear}
+use Rattle.vertices.proofs.CubeCorners.{Windows, windows-accepted}
 use Rattle.vertices.proofs.Layers.{row-bounds, row-ready, masks-are, words-are, offsets-are, numbers-are}
 use Rattle.quads.specs.declared.Along.{Along}
 use Rattle.quads.specs.declared.Along.the-variants.{AxisX, AxisY, AxisZ}
@@ -40,7 +40,7 @@ use Rattle.layers.specs.Steps.{half, hasQuads, stepBy, RowFits, QuadsReady, Row
 use Rattle.layers.proofs.Halves.{half-long}
 use Rattle.layers.proofs.Steps.{step-counts}
 use Rattle.mesh.specs.Answer.{vertexCount}
-use Rattle.mesh.specs.Steps.{Accepted, rowOf, Counting, RowMoved}
+use Rattle.mesh.specs.Steps.{Meshable, rowOf, Counting, RowMoved}
 use Rattle.mesh.specs.Writes.{TablesReady, Underway, RowMore}
 use Rattle.mesh.proofs.Planes.{Outer, outer-inner, end-first}
 use Rattle.mesh.proofs.Rows.{row-empty, quads-room, vertices-room}
@@ -139,7 +139,7 @@ module _ {n : Size} {s : List ℕ} {cut : Cut} {table a b : List ℕ} {k : ℕ} 
 -- ---- a row that is written
 
 module _ {n : Size} {s : List ℕ} {cut : Cut} {table a b : List ℕ} {j k : ℕ} {m : Marks} {under tab w : List ℕ} {o : List Float} {q : List ℕ}
-    (r : Ready n s cut table a b k) (ok : Accepted n s cut) (t : TablesReady loopsOf n s cut j k under tab) (u : Underway loopsOf n s cut j k m w o q) where
+    (r : Ready n s cut table a b k) (ok : Meshable n s cut) (t : TablesReady loopsOf n s cut j k under tab) (u : Underway loopsOf n s cut j k m w o q) where
   abbrev first : ℕ
   first = rowCube (n .nx) (n .ny) j k
 
@@ -153,12 +153,11 @@ module _ {n : Size} {s : List ℕ} {cut : Cut} {table a b : List ℕ} {j k : ℕ
   vertex-room : {lo hi : List ℕ} → Windows n s j k lo hi → RowRoom loopsOf lo hi cut (n .nx) first (m .v) w o (half j tab)
   vertex-room {lo} {hi} p =
       let count = ap length (masks-are loopsOf p cut (t .row)) in
-      let clear = windows-clear n s j k lo hi p (ok .ceiling) (ok .count) (t .row) (r .inside) in
+      let clear = windows-accepted n s j k lo hi p (ok .accepted) (ok .count) (t .row) (r .inside) in
       record {
         small = omega (arith, row-bounds n (n .nx) (n .ny) j k (ok .limits) refl refl (t .row) (r .inside));
-        threshold = ok .threshold;
-        clear-low = clear .0;
-        clear-high = clear .1;
+        low = clear .0;
+        high = clear .1;
         words-room = omega (arith, count, few, u .room .words, words-kept (u .writing));
         offsets-room = omega (arith, count, few, u .room .offsets, offsets-kept (u .writing));
         numbers-room = half-long j tab (t .tab-long);

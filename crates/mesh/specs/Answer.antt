@@ -1,9 +1,9 @@
 -- What counting and meshing a block answer, and what the lent buffers hold afterwards (document 01, "The mesh" and "Numbers of refusal").
--- One verdict decides for the answer and for every buffer. Assumes nothing.
+-- One verdict decides for the answer and for every buffer.
 use Prim.Native.Nat.{ℕ, _*_}
 use mathlib.Core.Path.{_≡_}
 use mathlib.Core.Bool.{cond, _&&_}
-use mathlib.Core.List.{List, [], _∷_}
+use mathlib.Core.List.{List, [], _∷_, _++_}
 use lib.Dec.{leb}
 use lib.ListN.{length}
 use lib.Ieee.{Float}
@@ -11,9 +11,9 @@ use Rattle.laws.specs.Below.{over}
 use Rattle.block.specs.declared.Cut.{Cut}
 use Rattle.block.specs.declared.Size.{Size}
 use Rattle.block.specs.declared.Checked.{Checked}
-use Rattle.block.specs.declared.Checked.the-variants.{Passes, Refuses}
-use Rattle.block.specs.Answer.{Answer, accepted, refused, refuses, inOrder, judged}
-use Rattle.block.specs.Rows.{axisRow, countRow, thresholdRow, ceilingRow}
+use Rattle.block.specs.declared.Checked.the-variants.{Passes}
+use Rattle.block.specs.Answer.{Answer, accepted, refused, refuses, inOrder, decided, judged}
+use Rattle.block.specs.Rows.{axisRow, countRow, sampleRows}
 use Rattle.cube_rule.specs.Decider.{loopsOf}
 use Rattle.mesh_rule.specs.Mesh.{vertices, quads}
 use Rattle.mesh_rule.specs.Buffers.{meshWords, meshOffsets, meshQuads}
@@ -40,14 +40,16 @@ saidCounts (counted.Refused r) = refused r
 abbrev pub sizeOf : ℕ → ℕ → ℕ → Size
 sizeOf nx ny nz = record { nx = nx; ny = ny; nz = nz }
 
--- "Counting a mesh gives 1 to 4 only"
+-- "Counting a mesh gives 1 to 4 only": row 1, and the rows of a block whose size is made
+abbrev pub blockRows : Size → List ℕ → Cut → List Checked
+blockRows n s cut = countRow n (length s) ∷ sampleRows cut s
+
 abbrev pub countsVerdict : ℕ → ℕ → ℕ → List ℕ → Cut → Checked
-countsVerdict nx ny nz s cut = inOrder (axisRow nx ny nz ∷ countRow (sizeOf nx ny nz) s ∷ thresholdRow cut ∷ ceilingRow s ∷ [])
+countsVerdict nx ny nz s cut = inOrder (axisRow nx ny nz ∷ blockRows (sizeOf nx ny nz) s cut)
 
 -- the promise of `counts`
-abbrev pub CountsAnswered : ℕ → ℕ → ℕ → List ℕ → ℕ → Counted → Type 0
-CountsAnswered nx ny nz s t r =
-    saidCounts r ≡ judged (countsVerdict nx ny nz s (record { t = t })) (countsOf (sizeOf nx ny nz) s (record { t = t }))
+abbrev pub CountsAnswered : ℕ → ℕ → ℕ → List ℕ → Cut → Counted → Type 0
+CountsAnswered nx ny nz s cut r = saidCounts r ≡ judged (countsVerdict nx ny nz s cut) (countsOf (sizeOf nx ny nz) s cut)
 
 -- 5: either vertex buffer is short; vertices needed
 abbrev pub vertexRow : ℕ → ℕ → ℕ → Checked
@@ -57,16 +59,17 @@ vertexRow v words offsets = cond (leb (2 * v) words && leb (3 * v) offsets) Pass
 abbrev pub quadRow : ℕ → ℕ → Checked
 quadRow q room = cond (leb (4 * q) room) Passes (refuses 6 q)
 
--- a block, and the lengths of the three buffers
+-- both, by the counts and the lengths of the three buffers
+abbrev pub roomRows : Totals → ℕ → ℕ → ℕ → List Checked
+roomRows c words offsets room = vertexRow (c .vertices) words offsets ∷ quadRow (c .quads) room ∷ []
+
 abbrev pub meshVerdict : ℕ → ℕ → ℕ → List ℕ → Cut → ℕ → ℕ → ℕ → Checked
 meshVerdict nx ny nz s cut words offsets room =
-    inOrder (axisRow nx ny nz ∷ countRow (sizeOf nx ny nz) s ∷ thresholdRow cut ∷ ceilingRow s
-    ∷ vertexRow (vertexCount (sizeOf nx ny nz) s cut) words offsets ∷ quadRow (quadCount (sizeOf nx ny nz) s cut) room ∷ [])
+    inOrder (axisRow nx ny nz ∷ blockRows (sizeOf nx ny nz) s cut ++ roomRows (countsOf (sizeOf nx ny nz) s cut) words offsets room)
 
 -- a buffer afterwards: the mesh over its front, with the rest kept, or all as it was
-unfoldable pub written : {A : Type 0} → Checked → List A → List A → List A
-written Passes xs buffer = over xs buffer
-written (Refuses r) xs buffer = buffer
+abbrev pub written : {A : Type 0} → Checked → List A → List A → List A
+written k xs buffer = decided k (over xs buffer) (λ r. buffer)
 
 -- the answer, and the three buffers w, o, q at entry and w′, o′, q′ at exit, where the checks say k
 pub record MeshedBy (k : Checked) (n : Size) (s : List ℕ) (cut : Cut) (w : List ℕ) (o : List Float) (q : List ℕ) (r : Counted) (w′ : List ℕ) (o′ : List Float) (q′ : List ℕ) : Type 0 where
@@ -76,6 +79,6 @@ pub record MeshedBy (k : Checked) (n : Size) (s : List ℕ) (cut : Cut) (w : Lis
   pub quads : q′ ≡ written k (meshQuads loopsOf n s cut) q
 
 -- the promise of `mesh`
-abbrev pub Meshed : ℕ → ℕ → ℕ → List ℕ → ℕ → List ℕ → List Float → List ℕ → Counted → List ℕ → List Float → List ℕ → Type 0
-Meshed nx ny nz s t w o q r w′ o′ q′ =
-    MeshedBy (meshVerdict nx ny nz s (record { t = t }) (length w) (length o) (length q)) (sizeOf nx ny nz) s (record { t = t }) w o q r w′ o′ q′
+abbrev pub Meshed : ℕ → ℕ → ℕ → List ℕ → Cut → List ℕ → List Float → List ℕ → Counted → List ℕ → List Float → List ℕ → Type 0
+Meshed nx ny nz s cut w o q r w′ o′ q′ =
+    MeshedBy (meshVerdict nx ny nz s cut (length w) (length o) (length q)) (sizeOf nx ny nz) s cut w o q r w′ o′ q′

@@ -7,17 +7,16 @@ use block::Sized;
 use layers::Marks;
 use vertices::Row;
 ghost use mathlib.Core.Path.{_≡_};
-ghost use mathlib.Core.List.{[], _∷_};
+ghost use mathlib.Core.List.{_++_};
 ghost use Prim.Native.Nat.{_+_, _-_, _/_, _<_, _≤_};
 ghost use Rattle.cube_rule.specs.Decider.{loopsOf};
 ghost use Rattle.block.specs.Answer.{inOrder, judged};
-ghost use Rattle.block.specs.Rows.{countRow, thresholdRow, ceilingRow};
 ghost use Rattle.block.specs.Size.{Limits};
 ghost use Rattle.vertices.specs.Layers.{Ready};
 ghost use lib.ListN.{length};
-ghost use Rattle.mesh.specs.Answer.{vertexCount, quadCount, vertexRow, quadRow, countsOf, saidCounts, CountsAnswered, MeshedBy, Meshed};
+ghost use Rattle.mesh.specs.Answer.{blockRows, roomRows, countsOf, saidCounts, CountsAnswered, MeshedBy, Meshed};
 ghost use Rattle.mesh_rule.specs.Layers.{layerFirst};
-ghost use Rattle.mesh.specs.Steps.{Block, Accepted, rowOf, Counting, Tallied};
+ghost use Rattle.mesh.specs.Steps.{Block, Meshable, rowOf, Counting, Tallied};
 ghost use Rattle.mesh.specs.Writes.{Roomy, BelowReady, BelowNoted, TablesReady, Underway, RowMore, LayerMore, BlockWritten};
 
 // How many vertices and quads a mesh has.
@@ -35,9 +34,9 @@ pub enum Counted {
 // Rows 2, 3 and 4, in this order.
 fn check(size: Size, samples: &[u16], cut: Cut) -> Checked
     requires { ⌜ Limits size ⌝ }
-    ensures { λ r. ⌜ r ≡ inOrder (countRow size (now (samples .entry)) ∷ thresholdRow cut ∷ ceilingRow (now (samples .entry)) ∷ []) ⌝ }
+    ensures { λ r. ⌜ r ≡ inOrder (blockRows size (now (samples .entry)) cut) ⌝ }
 {
-    let count = block::check_count(size, samples);
+    let count = block::check_count(size, samples.len());
     if let Checked::Refuses(r) = count {
         return Checked::Refuses(r);
     }
@@ -51,7 +50,7 @@ fn check(size: Size, samples: &[u16], cut: Cut) -> Checked
 // Rows 5 and 6, in this order: the need, and the lengths of the three buffers.
 fn room(vertices: u32, quads: u32, words: usize, offsets: usize, lent: usize) -> Checked
     requires { ⌜ (vertices ≤ 66325500) × (quads ≤ 49354740) ⌝ }
-    ensures { λ r. ⌜ r ≡ inOrder (vertexRow vertices words offsets ∷ quadRow quads lent ∷ []) ⌝ }
+    ensures { λ r. ⌜ r ≡ inOrder (roomRows (record { vertices = vertices; quads = quads }) words offsets lent) ⌝ }
 {
     let v = vertices as usize;
     if words < 2 * v {
@@ -170,7 +169,7 @@ fn tally_block(size: Size, samples: &[u16], cut: Cut) -> Marks
 // The counts of a block whose size is made.
 fn counts_of(size: Size, samples: &[u16], cut: Cut) -> Counted
     requires { ⌜ Limits size ⌝ }
-    ensures { λ r. ⌜ saidCounts r ≡ judged (inOrder (countRow size (now (samples .entry)) ∷ thresholdRow cut ∷ ceilingRow (now (samples .entry)) ∷ [])) (countsOf size (now (samples .entry)) cut) ⌝ }
+    ensures { λ r. ⌜ saidCounts r ≡ judged (inOrder (blockRows size (now (samples .entry)) cut)) (countsOf size (now (samples .entry)) cut) ⌝ }
 {
     let checked = check(size, samples, cut);
     if let Checked::Refuses(r) = checked {
@@ -181,8 +180,8 @@ fn counts_of(size: Size, samples: &[u16], cut: Cut) -> Counted
 }
 
 // How many vertices and quads the mesh of a block has. Any axis lengths, samples and threshold may be asked.
-pub fn counts(nx: u32, ny: u32, nz: u32, samples: &[u16], t: u16) -> Counted
-    ensures { λ r. ⌜ CountsAnswered nx ny nz (now (samples .entry)) t r ⌝ }
+pub fn counts(nx: u32, ny: u32, nz: u32, samples: &[u16], cut: Cut) -> Counted
+    ensures { λ r. ⌜ CountsAnswered nx ny nz (now (samples .entry)) cut r ⌝ }
 {
     let made = Size::new(nx, ny, nz);
     match made {
@@ -190,7 +189,7 @@ pub fn counts(nx: u32, ny: u32, nz: u32, samples: &[u16], t: u16) -> Counted
             number: 1,
             value: axis,
         }),
-        Sized::Made(size) => counts_of(size, samples, Cut { t: t }),
+        Sized::Made(size) => counts_of(size, samples, cut),
     }
 }
 
@@ -246,7 +245,7 @@ fn step_row(
     under: &[u32],
     tab: &mut [u32],
 ) -> Marks
-    requires { ⌜ Ready size (now samples) cut (now table) (now a) (now b) k × Accepted size (now samples) cut × TablesReady loopsOf size (now samples) cut j k (now under) (now tab) × Underway loopsOf size (now samples) cut j k m (now words) (now offsets) (now quads) ⌝ }
+    requires { ⌜ Ready size (now samples) cut (now table) (now a) (now b) k × Meshable size (now samples) cut × TablesReady loopsOf size (now samples) cut j k (now under) (now tab) × Underway loopsOf size (now samples) cut j k m (now words) (now offsets) (now quads) ⌝ }
     ensures { λ r. ⌜ RowMore loopsOf size (now (samples .entry)) cut j k m r (now (words .entry)) (now (words .exit)) (now (offsets .entry)) (now (offsets .exit)) (now (quads .entry)) (now (quads .exit)) (now (tab .exit)) ⌝ }
 {
     let nx = size.nx();
@@ -285,7 +284,7 @@ fn write_layer(
     offsets: &mut [f64],
     quads: &mut [u32],
 ) -> Marks
-    requires { ⌜ Ready size (now samples) cut (now table) (now a) (now b) k × Accepted size (now samples) cut × (0 < k → below ≡ layerFirst loopsOf size (now samples) cut (k - 1)) × Underway loopsOf size (now samples) cut 0 k m (now words) (now offsets) (now quads) ⌝ }
+    requires { ⌜ Ready size (now samples) cut (now table) (now a) (now b) k × Meshable size (now samples) cut × (0 < k → below ≡ layerFirst loopsOf size (now samples) cut (k - 1)) × Underway loopsOf size (now samples) cut 0 k m (now words) (now offsets) (now quads) ⌝ }
     ensures { λ r. ⌜ LayerMore loopsOf size (now (samples .entry)) cut k m r (now (words .entry)) (now (words .exit)) (now (offsets .entry)) (now (offsets .exit)) (now (quads .entry)) (now (quads .exit)) ⌝ }
 {
     let first = m.v;
@@ -340,7 +339,7 @@ fn write_block(
     offsets: &mut [f64],
     quads: &mut [u32],
 )
-    requires { ⌜ Accepted size (now samples) cut × Tallied loopsOf size (now samples) cut t × Roomy loopsOf size (now samples) cut (now words) (now offsets) (now quads) ⌝ }
+    requires { ⌜ Meshable size (now samples) cut × Tallied loopsOf size (now samples) cut t × Roomy loopsOf size (now samples) cut (now words) (now offsets) (now quads) ⌝ }
     ensures { λ _. ⌜ BlockWritten loopsOf size (now (samples .entry)) cut (now (words .entry)) (now (words .exit)) (now (offsets .entry)) (now (offsets .exit)) (now (quads .entry)) (now (quads .exit)) ⌝ }
 {
     let table = cube::masks();
@@ -389,7 +388,7 @@ fn mesh_of(
     quads: &mut [u32],
 ) -> Counted
     requires { ⌜ Limits size ⌝ }
-    ensures { λ r. ⌜ MeshedBy (inOrder (countRow size (now (samples .entry)) ∷ thresholdRow cut ∷ ceilingRow (now (samples .entry)) ∷ vertexRow (vertexCount size (now (samples .entry)) cut) (length (now (words .entry))) (length (now (offsets .entry))) ∷ quadRow (quadCount size (now (samples .entry)) cut) (length (now (quads .entry))) ∷ [])) size (now (samples .entry)) cut (now (words .entry)) (now (offsets .entry)) (now (quads .entry)) r (now (words .exit)) (now (offsets .exit)) (now (quads .exit)) ⌝ }
+    ensures { λ r. ⌜ MeshedBy (inOrder (blockRows size (now (samples .entry)) cut ++ roomRows (countsOf size (now (samples .entry)) cut) (length (now (words .entry))) (length (now (offsets .entry))) (length (now (quads .entry))))) size (now (samples .entry)) cut (now (words .entry)) (now (offsets .entry)) (now (quads .entry)) r (now (words .exit)) (now (offsets .exit)) (now (quads .exit)) ⌝ }
 {
     let checked = check(size, samples, cut);
     if let Checked::Refuses(r) = checked {
@@ -418,12 +417,12 @@ pub fn mesh(
     ny: u32,
     nz: u32,
     samples: &[u16],
-    t: u16,
+    cut: Cut,
     words: &mut [u32],
     offsets: &mut [f64],
     quads: &mut [u32],
 ) -> Counted
-    ensures { λ r. ⌜ Meshed nx ny nz (now (samples .entry)) t (now (words .entry)) (now (offsets .entry)) (now (quads .entry)) r (now (words .exit)) (now (offsets .exit)) (now (quads .exit)) ⌝ }
+    ensures { λ r. ⌜ Meshed nx ny nz (now (samples .entry)) cut (now (words .entry)) (now (offsets .entry)) (now (quads .entry)) r (now (words .exit)) (now (offsets .exit)) (now (quads .exit)) ⌝ }
 {
     let made = Size::new(nx, ny, nz);
     match made {
@@ -431,6 +430,6 @@ pub fn mesh(
             number: 1,
             value: axis,
         }),
-        Sized::Made(size) => mesh_of(size, samples, Cut { t: t }, words, offsets, quads),
+        Sized::Made(size) => mesh_of(size, samples, cut, words, offsets, quads),
     }
 }

@@ -26,7 +26,7 @@ use Rattle.block.specs.declared.Size.{Size}
 use Rattle.block.specs.Answer.{inOrder}
 use Rattle.block.specs.Grey.{ceiling, isCeiling}
 use Rattle.block.specs.Numbering.{Axis, X, Y, Z, sampleIndex, sampleCount, cubeCount}
-use Rattle.block.specs.Rows.{lowest, lowestRow, axisRow, countRow, thresholdRow, ceilingRow}
+use Rattle.block.specs.Rows.{lowest, lowestRow, axisRow, countRow, ceilingRow, sampleRows}
 use Rattle.block.proofs.Lowest.{lowest-there, row-passes}
 use Rattle.cube_rule.specs.Edges.{patternOf, crossedMask}
 use Rattle.cube_rule.specs.Loops.{grow, loopFrom, loopsFrom, loopsBy}
@@ -86,12 +86,12 @@ board-clear n = row-passes isCeiling 4 (board n) (go (lt-or-ge (lowest isCeiling
     go (inl l) =
         absurd (omega (
           arith,
-          eqb-true (getD (board n) (lowest isCeiling (board n)) 0) ceiling (lowest-there isCeiling (board n) l),
+          eqb-true (getD (board n) (lowest isCeiling (board n)) 0) ceiling (lowest-there isCeiling 0 (board n) l),
           board-grey n (lowest isCeiling (board n)),
         ))
     go (inr g) = g
 
-pub board-counted : (n : Size) → countRow n (board n) ≡ Passes
+pub board-counted : (n : Size) → countRow n (length (board n)) ≡ Passes
 board-counted n = rw (eq-eqb (length (board n)) (sampleCount n) (board-length n))
 
 -- ---- a cube of the board
@@ -242,7 +242,7 @@ pub most-quads-reached : length (quads loopsOf size (board size) cut) ≡ 493547
 most-quads-reached = board-quads size
 
 -- and the block is accepted: rows 1 to 4 pass
-pub board-accepted : inOrder (axisRow 256 256 256 ∷ countRow size (board size) ∷ thresholdRow cut ∷ ceilingRow (board size) ∷ []) ≡ Passes
+pub board-accepted : inOrder (axisRow 256 256 256 ∷ countRow size (length (board size)) ∷ sampleRows cut (board size)) ≡ Passes
 unfolding inOrder lowestRow
 board-accepted = rw (board-counted size, board-clear size)
 

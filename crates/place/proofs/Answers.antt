@@ -9,23 +9,20 @@ use lib.Dec.{eqb}
 use lib.Ieee.{Float, div, ofInt}
 use borrow.Author.Tests.{eqb-true, ne-eqb}
 use Rattle.block.specs.declared.Cut.{Cut}
-use Rattle.block.specs.Answer.{Answer, accepted, refused, given, inOrder, judged}
-use Rattle.block.specs.Grey.{isCeiling, noThreshold}
+use Rattle.block.specs.Answer.{Answer, accepted, refused, given, inOrder, judged, decided}
+use Rattle.block.specs.Grey.{cutOf, apart, isCeiling, noThreshold}
 use Rattle.block.specs.Rows.{lowest, lowestRow}
 use Rattle.block.proofs.Rows.{given-small}
-use Rattle.place.specs.Crossing.{fraction, apartInSign, crossing, edgeAnswer}
+use Rattle.place.specs.Crossing.{fraction, crossing, edgeAnswer}
 use Rattle.place.specs.Place.{plusZero}
 
 -- a threshold as a value that travels whole
-abbrev pub cutAt : ℕ → Cut
-cutAt t = record { t = t }
-
 -- a refusal by number and value
 abbrev pub refusedBy : ℕ → ℕ → Answer (List Float)
 refusedBy number value = refused (record { number = number; value = value })
 
 -- a threshold that row 3 refuses is given as its value
-bad-given : (t : ℕ) → noThreshold (cutAt t) ≡ true → given t ≡ t
+bad-given : (t : ℕ) → noThreshold (cutOf t) ≡ true → given t ≡ t
 bad-given t h = given-small t (go (eqb t 0) (eqb t 65535) refl refl h)
   where
     go : (a b : Bool) → eqb t 0 ≡ a → eqb t 65535 ≡ b → (a || b) ≡ true → t ≤ 4294967295
@@ -34,65 +31,65 @@ bad-given t h = given-small t (go (eqb t 0) (eqb t 65535) refl refl h)
     go false false p q e = let z : _≡_ {A = ℕ} 0 1 = cc in absurd (omega arith)
 
 -- what row 3 refuses, and what it passes
-pub bad-zero : (t : ℕ) → t ≡ 0 → noThreshold (cutAt t) ≡ true
+pub bad-zero : (t : ℕ) → t ≡ 0 → noThreshold (cutOf t) ≡ true
 bad-zero t h = simp h
 
-pub bad-ceiling : (t : ℕ) → t ≡ 65535 → noThreshold (cutAt t) ≡ true
+pub bad-ceiling : (t : ℕ) → t ≡ 65535 → noThreshold (cutOf t) ≡ true
 bad-ceiling t h = simp h
 
-pub good-threshold : (t : ℕ) → (t ≡ 0 → ⊥) → (t ≡ 65535 → ⊥) → noThreshold (cutAt t) ≡ false
+pub good-threshold : (t : ℕ) → (t ≡ 0 → ⊥) → (t ≡ 65535 → ⊥) → noThreshold (cutOf t) ≡ false
 good-threshold t h k = simp (ne-eqb t 0 h, ne-eqb t 65535 k)
 
 -- A sample equal to t at the lower end, hollow at the upper: plus zero. A quotient of two signed differences would be minus zero.
-pub fraction-plus-zero : fraction (cutAt 100) 100 0 ≡ plusZero
+pub fraction-plus-zero : fraction (cutOf 100) 100 0 ≡ plusZero
 unfolding fraction div ofInt
 fraction-plus-zero = refl
 
 module _ (p q t : ℕ) where
   -- row 3 comes first, whatever the ends
-  pub edge-answers-threshold : noThreshold (cutAt t) ≡ true → edgeAnswer p q t ≡ refusedBy 3 t
-  unfolding edgeAnswer inOrder judged
+  pub edge-answers-threshold : noThreshold (cutOf t) ≡ true → edgeAnswer p q t ≡ refusedBy 3 t
+  unfolding edgeAnswer inOrder decided
   edge-answers-threshold h = rw h (ap (refusedBy 3) (bad-given t h))
 
-  module _ (good : noThreshold (cutAt t) ≡ false) where
+  module _ (good : noThreshold (cutOf t) ≡ false) where
     -- the lower end at the ceiling, whatever the upper
     pub edge-answers-lower : isCeiling p ≡ true → edgeAnswer p q t ≡ refusedBy 4 0
-    unfolding edgeAnswer inOrder judged lowestRow lowest
+    unfolding edgeAnswer inOrder decided lowestRow lowest
     edge-answers-lower h = simp (good, h)
 
     -- the upper end alone at the ceiling
     pub edge-answers-upper : isCeiling p ≡ false → isCeiling q ≡ true → edgeAnswer p q t ≡ refusedBy 4 1
-    unfolding edgeAnswer inOrder judged lowestRow lowest
+    unfolding edgeAnswer inOrder decided lowestRow lowest
     edge-answers-upper h k = simp (good, h, k)
 
     module _ (p-grey : isCeiling p ≡ false) (q-grey : isCeiling q ≡ false) where
       -- no row refuses
-      edge-accepts : edgeAnswer p q t ≡ accepted (crossing (cutAt t) p q)
-      unfolding edgeAnswer inOrder judged lowestRow lowest
+      edge-accepts : edgeAnswer p q t ≡ accepted (crossing (cutOf t) p q)
+      unfolding edgeAnswer inOrder decided lowestRow lowest
       edge-accepts = simp (good, p-grey, q-grey)
 
       -- the ends differ in sign
-      pub edge-answers-fraction : apartInSign (cutAt t) p q ≡ true → edgeAnswer p q t ≡ accepted (fraction (cutAt t) p q ∷ [])
+      pub edge-answers-fraction : apart (cutOf t) p q ≡ true → edgeAnswer p q t ≡ accepted (fraction (cutOf t) p q ∷ [])
       unfolding crossing
       edge-answers-fraction h = edge-accepts ∙ simp h
 
       -- they do not
-      pub edge-answers-nothing : apartInSign (cutAt t) p q ≡ false → edgeAnswer p q t ≡ accepted []
+      pub edge-answers-nothing : apart (cutOf t) p q ≡ false → edgeAnswer p q t ≡ accepted []
       unfolding crossing
       edge-answers-nothing h = edge-accepts ∙ simp h
 
 -- what an edge answers, whatever the three numbers
 pub edge-answers : (p q t : ℕ)
     → edgeAnswer p q t
-    ≡ cond (noThreshold (cutAt t)) (refusedBy 3 t)
+    ≡ cond (noThreshold (cutOf t)) (refusedBy 3 t)
     (cond (isCeiling p) (refusedBy 4 0)
     (cond (isCeiling q) (refusedBy 4 1)
-    (cond (apartInSign (cutAt t) p q) (accepted (fraction (cutAt t) p q ∷ [])) (accepted []))))
-edge-answers p q t = go (noThreshold (cutAt t)) (isCeiling p) (isCeiling q) (apartInSign (cutAt t) p q) refl refl refl refl
+    (cond (apart (cutOf t) p q) (accepted (fraction (cutOf t) p q ∷ [])) (accepted []))))
+edge-answers p q t = go (noThreshold (cutOf t)) (isCeiling p) (isCeiling q) (apart (cutOf t) p q) refl refl refl refl
   where
-    go : (a b c d : Bool) → noThreshold (cutAt t) ≡ a → isCeiling p ≡ b → isCeiling q ≡ c → apartInSign (cutAt t) p q ≡ d
+    go : (a b c d : Bool) → noThreshold (cutOf t) ≡ a → isCeiling p ≡ b → isCeiling q ≡ c → apart (cutOf t) p q ≡ d
         → edgeAnswer p q t
-        ≡ cond a (refusedBy 3 t) (cond b (refusedBy 4 0) (cond c (refusedBy 4 1) (cond d (accepted (fraction (cutAt t) p q ∷ [])) (accepted []))))
+        ≡ cond a (refusedBy 3 t) (cond b (refusedBy 4 0) (cond c (refusedBy 4 1) (cond d (accepted (fraction (cutOf t) p q ∷ [])) (accepted []))))
     go true b c d A B C D = edge-answers-threshold p q t A
     go false true c d A B C D = edge-answers-lower p q t A B
     go false false true d A B C D = edge-answers-upper p q t A B C

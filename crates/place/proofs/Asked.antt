@@ -1,6 +1,6 @@
 -- The edge question answers its fraction at a crossed edge of a cube that neither row 3 nor row 4 refuses.
 -- Assumes nothing.
-use mathlib.Core.Path.{_≡_, refl, ap, _∙_}
+use mathlib.Core.Path.{_≡_, refl, sym, ap, _∙_}
 use mathlib.Core.Bool.{Bool, true, false, cond}
 use mathlib.Core.Logic.{_⊎_, inl, inr}
 use mathlib.Core.List.{List, [], _∷_}
@@ -11,13 +11,14 @@ use denote.Enum.Declared.{tagOf}
 use lib.ListN.{length, List·getD-eq-default}
 use lib.Ieee.{Float}
 use Rattle.laws.proofs.Tests.{lt-or-ge}
-use Rattle.block.specs.declared.Checked.{Checked}
-use Rattle.block.specs.declared.Checked.the-variants.{Passes, Refuses}
+use Rattle.block.specs.declared.Checked.the-variants.{Passes}
 use Rattle.block.specs.declared.Cut.{Cut}
-use Rattle.block.specs.Answer.{refuses, inOrder}
+use Rattle.block.specs.Accepted.{Accepted}
+use Rattle.block.specs.Answer.{refuses}
 use Rattle.block.specs.Grey.{isCeiling, noThreshold}
-use Rattle.block.specs.Rows.{thresholdRow, ceilingRow}
-use Rattle.block.proofs.Lowest.{row-clear}
+use Rattle.block.specs.Rows.{thresholdRow}
+use Rattle.block.proofs.Accepted.{accepted-clear}
+use Rattle.block.proofs.Order.{passes-refuses}
 use Rattle.cube_rule.specs.Edges.{lower, upper, cornerSample}
 use Rattle.place.specs.declared.Crossing.{Crossing}
 use Rattle.place.specs.declared.Crossing.the-variants.{Nothing, At, Refused}
@@ -28,32 +29,21 @@ use Rattle.place.proofs.Crossing.{the-type}
 use Rattle.place.proofs.Answers.{edge-answers-fraction}
 use Rattle.place.proofs.Fixed.{said-edge-injective}
 
-module _ (cut : Cut) (corners : List ℕ) (passes : inOrder (thresholdRow cut ∷ ceilingRow corners ∷ []) ≡ Passes) where
-  -- row 3 passes the threshold
-  pub passed-threshold : noThreshold cut ≡ false
-  unfolding inOrder
-  passed-threshold = go (noThreshold cut) passes
-    where
-      go : (b : Bool) → inOrder (cond b (refuses 3 (cut .t)) Passes ∷ ceilingRow corners ∷ []) ≡ Passes → b ≡ false
-      go true h = let z : _≡_ {A = ℕ} 0 1 = cc in absurd (omega arith)
-      go false h = refl
+-- row 3 passes the threshold
+pub passed-threshold : (cut : Cut) → thresholdRow cut ≡ Passes → noThreshold cut ≡ false
+passed-threshold cut = go (noThreshold cut)
+  where
+    go : (b : Bool) → cond b (refuses 3 (cut .t)) Passes ≡ Passes → b ≡ false
+    go true h = absurd (passes-refuses (sym h))
+    go false h = refl
 
-  -- row 4 passes the samples
-  passed-row : ceilingRow corners ≡ Passes
-  unfolding inOrder
-  passed-row = go (noThreshold cut) (ceilingRow corners) passes
-    where
-      go : (b : Bool) (row : Checked) → inOrder (cond b (refuses 3 (cut .t)) Passes ∷ row ∷ []) ≡ Passes → row ≡ Passes
-      go true row h = let z : _≡_ {A = ℕ} 0 1 = cc in absurd (omega arith)
-      go false Passes h = refl
-      go false (Refuses r) h = let z : _≡_ {A = ℕ} 0 1 = cc in absurd (omega arith)
-
+module _ (cut : Cut) (corners : List ℕ) (passes : Accepted cut corners) where
   -- row 4 passes the sample at each corner
   pub passed-sample : (c : ℕ) → isCeiling (cornerSample corners c) ≡ false
   passed-sample c = go (lt-or-ge c (length corners))
     where
       go : (c < length corners) ⊎ (length corners ≤ c) → isCeiling (cornerSample corners c) ≡ false
-      go (inl l) = row-clear isCeiling 4 corners passed-row c l
+      go (inl l) = accepted-clear passes c l
       go (inr g) = ap isCeiling (List·getD-eq-default corners 0 g)
 
 module _ (cut : Cut) (corners : List ℕ) (e : ℕ) (asked : Fractional cut corners e) where
@@ -67,9 +57,9 @@ module _ (cut : Cut) (corners : List ℕ) (e : ℕ) (asked : Fractional cut corn
       ∙ ap (λ (c : ℕ). edgeAnswer (cornerSample corners c) (cornerSample corners u) (cut .t)) is-lower
       ∙ ap (λ (c : ℕ). edgeAnswer (cornerSample corners (lower e)) (cornerSample corners c) (cut .t)) is-upper
       ∙ edge-answers-fraction (cornerSample corners (lower e)) (cornerSample corners (upper e)) (cut .t)
-      (passed-threshold cut corners (asked .passes))
-      (passed-sample cut corners (asked .passes) (lower e))
-      (passed-sample cut corners (asked .passes) (upper e))
+      (passed-threshold cut (asked .accepted .threshold))
+      (passed-sample cut corners (asked .accepted) (lower e))
+      (passed-sample cut corners (asked .accepted) (upper e))
       (asked .crossed))
 
 -- an answer with a fraction is of no other case (0: Nothing, 2: Refused)

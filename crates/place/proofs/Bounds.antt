@@ -18,13 +18,13 @@ use Rattle.laws.proofs.Bits.{ones-pos}
 use Rattle.laws.proofs.Within.{plain, Within, wider, either, add-within, whole-within, div-within}
 use Rattle.block.specs.declared.Cut.{Cut}
 use Rattle.block.specs.Answer.{accepted}
-use Rattle.block.specs.Grey.{positive, isCeiling, noThreshold, SixteenBit}
+use Rattle.block.specs.Grey.{cutOf, positive, apart, isCeiling, noThreshold, SixteenBit}
 use Rattle.cube_rule.specs.Edges.{lower, upper, axisOf, cornerOn, cornerSample}
 use Rattle.place.specs.declared.Crossing.the-variants.{At}
-use Rattle.place.specs.Crossing.{gap, float, fraction, apartInSign, EdgeAnswered}
+use Rattle.place.specs.Crossing.{gap, float, fraction, EdgeAnswered}
 use Rattle.place.specs.Place.{plusZero, one, local, fractionAt, sumOn, meanOn, placeOf}
 use Rattle.place.specs.Unit.{InUnit, Inside, CrossedSet}
-use Rattle.place.proofs.Answers.{cutAt, refusedBy, edge-answers}
+use Rattle.place.proofs.Answers.{refusedBy, edge-answers}
 use Rattle.place.proofs.Counts.{countBelow, count-le, count-small}
 
 -- ---- what is within 1 is in the unit
@@ -44,7 +44,7 @@ in-unit (fin false m e) w = record {
 -- ---- a fraction
 
 -- t lies between ends that differ in sign
-between : (cut : Cut) (p q : ℕ) → apartInSign cut p q ≡ true → (gap (cut .t) p ≤ gap q p) × (0 < gap q p)
+between : (cut : Cut) (p q : ℕ) → apart cut p q ≡ true → (gap (cut .t) p ≤ gap q p) × (0 < gap q p)
 between cut p q h = go (positive cut p) (positive cut q) refl refl h
   where
     go : (x y : Bool) → leb (cut .t) p ≡ x → leb (cut .t) q ≡ y → differ x y ≡ true → (gap (cut .t) p ≤ gap q p) × (0 < gap q p)
@@ -58,7 +58,7 @@ gap-small : (p q : ℕ) → p < 65536 → q < 65536 → gap q p ≤ 2 ^ 53
 gap-small p q h k = omega arith
 
 -- the fraction of ends that differ in sign
-fraction-within : (cut : Cut) (p q : ℕ) → p < 65536 → q < 65536 → apartInSign cut p q ≡ true → Within 1 (fraction cut p q)
+fraction-within : (cut : Cut) (p q : ℕ) → p < 65536 → q < 65536 → apart cut p q ≡ true → Within 1 (fraction cut p q)
 unfolding fraction
 fraction-within cut p q P Q h =
     let b = between cut p q h in
@@ -69,19 +69,19 @@ fraction-within cut p q P Q h =
 pub fraction-in-unit : (p q t : ℕ) (f : Float) → p < 65536 → q < 65536 → EdgeAnswered p q t (At f) → InUnit f
 fraction-in-unit p q t f P Q said =
     in-unit f
-    (go (noThreshold cut) (isCeiling p) (isCeiling q) (apartInSign cut p q) (fraction-within cut p q P Q) (said ∙ edge-answers p q t))
+    (go (noThreshold cut) (isCeiling p) (isCeiling q) (apart cut p q) (fraction-within cut p q P Q) (said ∙ edge-answers p q t))
   where
     cut : Cut
-    cut = cutAt t
+    cut = cutOf t
 
-    go : (a b c d : Bool) → (d ≡ true → Within 1 (fraction (cutAt t) p q))
+    go : (a b c d : Bool) → (d ≡ true → Within 1 (fraction (cutOf t) p q))
         → accepted (f ∷ [])
-        ≡ cond a (refusedBy 3 t) (cond b (refusedBy 4 0) (cond c (refusedBy 4 1) (cond d (accepted (fraction (cutAt t) p q ∷ [])) (accepted []))))
+        ≡ cond a (refusedBy 3 t) (cond b (refusedBy 4 0) (cond c (refusedBy 4 1) (cond d (accepted (fraction (cutOf t) p q ∷ [])) (accepted []))))
         → Within 1 f
     go true b c d w e = let z : _≡_ {A = ℕ} 0 1 = cc in absurd (omega arith)
     go false true c d w e = let z : _≡_ {A = ℕ} 0 1 = cc in absurd (omega arith)
     go false false true d w e = let z : _≡_ {A = ℕ} 0 1 = cc in absurd (omega arith)
-    go false false false true w e = let is : fraction (cutAt t) p q ≡ f = cc in subst (Within 1) is (w refl)
+    go false false false true w e = let is : fraction (cutOf t) p q ≡ f = cc in subst (Within 1) is (w refl)
     go false false false false w e = let z : _≡_ {A = ℕ} 0 1 = cc in absurd (omega arith)
 
 -- ---- a place

@@ -4,8 +4,8 @@ use mathlib.Core.Path.{_≡_, sym, _∙_}
 use mathlib.Core.List.{List}
 use Prim.Native.Nat.{ℕ}
 use native.Mathlib.Omega.{arith}
-use Rattle.laws.specs.Fixed.{Fixes, Injective}
-use Rattle.laws.proofs.Fixed.{equation-fixes, said-fixes}
+use Rattle.laws.specs.Fixed.{Fixes}
+use Rattle.laws.proofs.Fixed.{Injective, equation-fixes, said-fixes}
 use Rattle.block.specs.declared.Cut.{Cut}
 use Rattle.block.specs.Grey.{SixteenBit}
 use Rattle.place.specs.declared.Crossing.the-variants.{Nothing, At, Refused}

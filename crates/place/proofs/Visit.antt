@@ -11,8 +11,8 @@ use borrow.Author.Tests.{eq-eqb, ne-eqb}
 use Rattle.laws.specs.Bits.{holds}
 use Rattle.block.specs.declared.Cut.{Cut}
 use Rattle.place.specs.declared.Offset.{Offset}
-use Rattle.place.specs.Place.{plusZero, sumOn, meanOn, placeOf, Placeable}
-use Rattle.place.specs.Steps.{Fractional, plusCrossing, plusEdge, sumOf, dividedBy}
+use Rattle.place.specs.Place.{plusZero, sumOn, meanOn, placeOf}
+use Rattle.place.specs.Steps.{Placeable, Fractional, plusCrossing, plusEdge, sumOf, dividedBy}
 
 -- a bit as a test
 held : (m e : ℕ) → (m / 2 ^ e % 2 ≡ 0 → ⊥) → holds m e ≡ true
@@ -38,7 +38,7 @@ module _ (cut : Cut) (corners : List ℕ) (m : ℕ) where
 
     -- one that it holds: the edge question answers its fraction, which is added
     pub sum-asks : Placeable cut corners m → e < 12 → (m / 2 ^ e % 2 ≡ 0 → ⊥) → Fractional cut corners e
-    sum-asks ready l some = record { small = l; crossed = ready .crossed e l (held m e some); passes = ready .passes }
+    sum-asks ready l some = record { small = l; crossed = ready .crossed e l (held m e some); accepted = ready .accepted }
 
     pub sum-adds : (m / 2 ^ e % 2 ≡ 0 → ⊥) → (sum : Offset) → sum ≡ sumOf cut corners m e → plusEdge cut corners e sum ≡ sumOf cut corners m (e + 1)
     unfolding plusEdge plusCrossing sumOf sumOn

@@ -1,16 +1,14 @@
 -- The edge question: no crossing, one fraction, or a refusal (document 01, "Faces, loops and places").
--- Assumes nothing.
 use Prim.Native.Nat.{ℕ, _+_, _-_}
 use mathlib.Core.Path.{_≡_}
-use mathlib.Core.Bool.{Bool, cond}
+use mathlib.Core.Bool.{cond}
 use mathlib.Core.List.{List, [], _∷_}
 use lib.IntN.{pos}
 use lib.Ieee.{Float, binary64, div, ofInt}
-use Rattle.laws.specs.Bits.{differ}
 use Rattle.block.specs.declared.Cut.{Cut}
 use Rattle.block.specs.Answer.{Answer, accepted, refused, inOrder, judged}
-use Rattle.block.specs.Grey.{positive}
-use Rattle.block.specs.Rows.{thresholdRow, ceilingRow}
+use Rattle.block.specs.Grey.{cutOf, apart}
+use Rattle.block.specs.Rows.{sampleRows}
 use Rattle.place.specs.declared.Crossing.{Crossing}
 use Rattle.place.specs.declared.Crossing.the-variants.{Nothing, At, Refused}
 
@@ -26,14 +24,10 @@ float n = ofInt binary64 (pos n)
 unfoldable pub fraction : Cut → ℕ → ℕ → Float
 fraction cut p q = div binary64 (float (gap (cut .t) p)) (float (gap q p))
 
--- "An edge is crossed if its ends differ in sign."
-abbrev pub apartInSign : Cut → ℕ → ℕ → Bool
-apartInSign cut p q = differ (positive cut p) (positive cut q)
-
--- "An edge answers no crossing, or one fraction."
+-- "An edge answers no crossing, or one fraction", and "is crossed if its ends differ in sign"
 unfoldable pub crossing : Cut → ℕ → ℕ → List Float
 unfolding fraction
-crossing cut p q = cond (apartInSign cut p q) (fraction cut p q ∷ []) []
+crossing cut p q = cond (apart cut p q) (fraction cut p q ∷ []) []
 
 -- 01's number and values of each case
 abbrev pub saidEdge : Crossing → Answer (List Float)
@@ -44,9 +38,7 @@ saidEdge (Refused r) = refused r
 -- two ends and a threshold have a crossing or none, or are refused by row 3 and then by row 4 (lower end 0, upper 1)
 unfoldable pub edgeAnswer : ℕ → ℕ → ℕ → Answer (List Float)
 unfolding crossing
-edgeAnswer p q t =
-    let cut : Cut = record { t = t } in
-    judged (inOrder (thresholdRow cut ∷ ceilingRow (p ∷ q ∷ []) ∷ [])) (crossing cut p q)
+edgeAnswer p q t = judged (inOrder (sampleRows (cutOf t) (p ∷ q ∷ []))) (crossing (cutOf t) p q)
 
 -- the promise of `edge`
 abbrev pub EdgeAnswered : ℕ → ℕ → ℕ → Crossing → Type 0

@@ -1,20 +1,15 @@
 -- The place of a set of edges in its cube, axis by axis, for all samples and thresholds (document 01, "Faces, loops and places").
 -- A set of edges is a mask, a cube the list of its eight samples.
--- Assumes nothing.
-use Prim.Native.Nat.{ℕ, zero, suc, _<_}
-use mathlib.Core.Path.{_≡_}
+use Prim.Native.Nat.{ℕ, zero, suc}
 use mathlib.Core.Bool.{true, false, cond}
-use mathlib.Core.List.{List, [], _∷_}
+use mathlib.Core.List.{List}
 use lib.Dec.{eqb}
 use lib.Count.{ones}
 use lib.IntN.{pos}
 use lib.Ieee.{Float, fin, binary64, add, div}
 use Rattle.laws.specs.Bits.{holds}
 use Rattle.block.specs.declared.Cut.{Cut}
-use Rattle.block.specs.declared.Checked.the-variants.{Passes}
-use Rattle.block.specs.Answer.{inOrder}
-use Rattle.block.specs.Rows.{thresholdRow, ceilingRow}
-use Rattle.cube_rule.specs.Edges.{lower, upper, axisOf, cornerOn, cornerSample, crossedAt}
+use Rattle.cube_rule.specs.Edges.{lower, upper, axisOf, cornerOn, cornerSample}
 use Rattle.place.specs.declared.Offset.{Offset}
 use Rattle.place.specs.Crossing.{float, fraction}
 
@@ -55,9 +50,3 @@ meanOn a m cut corners = div binary64 (sumOn a m cut corners 12) (float (ones m)
 unfoldable pub placeOf : Cut → List ℕ → ℕ → Offset
 unfolding meanOn
 placeOf cut corners m = record { x = meanOn 0 m cut corners; y = meanOn 1 m cut corners; z = meanOn 2 m cut corners }
-
--- what `place` requires: a set of crossed edges of a cube that neither row 3 nor row 4 refuses
-pub record Placeable (cut : Cut) (corners : List ℕ) (m : ℕ) : Type 0 where
-  pub small : m < 4096
-  pub crossed : (e : ℕ) → e < 12 → holds m e ≡ true → crossedAt cut corners e ≡ true
-  pub passes : inOrder (thresholdRow cut ∷ ceilingRow corners ∷ []) ≡ Passes

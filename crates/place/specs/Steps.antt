@@ -3,22 +3,27 @@
 use Prim.Native.Nat.{ℕ, _<_}
 use mathlib.Core.Path.{_≡_}
 use mathlib.Core.Bool.{true}
-use mathlib.Core.List.{List, [], _∷_}
+use mathlib.Core.List.{List}
 use lib.Ieee.{Float, binary64, add, div}
+use Rattle.laws.specs.Bits.{holds}
 use Rattle.block.specs.declared.Cut.{Cut}
-use Rattle.block.specs.declared.Checked.the-variants.{Passes}
-use Rattle.block.specs.Answer.{inOrder}
-use Rattle.block.specs.Rows.{thresholdRow, ceilingRow}
+use Rattle.block.specs.Accepted.{Accepted}
 use Rattle.cube_rule.specs.Edges.{crossedAt}
 use Rattle.place.specs.declared.Offset.{Offset}
 use Rattle.place.specs.Crossing.{float}
 use Rattle.place.specs.Place.{local, fractionAt, sumOn}
 
+-- what `place` requires: a set of crossed edges of a cube that neither row 3 nor row 4 refuses
+pub record Placeable (cut : Cut) (corners : List ℕ) (m : ℕ) : Type 0 where
+  pub small : m < 4096
+  pub crossed : (e : ℕ) → e < 12 → holds m e ≡ true → crossedAt cut corners e ≡ true
+  pub accepted : Accepted cut corners
+
 -- a crossed edge of a cube that neither row 3 nor row 4 refuses: the edge question answers its fraction
 pub record Fractional (cut : Cut) (corners : List ℕ) (e : ℕ) : Type 0 where
   pub small : e < 12
   pub crossed : crossedAt cut corners e ≡ true
-  pub passes : inOrder (thresholdRow cut ∷ ceilingRow corners ∷ []) ≡ Passes
+  pub accepted : Accepted cut corners
 
 -- the crossing of the edge e at the fraction f, added
 unfoldable pub plusCrossing : ℕ → Float → Offset → Offset

@@ -7,8 +7,8 @@ ghost use Rattle.block.specs.Answer.{refused};
 ghost use Rattle.block.specs.Grey.{positive, SixteenBit};
 ghost use Rattle.cube_rule.specs.Edges.{lower, upper};
 ghost use Rattle.place.specs.Crossing.{gap, fraction, saidEdge, EdgeAnswered};
-ghost use Rattle.place.specs.Place.{local, placeOf, Placeable};
-ghost use Rattle.place.specs.Steps.{Fractional, plusCrossing, plusEdge, sumOf, dividedBy};
+ghost use Rattle.place.specs.Place.{local, placeOf};
+ghost use Rattle.place.specs.Steps.{Placeable, Fractional, plusCrossing, plusEdge, sumOf, dividedBy};
 
 // What an edge answers: no crossing, the fraction of the way from the lower end to the upper, or a refusal.
 pub enum Crossing {

@@ -8,16 +8,14 @@ use native.Mathlib.Omega.{arith}
 use lib.ListN.{length, getD}
 use Rattle.laws.proofs.Index.{pair-lt}
 use Rattle.block.specs.declared.Size.{Size}
-use Rattle.block.specs.declared.Checked.the-variants.{Passes}
-use Rattle.block.specs.Grey.{isCeiling}
+use Rattle.block.specs.declared.Cut.{Cut}
+use Rattle.block.specs.Accepted.{Accepted}
 use Rattle.block.specs.Numbering.{sampleCount}
-use Rattle.block.specs.Rows.{ceilingRow}
-use Rattle.block.proofs.Lowest.{row-clear}
+use Rattle.block.proofs.Accepted.{accepted-part}
 use Rattle.mesh_rule.specs.Grid.{cornersAt, cornersOf}
 use Rattle.mesh_rule.specs.Layers.{rowCube, rowSample}
 use Rattle.mesh_rule.proofs.Numbers.{corners-of-number}
 use Rattle.signs.specs.Windows.{windowCorners, Part}
-use Rattle.vertices.specs.Layers.{Clear}
 
 -- two rows are inside the samples
 pub rows-in : (nx ny nz j k : ℕ) → j + 1 < ny → k < nz → nx * (j + ny * k) + 2 * nx ≤ nx * (ny * nz)
@@ -71,11 +69,11 @@ module _ (n : Size) (s : List ℕ) (j k : ℕ) (lo hi : List ℕ) (p : Windows n
       number : (w h : ℕ) → x + w * (j + h * k) ≡ w * (j + h * k) + x
       number w h = omega arith
 
-  -- no sample of theirs is at the ceiling, where none of the block is
-  pub windows-clear : ceilingRow s ≡ Passes → length s ≡ sampleCount n → j + 1 < n .ny → k + 1 < n .nz → Clear lo × Clear hi
-  windows-clear e count hj hk = (clear lo k (p .low) (omega arith), clear hi (k + 1) (p .high) hk)
+  -- rows 3 and 4 pass them, where they pass the block
+  pub windows-accepted : {cut : Cut} → Accepted cut s → length s ≡ sampleCount n → j + 1 < n .ny → k + 1 < n .nz → Accepted cut lo × Accepted cut hi
+  windows-accepted {cut} ok count hj hk = (part-of lo k (p .low) (omega arith), part-of hi (k + 1) (p .high) hk)
     where
-      clear : (w : List ℕ) (z : ℕ) → Part s (rowSample (n .nx) (n .ny) j z) (2 * n .nx) w → z < n .nz → Clear w
-      clear w z part hz q l =
-          ap isCeiling (part .at q (omega (arith, part .long)))
-          ∙ row-clear isCeiling 4 s e (rowSample (n .nx) (n .ny) j z + q) (omega (arith, count, part .long, rows-in (n .nx) (n .ny) (n .nz) j z hj hz))
+      part-of : (w : List ℕ) (z : ℕ) → Part s (rowSample (n .nx) (n .ny) j z) (2 * n .nx) w → z < n .nz → Accepted cut w
+      part-of w z part hz =
+          accepted-part w (λ (q : ℕ). rowSample (n .nx) (n .ny) j z + q) ok
+          (λ q l. (omega (arith, count, part .long, rows-in (n .nx) (n .ny) (n .nz) j z hj hz), part .at q (omega (arith, part .long))))

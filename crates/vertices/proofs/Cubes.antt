@@ -1,32 +1,36 @@
 -- One cube: what is noted of it, its vertices as they are written, whatever its loops are, and the cube question's answer of 01's loops.
 -- Assumes nothing.
 use Prim.Native.Nat.{ℕ, _+_, _*_, _-_, _≤_, _<_}
+use mathlib.Core.Bool.{false}
 use mathlib.Core.Path.{_≡_, refl, ap, sym, _∙_, subst}
 use mathlib.Core.List.{List, [], _∷_, map, List·Memᴰ·head}
 use native.Mathlib.Omega.{arith}
 use types.Run.{OneOf}
 use denote.Enum.Declared.{tagOf}
-use lib.ListN.{length, take, replicate, length-map}
+use lib.ListN.{length, getD, take, replicate, length-map}
 use lib.Seq.{sets, take-append-seam}
 use lib.Ieee.{Float}
 use Rattle.laws.specs.Filled.{filled}
 use Rattle.block.specs.declared.Cut.{Cut}
 use Rattle.block.specs.declared.Checked.the-variants.{Passes}
-use Rattle.block.specs.Rows.{thresholdRow, ceilingRow, lowest, lowestRow}
+use Rattle.block.specs.Accepted.{Accepted}
+use Rattle.block.specs.Grey.{isCeiling}
+use Rattle.block.specs.Rows.{ceilingRow, lowest, lowestRow}
+use Rattle.block.proofs.Accepted.{accepted-clear, accepted-passes}
 use Rattle.cube_rule.specs.Decider.{loopsOf}
 use Rattle.place.specs.declared.Offset.{Offset}
-use Rattle.place.specs.Place.{Placeable, placeOf}
+use Rattle.place.specs.Place.{placeOf}
+use Rattle.place.specs.Steps.{Placeable}
 use Rattle.cell.specs.declared.CubeAnswer.{CubeAnswer}
 use Rattle.cell.specs.declared.Found.{Found}
 use Rattle.cell.specs.declared.Found.the-variants as found
 use Rattle.cell.specs.Answer.{wordOf, origin, cubeVerdict, CubeAnswered}
-use Rattle.cell.proofs.Answers.{loop-placeable, accepted-found, accepted-loops, verdict-second, said-cube-injective}
+use Rattle.cell.proofs.Answers.{loop-placeable, accepted-found, accepted-loops, said-cube-injective}
 use Rattle.cell.proofs.Found.{the-type}
 use Rattle.mesh_rule.specs.Buffers.{pairs, triples}
 use Rattle.signs.specs.Windows.{windowCorners}
 use Rattle.vertices.specs.Cubes.{namesBy, wordsBy, offsetsBy, Stored, CubeWritten}
 use Rattle.vertices.specs.declared.Spot.{Spot}
-use Rattle.vertices.specs.Layers.{Clear}
 use Rattle.vertices.specs.Tables.{whichOf}
 use Rattle.vertices.proofs.Stored.{pairs-length, triples-length}
 
@@ -40,10 +44,11 @@ first : {A : Type 0} (d : A) (xs ys : List A) (n : ℕ) → ys ≡ filled 4 d xs
 unfolding filled
 first d xs ys n e f = rw (e, f) (take-append-seam xs (replicate (4 - length xs) d))
 
--- row 4 passes the corners of a cube whose windows have no sample at the ceiling
-pub corners-pass : (lo hi : List ℕ) (nx x : ℕ) → Clear lo → Clear hi → x + 1 + nx < length lo → x + 1 + nx < length hi → ceilingRow (windowCorners nx lo hi x) ≡ Passes
+-- rows 3 and 4 pass a cube whose windows they pass
+corners-clear : (lo hi : List ℕ) (nx x : ℕ) → ((q : ℕ) → q < length lo → isCeiling (getD lo q 0) ≡ false) → ((q : ℕ) → q < length hi → isCeiling (getD hi q 0) ≡ false)
+    → x + 1 + nx < length lo → x + 1 + nx < length hi → ceilingRow (windowCorners nx lo hi x) ≡ Passes
 unfolding lowestRow lowest windowCorners
-corners-pass lo hi nx x low high l h =
+corners-clear lo hi nx x low high l h =
     simp (
       low x (omega arith),
       low (x + 1) (omega arith),
@@ -54,6 +59,11 @@ corners-pass lo hi nx x low high l h =
       high (x + nx) (omega arith),
       high (x + 1 + nx) (omega arith),
     )
+
+pub corners-accepted : (cut : Cut) (lo hi : List ℕ) (nx x : ℕ) → Accepted cut lo → Accepted cut hi → x + 1 + nx < length lo → x + 1 + nx < length hi
+    → Accepted cut (windowCorners nx lo hi x)
+corners-accepted cut lo hi nx x low high l h =
+    record { threshold = low .threshold; ceiling = corners-clear lo hi nx x (accepted-clear low) (accepted-clear high) l h }
 
 -- what is noted of four words, of which some are left over
 which-filled : (d : ℕ) (ws : List ℕ) → length ws ≤ 4 → d ≡ whichOf (filled 4 0 ws) → d ≡ whichOf ws
@@ -117,15 +127,15 @@ module _ (loopsOf : Cut → List ℕ → List ℕ) (cut : Cut) (cs : List ℕ) w
 
 -- ---- the loops of 01, where neither row 3 nor row 4 refuses the cube
 
-module _ (cut : Cut) (cs : List ℕ) (threshold : thresholdRow cut ≡ Passes) (samples : ceilingRow cs ≡ Passes) where
+module _ (cut : Cut) (cs : List ℕ) (ok : Accepted cut cs) where
   cube-passes : cubeVerdict cut cs ≡ Passes
-  cube-passes = verdict-second cut cs Passes threshold samples
+  cube-passes = accepted-passes ok
 
   pub single-placeable : (m : ℕ) → loopsOf cut cs ≡ m ∷ [] → Placeable cut cs m
   single-placeable m e = loop-placeable cut cs cube-passes m (rw e (List·Memᴰ·head refl))
 
   -- so the cube question answers its loops
-  module _ (r : CubeAnswer) (told : CubeAnswered cs (cut .t) r) where
+  module _ (r : CubeAnswer) (told : CubeAnswered cs cut r) where
     pub answer-found : r .found ≡ found.Loops (length (loopsOf cut cs))
     answer-found =
         said-cube-injective (r .found) (found.Loops (length (loopsOf cut cs)))

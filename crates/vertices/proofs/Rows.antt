@@ -128,9 +128,8 @@ module _ {D : Decider} {loopsOf : Cut → List ℕ → List ℕ} (laws : CubeLaw
         let all = masks-le loopsOf lo hi cut nx (64 * (w + 1)) in
         record {
           small = omega (arith, room .small);
-          threshold = room .threshold;
-          clear-low = room .clear-low;
-          clear-high = room .clear-high;
+          low = room .low;
+          high = room .high;
           words-room = omega (arith, p .stored .number, stored-words (p .stored), room .words-room);
           offsets-room = omega (arith, p .stored .number, stored-offsets (p .stored), room .offsets-room);
           numbers-room = λ x h s. omega (arith, set-in ready w hw x h (rw act-is at s), ready .long, p .noted .long, room .numbers-room);

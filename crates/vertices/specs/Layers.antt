@@ -3,18 +3,16 @@
 -- Assumes nothing.
 use Prim.Native.Nat.{ℕ, _+_, _*_, _-_, _≤_, _<_}
 use mathlib.Core.Path.{_≡_}
-use mathlib.Core.Bool.{true, false, cond}
+use mathlib.Core.Bool.{true, cond}
 use mathlib.Core.List.{List, []}
-use lib.ListN.{length, getD}
+use lib.ListN.{length}
 use lib.Ieee.{Float}
 use Rattle.laws.specs.Below.{below}
 use Rattle.laws.specs.Bits.{holds}
 use Rattle.block.specs.declared.Cut.{Cut}
 use Rattle.block.specs.declared.Size.{Size}
-use Rattle.block.specs.declared.Checked.the-variants.{Passes}
-use Rattle.block.specs.Grey.{isCeiling}
 use Rattle.block.specs.Numbering.{sampleCount}
-use Rattle.block.specs.Rows.{thresholdRow}
+use Rattle.block.specs.Accepted.{Accepted}
 use Rattle.block.specs.Size.{Limits}
 use Rattle.cube.specs.Table.{maskTable}
 use Rattle.cube_rule.specs.Edges.{patternOf}
@@ -23,10 +21,6 @@ use Rattle.signs.specs.Signs.{Plane, patternAt}
 use Rattle.signs.specs.Windows.{windowCorners, TwoRows}
 use Rattle.vertices.specs.Cubes.{loopsAt, namesAt, wordsAt, offsetsAt, Stored}
 use Rattle.vertices.specs.Tables.{Noted}
-
--- no sample is at the ceiling
-abbrev pub Clear : List ℕ → Type 0
-Clear s = (q : ℕ) → q < length s → isCeiling (getD s q 0) ≡ false
 
 -- ---- the cubes of a word
 
@@ -57,9 +51,8 @@ pub record WordReady (lo hi : List ℕ) (cut : Cut) (table : List ℕ) (nx p : �
 -- neither row 3 nor row 4 refuses the row, and there is room for the vertices from the vertex v on
 pub record WordRoom (loopsOf : Cut → List ℕ → List ℕ) (lo hi : List ℕ) (cut : Cut) (nx p act c v : ℕ) (words : List ℕ) (offsets : List Float) (numbers : List ℕ) : Type 0 where
   pub small : c ≤ 16777216
-  pub threshold : thresholdRow cut ≡ Passes
-  pub clear-low : Clear lo
-  pub clear-high : Clear hi
+  pub low : Accepted cut lo
+  pub high : Accepted cut hi
   pub words-room : 2 * (v + length (wordLoops loopsOf lo hi cut nx act p)) ≤ length words
   pub offsets-room : 3 * (v + length (wordLoops loopsOf lo hi cut nx act p)) ≤ length offsets
   pub numbers-room : (x : ℕ) → x < 64 → holds act x ≡ true → 2 * (p + x) + 2 ≤ length numbers
@@ -95,9 +88,8 @@ pub record RowReady (lo hi : List ℕ) (cut : Cut) (table a b : List ℕ) (nx j 
 -- and what one that writes requires besides: neither row 3 nor row 4 refuses, there is room from the vertex v on, and numbers fit
 pub record RowRoom (loopsOf : Cut → List ℕ → List ℕ) (lo hi : List ℕ) (cut : Cut) (nx c v : ℕ) (words : List ℕ) (offsets : List Float) (numbers : List ℕ) : Type 0 where
   pub small : c ≤ 16711680
-  pub threshold : thresholdRow cut ≡ Passes
-  pub clear-low : Clear lo
-  pub clear-high : Clear hi
+  pub low : Accepted cut lo
+  pub high : Accepted cut hi
   pub words-room : 2 * (v + length (rowMasks loopsOf lo hi cut nx)) ≤ length words
   pub offsets-room : 3 * (v + length (rowMasks loopsOf lo hi cut nx)) ≤ length offsets
   pub numbers-room : length numbers ≡ 512

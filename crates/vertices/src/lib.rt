@@ -139,7 +139,7 @@ fn write_cube(
         note(numbers, spot.x, v as u32, 0);
         return v + 1;
     }
-    let answer = cell::cube_by(table, corners, cut.t);
+    let answer = cell::cube_by(table, corners, cut);
     let found = answer.found;
     let Found::Loops(n) = found else {
         // Never reached: no row refuses the cube.

@@ -14,15 +14,15 @@ samples-requires : tie.Need-samples-requires
 samples-requires c κs = search needs
 
 returns : tie.Need-returns
-returns c = sym (count-passes (c .before .before .before .args .size) (c .before .before .before .args .samples .now) (c .if1 .taken ∙ c .before .samples .ensures .0))
+returns c = sym (count-passes (c .before .before .args .size) (c .before .before .args .count) (c .if1 .taken ∙ c .before .samples .ensures .0))
 
-cast-t6 : tie.Need-cast-t6
-cast-t6 c = search needs
+cast-t5 : tie.Need-cast-t5
+cast-t5 c = search needs
 
 returns-2 : tie.Need-returns-2
 returns-2 c =
     let e = c .before .samples .ensures in
-    rw (e .0) (sym (count-refuses (c .before .before .before .args .size) (c .before .before .before .args .samples .now) (λ h. c .if1 .left (h ∙ sym (e .0))) (omega arith)))
+    rw (e .0) (sym (count-refuses (c .before .before .args .size) (c .before .before .args .count) (λ h. c .if1 .left (h ∙ sym (e .0))) (omega arith)))
 
 pub check-count-spec : {M : Type 1} → statement M
-check-count-spec = tie.close (tie.spec samples-requires returns cast-t6 returns-2)
+check-count-spec = tie.close (tie.spec samples-requires returns cast-t5 returns-2)

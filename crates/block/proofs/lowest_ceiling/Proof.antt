@@ -38,7 +38,7 @@ shared-slice-read-if1 c = search needs
 returns : tie.Need-returns Inv-loop μ-loop
 returns c =
     let l = c .before .before .before .loop in
-    lowest-is isCeiling _ (l .i) (l .inv .0) (l .inv .1) (λ h. eq-eqb _ _ (c .if1 .taken))
+    lowest-is isCeiling 0 _ (l .i) (l .inv .0) (l .inv .1) (λ h. eq-eqb _ _ (c .if1 .taken))
 
 add-i : tie.Need-add-i Inv-loop μ-loop
 add-i c = search needs
@@ -50,7 +50,7 @@ loop-again : tie.Need-loop-again Inv-loop μ-loop
 loop-again c = (search needs, below-more _ _ (c .before .before .before .loop .inv .1) (ne-eqb _ _ (c .if1 .left)))
 
 returns-2 : tie.Need-returns-2 Inv-loop μ-loop
-returns-2 c = let l = c .before .loop in lowest-is isCeiling _ (l .i) (l .inv .0) (l .inv .1) (λ h. absurd (omega arith))
+returns-2 c = let l = c .before .loop in lowest-is isCeiling 0 _ (l .i) (l .inv .0) (l .inv .1) (λ h. absurd (omega arith))
 
 pub lowest-ceiling-spec : {M : Type 1} → statement M
 lowest-ceiling-spec =

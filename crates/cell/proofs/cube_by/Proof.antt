@@ -11,7 +11,7 @@ use Rattle.block.specs.Grey.{SixteenBit}
 use Rattle.block.specs.declared.Checked.the-variants.{Passes}
 use Rattle.cube.specs.declared.Loops.{Loops}
 use Rattle.cube_rule.specs.Decider.{loopsOf}
-use Rattle.place.specs.Place.{Placeable}
+use Rattle.place.specs.Steps.{Placeable}
 use Rattle.cell.specs.Answer.{cubeVerdict}
 use Rattle.cell.proofs.Answers.{refused-answer, accepted-answer, mask-placeable}
 use Rattle.cell.proofs.cube_by.Statement.{statement}
@@ -30,7 +30,7 @@ returns : tie.Need-returns
 returns c =
     let a = c .before .before .before .before .before .args in
     rw (c .refuse .ensures)
-    (refused-answer (record { t = a .t }) (a .corners) _ (sym (c .before .before .before .before .check .ensures) ∙ c .before .before .checked .given .1))
+    (refused-answer (a .cut) (a .corners) _ (sym (c .before .before .before .before .check .ensures) ∙ c .before .before .checked .given .1))
 
 enum-told : tie.Need-enum-told
 enum-told c = search needs
@@ -42,7 +42,7 @@ abbrev start : tie.After-masks → tie.Start
 start m = m .before .before .before .before .before
 
 abbrev cutOf : tie.After-masks → Cut
-cutOf m = record { t = start m .args .t }
+cutOf m = start m .args .cut
 
 -- rows 3 and 4 passed
 passed : (m : tie.After-masks) → cubeVerdict (cutOf m) (start m .args .corners) ≡ Passes

@@ -35,9 +35,8 @@ write-row-requires c κs =
       s .pre .0,
       record {
         small = r .small;
-        threshold = r .threshold;
-        clear-low = r .clear-low;
-        clear-high = r .clear-high;
+        low = r .low;
+        high = r .high;
         words-room = r .words-room;
         offsets-room = r .offsets-room;
         numbers-room = lent-long (s .args .row .j) (now (s .args .here)) (s .pre .3);

@@ -31,14 +31,14 @@ returns : tie.Need-returns
 returns c =
     let n = c .before .before .before in
     let a = n .before .before in
-    counts-bad-axis (a .args .nx) (a .args .ny) (a .args .nz) (a .args .samples .now) (a .args .t) _
+    counts-bad-axis (a .args .nx) (a .args .ny) (a .args .nz) (a .args .samples .now) (a .args .cut) _
     (subst (SizeMade (a .args .nx) (a .args .ny) (a .args .nz)) (c .before .made .given .1) (n .new .ensures))
 
 returns-2 : tie.Need-returns-2
 returns-2 c =
     let n = c .before .before .before .before in
     let a = n .before .before in
-    counts-made (a .args .nx) (a .args .ny) (a .args .nz) (a .args .samples .now) (a .args .t) _ (c .counts-of .result)
+    counts-made (a .args .nx) (a .args .ny) (a .args .nz) (a .args .samples .now) (a .args .cut) _ (c .counts-of .result)
     (subst (SizeMade (a .args .nx) (a .args .ny) (a .args .nz)) (c .before .before .made2 .given .1) (n .new .ensures)) (c .counts-of .ensures)
 
 pub counts-spec : {M : Type 1} → statement M

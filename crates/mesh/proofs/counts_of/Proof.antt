@@ -1,10 +1,9 @@
 -- `counts_of` meets its contract: a refusal of rows 2 to 4, or the counts of a whole tally.
 -- Assumes nothing.
 use mathlib.Core.Path.{_≡_, sym, _∙_}
-use mathlib.Core.List.{[], _∷_}
 use Rattle.block.specs.declared.Checked.the-variants.{Passes}
 use Rattle.block.specs.Answer.{inOrder}
-use Rattle.block.specs.Rows.{countRow, thresholdRow, ceilingRow}
+use Rattle.mesh.specs.Answer.{blockRows}
 use Rattle.mesh.proofs.Tallies.{tallied-few, tallied-counts}
 use Rattle.mesh.proofs.Verdicts.{judged-refused, judged-passed, block-of}
 use borrow.Author.Needs.{needs}
@@ -30,7 +29,7 @@ enum-told c = search needs
 
 -- rows 2 to 4 passed
 passed : (c : tie.After-enum-told) → let a = c .before .before .before .before in
-    inOrder (countRow (a .args .size) (a .args .samples .now) ∷ thresholdRow (a .args .cut) ∷ ceilingRow (a .args .samples .now) ∷ []) ≡ Passes
+    inOrder (blockRows (a .args .size) (a .args .samples .now) (a .args .cut)) ≡ Passes
 passed c = sym (c .before .before .check .ensures) ∙ c .enum-told .given .1
 
 tally-block-requires : tie.Need-tally-block-requires

@@ -31,7 +31,7 @@ returns : tie.Need-returns
 returns c =
     let n = c .before .before .before in
     let a = n .before .before .before .before .before in
-    mesh-bad-axis (a .args .nx) (a .args .ny) (a .args .nz) (a .args .samples .now) (a .args .t) _ (a .args .words .now) (a .args .offsets .now) (a .args .quads .now)
+    mesh-bad-axis (a .args .nx) (a .args .ny) (a .args .nz) (a .args .samples .now) (a .args .cut) _ (a .args .words .now) (a .args .offsets .now) (a .args .quads .now)
     (subst (SizeMade (a .args .nx) (a .args .ny) (a .args .nz)) (c .before .made .given .1) (n .new .ensures))
 
 same-length : tie.Need-same-length
@@ -47,7 +47,7 @@ returns-2 : tie.Need-returns-2
 returns-2 c =
     let n = c .before .before .before .before .before .before .before .before .before .before .before .before .before in
     let a = n .before .before .before .before .before in
-    mesh-made (a .args .nx) (a .args .ny) (a .args .nz) (a .args .samples .now) (a .args .t) _ (a .args .words .now) (a .args .offsets .now) (a .args .quads .now) (c .before .before .before .before .before .before .mesh-of .result) _ _ _
+    mesh-made (a .args .nx) (a .args .ny) (a .args .nz) (a .args .samples .now) (a .args .cut) _ (a .args .words .now) (a .args .offsets .now) (a .args .quads .now) (c .before .before .before .before .before .before .mesh-of .result) _ _ _
     (subst (SizeMade (a .args .nx) (a .args .ny) (a .args .nz)) (c .before .before .before .before .before .before .before .before .before .before .before .made2 .given .1) (n .new .ensures)) (c .before .before .before .before .before .before .mesh-of .ensures)
 
 pub mesh-spec : {M : Type 1} → statement M

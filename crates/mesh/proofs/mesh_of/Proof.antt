@@ -1,15 +1,13 @@
 -- `mesh_of` meets its contract: rows 2 to 4 refuse, or rows 5 and 6 with the counts, or the whole mesh is written.
 -- Assumes nothing.
 use mathlib.Core.Path.{_≡_, sym, _∙_}
-use mathlib.Core.List.{[], _∷_}
 use native.Mathlib.Omega.{arith}
 use Rattle.block.specs.declared.Checked.the-variants.{Passes}
 use Rattle.block.specs.Answer.{inOrder}
-use Rattle.block.specs.Rows.{countRow, thresholdRow, ceilingRow}
-use Rattle.mesh.specs.Answer.{countsOf}
+use Rattle.mesh.specs.Answer.{blockRows, countsOf}
 use Rattle.mesh.proofs.Tallies.{tallied-few, tallied-counts}
-use Rattle.mesh.proofs.Verdicts.{block-of}
-use Rattle.mesh.proofs.MeshSteps.{accepted-of, early-refused, late-refused, roomy-of, passed-by}
+use Rattle.mesh.proofs.Verdicts.{block-of, meshable-of}
+use Rattle.mesh.proofs.MeshSteps.{early-refused, late-refused, roomy-of, passed-by}
 use borrow.Author.Needs.{needs}
 use Rattle.mesh.proofs.mesh_of.Statement.{statement}
 use Rattle.mesh.proofs.mesh_of.Tie as tie
@@ -37,7 +35,7 @@ enum-told c = search needs
 
 -- rows 2 to 4 passed
 passed : (c : tie.After-enum-told) → let a = c .before .before .before .before .before .before .before in
-    inOrder (countRow (a .args .size) (a .args .samples .now) ∷ thresholdRow (a .args .cut) ∷ ceilingRow (a .args .samples .now) ∷ []) ≡ Passes
+    inOrder (blockRows (a .args .size) (a .args .samples .now) (a .args .cut)) ≡ Passes
 passed c = sym (c .before .before .check .ensures) ∙ c .enum-told .given .1
 
 tally-block-requires : tie.Need-tally-block-requires
@@ -77,7 +75,7 @@ enum-told-2 c = search needs
 write-block-requires : tie.Need-write-block-requires
 write-block-requires c κs =
     let a = c .before .before .before .before .before .before .before .before .before .before .before .before .before .before .before in (
-      accepted-of (a .args .size) (a .args .samples .now) (a .args .cut) (a .pre) (passed (c .before .before .before .before .before .before .before .before)),
+      meshable-of (a .args .size) (a .args .samples .now) (a .args .cut) (a .pre) (passed (c .before .before .before .before .before .before .before .before)),
       c .before .before .before .before .before .before .before .tally-block .ensures,
       roomy-of (a .args .size) (a .args .samples .now) (a .args .cut) (a .args .words .now) (a .args .offsets .now) (a .args .quads .now) (c .before .before .before .before .before .before .total .result) (counts-are (c .before .before .before .before .before .before)) (sym (c .before .before .before .before .before .room .ensures) ∙ c .before .before .before .enum-told2 .given .1),
     )

@@ -13,7 +13,8 @@ use Rattle.laws.specs.Filled.{filled}
 use Rattle.cube_rule.specs.Decider.{joined, loopsOf}
 use Rattle.cube_rule.specs.Edges.{crossedMask}
 use Rattle.cube_rule.proofs.Laws.{cube-laws}
-use Rattle.place.specs.Place.{Placeable, placeOf}
+use Rattle.place.specs.Place.{placeOf}
+use Rattle.place.specs.Steps.{Placeable}
 use Rattle.cell.specs.declared.Found.the-variants as found
 use Rattle.cell.specs.Answer.{origin}
 use Rattle.vertices.specs.Cubes.{namesBy}
@@ -36,7 +37,7 @@ place-requires : tie.Need-place-requires
 place-requires c κs =
     let d = c .before in
     let p = start d .pre .1 in
-    (subst (λ (l : List ℕ). Placeable (start d .args .cut) l (d .crossed-edges .result)) (sym (c .wide .ensures .0)) (single-placeable _ _ (p .threshold) (p .samples) _ (one d)), c .wide .ensures .1)
+    (subst (λ (l : List ℕ). Placeable (start d .args .cut) l (d .crossed-edges .result)) (sym (c .wide .ensures .0)) (single-placeable _ _ (p .accepted) _ (one d)), c .wide .ensures .1)
 
 put-vertex-requires : tie.Need-put-vertex-requires
 put-vertex-requires c κs =
@@ -68,7 +69,7 @@ begin d = d .before .before .before .before .before
 
 -- and answers its loops
 found-is : (d : tie.After-cube-by) → d .cube-by .result .found ≡ found.Loops (length (loopsOf (begin d .args .cut) (begin d .args .corners)))
-found-is d = answer-found _ _ (begin d .pre .1 .threshold) (begin d .pre .1 .samples) (d .cube-by .result) (d .cube-by .ensures)
+found-is d = answer-found _ _ (begin d .pre .1 .accepted) (d .cube-by .result) (d .cube-by .ensures)
 
 abbrev asked : tie.After-places → tie.After-cube-by
 asked d = d .before .before .before .before .before
@@ -77,12 +78,12 @@ number-is : (d : tie.After-places) → d .before .before .before .found .given .
 number-is d = cc (found-is (asked d), d .before .before .before .found .given .1)
 
 words-are : (d : tie.After-places) → asked d .cube-by .result .words ≡ filled 4 0 (namesBy loopsOf (begin (asked d) .args .cut) (begin (asked d) .args .corners))
-words-are d = answer-words _ _ (begin (asked d) .pre .1 .threshold) (begin (asked d) .pre .1 .samples) (asked d .cube-by .result) (asked d .cube-by .ensures)
+words-are d = answer-words _ _ (begin (asked d) .pre .1 .accepted) (asked d .cube-by .result) (asked d .cube-by .ensures)
 
 offsets-are : (d : tie.After-places)
     → asked d .cube-by .result .offsets
     ≡ filled 4 origin (map (placeOf (begin (asked d) .args .cut) (begin (asked d) .args .corners)) (loopsOf (begin (asked d) .args .cut) (begin (asked d) .args .corners)))
-offsets-are d = answer-offsets _ _ (begin (asked d) .pre .1 .threshold) (begin (asked d) .pre .1 .samples) (asked d .cube-by .result) (asked d .cube-by .ensures)
+offsets-are d = answer-offsets _ _ (begin (asked d) .pre .1 .accepted) (asked d .cube-by .result) (asked d .cube-by .ensures)
 
 few : (d : tie.After-places) → length (loopsOf (begin (asked d) .args .cut) (begin (asked d) .args .corners)) ≤ 4
 few d = cube-laws joined .four (begin (asked d) .args .cut) (begin (asked d) .args .corners)

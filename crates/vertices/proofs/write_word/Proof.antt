@@ -20,7 +20,7 @@ use Rattle.vertices.specs.Tables.{Noted}
 use Rattle.vertices.proofs.Visits.{bitsOf, visit-start, visit-set, visit-in, picked-room, stored-start, stored-next, stored-end, words-next, offsets-next, noted-next, noted-end}
 use Rattle.vertices.proofs.Notes.{one-noted, noted-none}
 use Rattle.vertices.proofs.CountedWords.{active-names, by-table}
-use Rattle.vertices.proofs.Cubes.{corners-pass, written-as}
+use Rattle.vertices.proofs.Cubes.{corners-accepted, written-as}
 use Rattle.vertices.proofs.Stored.{stored-words, stored-offsets}
 use Rattle.vertices.proofs.write_word.Statement.{statement}
 use Rattle.vertices.proofs.write_word.Tie as tie
@@ -125,8 +125,7 @@ write-cube-requires c κs =
         one = λ t. rw (k .corners .ensures) (d .before .before .singles .ensures (next d) (inside d) (set d) t);
       },
       record {
-        threshold = r .threshold;
-        samples = rw (k .corners .ensures) (corners-pass _ _ _ _ (r .clear-low) (r .clear-high) (low-in d) (high-in d));
+        accepted = rw (k .corners .ensures) (corners-accepted _ _ _ _ _ (r .low) (r .high) (low-in d) (high-in d));
         words-room = rw (k .corners .ensures) (words-next _ (h .inv .0) (loops s) (wordsOf s) (offsetsOf s) (h .inv .1) ne (r .words-room));
         offsets-room = rw (k .corners .ensures) (offsets-next _ (h .inv .0) (loops s) (wordsOf s) (offsetsOf s) (h .inv .1) ne (r .offsets-room));
         numbers-room = numbers-room d;
