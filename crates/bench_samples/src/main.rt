@@ -1,6 +1,7 @@
 // Runs the samples of document 01, "Samples on the bench", and the cases around them, and writes what it got: a line for each question,
 // in hexadecimal. What it must write stands in the file stdout.
 ghost use Prim.Native.Nat.{_≤_, _<_};
+use block::Cut;
 use block::Refusal;
 use block::Size;
 use block::Sized;
@@ -121,7 +122,7 @@ fn ask_cube(corners: [u16; 8], t: u16) {
     corners_of(corners);
     number(t as u64, 4);
     io::write_all(1, b"- ");
-    let answer = cell::cube(corners, t);
+    let answer = cell::cube(corners, Cut { t: t });
     let found = answer.found;
     match found {
         Found::Loops(n) => {
@@ -265,7 +266,7 @@ fn block_of(nx: u32, ny: u32, nz: u32, samples: usize, t: u16) {
 fn ask_counts(nx: u32, ny: u32, nz: u32, samples: &[u16], t: u16) {
     io::write_all(1, b"counts ");
     block_of(nx, ny, nz, samples.len(), t);
-    let counted = mesh::counts(nx, ny, nz, samples, t);
+    let counted = mesh::counts(nx, ny, nz, samples, Cut { t: t });
     counted_is(counted);
     end_line();
 }
@@ -283,7 +284,7 @@ fn ask_mesh(
 ) {
     io::write_all(1, b"mesh ");
     block_of(nx, ny, nz, samples.len(), t);
-    let counted = mesh::mesh(nx, ny, nz, samples, t, words, offsets, quads);
+    let counted = mesh::mesh(nx, ny, nz, samples, Cut { t: t }, words, offsets, quads);
     counted_is(counted);
     end_line();
     words_of(words);

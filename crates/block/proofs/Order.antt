@@ -1,6 +1,6 @@
 -- Checks in order: one that refuses decides, and one that passes leaves it to the others.
 use mathlib.Core.Path.{_≡_, refl, sym, _∙_}
-use mathlib.Core.Logic.{_↔_}
+use mathlib.Core.Logic.{_↔_, _⊎_, inl, inr}
 use mathlib.Core.List.{List, [], _∷_, _++_}
 use Prim.Native.Nat.{ℕ, zero, suc, _<_}
 use native.Mathlib.Nat.{not-suc-le-zero, le-of-suc-le-suc}
@@ -58,6 +58,10 @@ unfolding inOrder
 order-rest Passes ks e = e
 order-rest (Refuses q) ks e = absurd (passes-refuses (sym e))
 
+pub orders-rest : (ks ls : List Checked) → inOrder (ks ++ ls) ≡ Passes → inOrder ls ≡ Passes
+orders-rest [] ls e = e
+orders-rest (k ∷ ks) ls e = orders-rest ks ls (order-rest k (ks ++ ls) e)
+
 -- ---- "given exactly when": a refusal is that of the first check that refuses, and there is none exactly if each check passes
 
 pub first-exactly : (ks : List Checked) (r : Refusal) → (inOrder ks ≡ Refuses r) ↔ First ks r
@@ -93,10 +97,22 @@ none-exactly (Passes ∷ ks) = (λ e. there (none-exactly ks .0 e), λ f. none-e
     there f (suc i) h = f i (le-of-suc-le-suc h)
 none-exactly (Refuses q ∷ ks) = (λ e. absurd (passes-refuses (sym e)), λ f. f 0 (omega arith))
 
--- what every check that refuses has, the refusal has
-pub first-has : (P : Refusal → Type 0) (ks : List Checked) → ((i : ℕ) → i < length ks → (r : Refusal) → getD ks i Passes ≡ Refuses r → P r)
-    → (r : Refusal) → inOrder ks ≡ Refuses r → P r
-first-has P ks h r e = let f = first-exactly ks r .0 e in h (f .place) (f .there) r (f .refuses)
+-- the first check refuses, or it passes and the others refuse
+pub order-splits : (k : Checked) (ks : List Checked) (r : Refusal) → inOrder (k ∷ ks) ≡ Refuses r → (k ≡ Refuses r) ⊎ ((k ≡ Passes) × (inOrder ks ≡ Refuses r))
+unfolding inOrder
+order-splits Passes ks r e = inr (refl, e)
+order-splits (Refuses q) ks r e = inl e
+
+-- what each check that refuses has, the refusal has
+abbrev pub Each : (Refusal → Type 0) → List Checked → Type 0
+Each P [] = Unit
+Each P (k ∷ ks) = ((r : Refusal) → k ≡ Refuses r → P r) × Each P ks
+
+pub first-has : (P : Refusal → Type 0) (ks : List Checked) → Each P ks → (r : Refusal) → inOrder ks ≡ Refuses r → P r
+unfolding inOrder
+first-has P [] h r e = absurd (passes-refuses e)
+first-has P (Passes ∷ ks) h r e = first-has P ks (h .1) r e
+first-has P (Refuses q ∷ ks) h r e = h .0 r e
 
 -- ---- answers: what is judged is refused as the checks say, and else accepted with what it is
 

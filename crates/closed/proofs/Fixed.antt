@@ -4,8 +4,8 @@ use mathlib.Core.Path.{_≡_, refl}
 use mathlib.Core.List.{List}
 use Prim.Native.Nat.{ℕ}
 use native.Mathlib.Omega.{arith}
-use Rattle.laws.specs.Fixed.{Fixes, Injective}
-use Rattle.laws.proofs.Fixed.{said-fixes}
+use Rattle.laws.specs.Fixed.{Fixes}
+use Rattle.laws.proofs.Fixed.{Injective, said-fixes}
 use Rattle.closed.specs.declared.Closure.the-variants.{Closed, Open, Refused}
 use Rattle.closed.specs.Closed.{saidClosure, ClosedAnswered}
 

@@ -13,7 +13,7 @@ use Rattle.laws.specs.Bits.{bit}
 use Rattle.laws.specs.Pack.{total}
 use Rattle.laws.specs.Leading.{leading}
 use Rattle.laws.proofs.Leading.{HoldsTo, leading-at, leading-all}
-use Rattle.block.specs.Answer.{accepted, inOrder, judged}
+use Rattle.block.specs.Answer.{accepted, inOrder, decided, judged}
 use Rattle.block.proofs.Rows.{given-small}
 use Rattle.closed.specs.declared.Closure.the-variants.{Refused}
 use Rattle.closed.specs.Closed.{nextPlace, sameSide, usesBefore, soundSide, sideSound, Finding, allSound, openAt, findingOf, lengthRow, ClosedAnswered}
@@ -83,9 +83,9 @@ module _ (quads : List ℕ) where
   -- ---- and what is answered
 
   pub answer-refused : (length quads % 4 ≡ 0 → ⊥) → ClosedAnswered quads (Refused (record { number = 7; value = length quads % 4 }))
-  unfolding inOrder judged
+  unfolding inOrder decided
   answer-refused h = rw (ne-eqb (length quads % 4) 0 h, given-small (length quads % 4) (omega arith))
 
   pub answer-found : length quads % 4 ≡ 0 → (f : Finding) → findingOf quads ≡ f → accepted f ≡ judged (inOrder (lengthRow quads ∷ [])) (findingOf quads)
-  unfolding inOrder judged
+  unfolding inOrder decided
   answer-found h f e = rw (eq-eqb (length quads % 4) 0 h, e)

@@ -1,8 +1,7 @@
-pub mod Order
-pub mod Table
 pub mod Numbers
 pub mod RefusalText
 pub mod Refusals
+pub mod Allowed
 pub mod Ceiling
 pub mod Told
 pub mod TheMesh

@@ -1,6 +1,5 @@
 -- A refusal's line begins with F and a mesh's text with 0; two refusals with one line are one refusal; and what is printed over a buffer is
 -- read off its front.
--- Assumes nothing.
 use Prim.Native.Nat.{ℕ, _^_, _≤_, _<_}
 use mathlib.Core.Path.{_≡_, refl, sym, ap, ap₂, _∙_}
 use mathlib.Core.List.{List, [], _∷_, _++_}
@@ -13,7 +12,6 @@ use Rattle.lines.specs.Text.{digits, numberAt, hexOf, LF}
 use Rattle.lines.specs.Output.{refusalLine, headLine, meshText, Prints}
 use Rattle.lines.proofs.Rules.{number-back}
 use Rattle.lines.proofs.Writing.{hex-length}
-use Rattle.demands.specs.Entries.{Tellable}
 
 -- ---- the first byte
 
@@ -50,15 +48,16 @@ hex-same k v w hv hw e = sym (number-back k v hv) ∙ ap (λ (xs : List ℕ). nu
 
 -- ---- two refusals
 
-pub refusal-same : (r q : Refusal) → Tellable r → Tellable q → refusalLine r ≡ refusalLine q → r ≡ q
+-- two digits tell a number, eight digits a value
+pub refusal-same : (r q : Refusal) → r .number < 256 → r .value ≤ 4294967295 → q .number < 256 → q .value ≤ 4294967295 → refusalLine r ≡ refusalLine q → r ≡ q
 unfolding refusalLine hexOf
-refusal-same r q hr hq e =
+refusal-same r q rn rv qn qv e =
     let a = parts (hexOf 2 255) (hexOf 2 255) (hexOf 2 (r .number) ++ hexOf 8 (r .value) ++ LF ∷ []) (hexOf 2 (q .number) ++ hexOf 8 (q .value) ++ LF ∷ []) refl e in
     let b = parts (hexOf 2 (r .number)) (hexOf 2 (q .number)) (hexOf 8 (r .value) ++ LF ∷ []) (hexOf 8 (q .value) ++ LF ∷ [])
     (hex-length 2 (r .number) ∙ sym (hex-length 2 (q .number))) (a .1) in
     let c = parts (hexOf 8 (r .value)) (hexOf 8 (q .value)) (LF ∷ []) (LF ∷ []) (hex-length 8 (r .value) ∙ sym (hex-length 8 (q .value))) (b .1) in
-    ap₂ (λ (n v : ℕ). record { number = n; value = v }) (hex-same 2 (r .number) (q .number) (hr .number) (hq .number) (b .0))
-    (hex-same 8 (r .value) (q .value) (small (hr .value)) (small (hq .value)) (c .0))
+    ap₂ (λ (n v : ℕ). record { number = n; value = v }) (hex-same 2 (r .number) (q .number) rn qn (b .0))
+    (hex-same 8 (r .value) (q .value) (small rv) (small qv) (c .0))
   where
     small : {v : ℕ} → v ≤ 4294967295 → v < 16 ^ 8
     small h = omega (arith, h)

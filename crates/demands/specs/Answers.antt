@@ -1,13 +1,12 @@
 -- Words for what an entry point answered, and for what its lent buffers hold of a mesh.
--- Assumes nothing.
 use Prim.Native.Nat.{ℕ, _*_, _<_}
 use mathlib.Core.Path.{_≡_}
 use mathlib.Core.List.{List}
 use lib.Ieee.{Float}
 use lib.ListN.{length, getD}
+use Rattle.block.specs.declared.Cut.{Cut}
 use Rattle.block.specs.declared.Refusal.{Refusal}
 use Rattle.block.specs.Answer.{Answer, accepted, refused}
-use Rattle.block.specs.Grey.{SixteenBit}
 use Rattle.mesh.specs.declared.Totals.{Totals}
 use Rattle.mesh.specs.declared.Counted.{Counted}
 use Rattle.mesh.specs.Answer.{saidCounts, Meshed}
@@ -21,7 +20,7 @@ abbrev pub BelowCeiling : List ℕ → Type 0
 BelowCeiling s = (k : ℕ) → k < length s → getD s k 0 < 65535
 
 -- any call of `mesh` that its promise allows and that answers counts: the buffers before it and after it
-pub record MeshCall (nx ny nz : ℕ) (s : List ℕ) (t : ℕ) : Type 0 where
+pub record MeshCall (nx ny nz : ℕ) (s : List ℕ) (cut : Cut) : Type 0 where
   pub words : List ℕ
   pub offsets : List Float
   pub quads : List ℕ
@@ -29,16 +28,13 @@ pub record MeshCall (nx ny nz : ℕ) (s : List ℕ) (t : ℕ) : Type 0 where
   pub words-after : List ℕ
   pub offsets-after : List Float
   pub quads-after : List ℕ
-  pub promise : Meshed nx ny nz s t words offsets quads answer words-after offsets-after quads-after
+  pub promise : Meshed nx ny nz s cut words offsets quads answer words-after offsets-after quads-after
   pub counts : Totals
   pub accepts : saidCounts answer ≡ accepted counts
-  pub greys : SixteenBit s
 
 -- two meshes as the buffers hold them: the same cube for every vertex, and the same quads
-pub record SameCubes {nx ny nz : ℕ} {s : List ℕ} {t : ℕ} {s′ : List ℕ} {t′ : ℕ} (a : MeshCall nx ny nz s t) (b : MeshCall nx ny nz s′ t′) : Type 0 where
-  pub count : a .counts .vertices ≡ b .counts .vertices
+pub record SameMesh {nx ny nz : ℕ} {s s′ : List ℕ} {cut cut′ : Cut} (a : MeshCall nx ny nz s cut) (b : MeshCall nx ny nz s′ cut′) : Type 0 where
+  pub vertices : a .counts .vertices ≡ b .counts .vertices
   pub cubes : (v : ℕ) → v < a .counts .vertices → getD (a .words-after) (2 * v) 0 ≡ getD (b .words-after) (2 * v) 0
-
-pub record SameQuads {nx ny nz : ℕ} {s : List ℕ} {t : ℕ} {s′ : List ℕ} {t′ : ℕ} (a : MeshCall nx ny nz s t) (b : MeshCall nx ny nz s′ t′) : Type 0 where
-  pub count : a .counts .quads ≡ b .counts .quads
+  pub quads : a .counts .quads ≡ b .counts .quads
   pub numbers : (k : ℕ) → k < 4 * a .counts .quads → getD (a .quads-after) k 0 ≡ getD (b .quads-after) k 0

@@ -104,22 +104,12 @@ said-counts-injective (counted.Refused r) (counted.Refused q) e = cc
 pub counts-fixed : (nx ny nz : ℕ) (s : List ℕ) (cut : Cut) → Fixes (CountsAnswered nx ny nz s cut)
 counts-fixed nx ny nz s cut = said-fixes saidCounts _ said-counts-injective
 
--- an answer of `mesh` with the three buffers at exit
-pub record Outcome : Type 0 where
-  pub answer : Counted
-  pub words : List ℕ
-  pub offsets : List Float
-  pub quads : List ℕ
-
-abbrev outcome : Counted → List ℕ → List Float → List ℕ → Outcome
-outcome r w o q = record { answer = r; words = w; offsets = o; quads = q }
-
--- any two outcomes that the promise of `mesh` allows are equal
+-- any two answers of `mesh`, with the three buffers at exit, that its promise allows are equal
 pub mesh-fixed : (nx ny nz : ℕ) (s : List ℕ) (cut : Cut) (w : List ℕ) (o : List Float) (q : List ℕ)
-    → Fixes (λ (x : Outcome). Meshed nx ny nz s cut w o q (x .answer) (x .words) (x .offsets) (x .quads))
+    → Fixes (λ (x : Counted × List ℕ × List Float × List ℕ). Meshed nx ny nz s cut w o q (x .0) (x .1) (x .2) (x .3))
 mesh-fixed nx ny nz s cut w o q a b p r =
-    ap₂ (λ (x : Counted) (y : List ℕ). outcome x y (a .offsets) (a .quads)) (said-counts-injective (a .answer) (b .answer) (p .answer ∙ sym (r .answer))) (p .words ∙ sym (r .words))
-    ∙ ap₂ (outcome (b .answer) (b .words)) (p .offsets ∙ sym (r .offsets)) (p .quads ∙ sym (r .quads))
+    ap₂ (λ (x : Counted) (y : List ℕ). (x, y, a .2, a .3)) (said-counts-injective (a .0) (b .0) (p .answer ∙ sym (r .answer))) (p .words ∙ sym (r .words))
+    ∙ ap₂ (λ (x : List Float) (y : List ℕ). (b .0, b .1, x, y)) (p .offsets ∙ sym (r .offsets)) (p .quads ∙ sym (r .quads))
 
 -- ---- what follows where rows 2 to 4 pass
 
@@ -127,7 +117,7 @@ pub judged-passed : {A : Type 0} (k : Checked) (a b : A) → k ≡ Passes → a 
 unfolding decided
 judged-passed k a b e f = rw (e, f)
 
-count-passed : (n : Size) (count : ℕ) → countRow n count ≡ Passes → count ≡ sampleCount n
+pub count-passed : (n : Size) (count : ℕ) → countRow n count ≡ Passes → count ≡ sampleCount n
 count-passed n count e = go (eqb count (sampleCount n)) refl e
   where
     go : (b : Bool) → eqb count (sampleCount n) ≡ b → cond b Passes (refuses 2 (sampleCount n)) ≡ Passes → count ≡ sampleCount n

@@ -1,5 +1,4 @@
 -- What a C caller finds in the places that it lends for an answer: 01's number, then values, zeros where they are not used.
--- Assumes nothing.
 use Prim.Native.Nat.{ℕ}
 use mathlib.Core.Path.{_≡_}
 use mathlib.Core.List.{List, [], _∷_}
@@ -7,7 +6,8 @@ use lib.ListN.{length, take}
 use lib.Ieee.{Float}
 use Rattle.laws.specs.Below.{over}
 use Rattle.laws.specs.Filled.{filled}
-use Rattle.block.specs.Answer.{Answer, accepted, refused, given}
+use Rattle.block.specs.Answer.{Answer, accepted, refused, given, told}
+use Rattle.block.specs.Grey.{cutOf}
 use Rattle.place.specs.declared.Crossing.{Crossing}
 use Rattle.place.specs.Crossing.{saidEdge, EdgeAnswered}
 use Rattle.place.specs.Place.{plusZero}
@@ -23,11 +23,6 @@ use Rattle.closed.specs.Closed.{Finding, allSound, openAt, saidClosure, ClosedA
 -- as many of these values as a place has room for; what is behind is kept
 abbrev pub tellOver : {A : Type 0} → List A → List A → List A
 tellOver values place = over (take (length place) values) place
-
--- 0 and what is answered, or number and value; then zeros, n numbers in all
-abbrev pub told : {A : Type 0} → ℕ → (A → List ℕ) → Answer A → List ℕ
-told n values (accepted a) = filled n 0 (0 ∷ values a)
-told n values (refused r) = filled n 0 (r .number ∷ r .value ∷ [])
 
 -- crossings
 abbrev pub toldEdge : Answer (List Float) → List ℕ
@@ -63,20 +58,20 @@ pub record EdgeTold (p q t : ℕ) (fraction : List Float) (place : List ℕ) (fr
 
 pub record CubeTold (corners : List ℕ) (t : ℕ) (words : List ℕ) (offsets : List Float) (place words′ : List ℕ) (offsets′ : List Float) (place′ : List ℕ) : Type 0 where
   pub answer : CubeAnswer
-  pub answered : CubeAnswered corners t answer
+  pub answered : CubeAnswered corners (cutOf t) answer
   pub words-told : words′ ≡ tellOver (answer .words) words
   pub offsets-told : offsets′ ≡ tellOver (triples (answer .offsets)) offsets
   pub is-told : place′ ≡ tellOver (toldCube (saidCube (answer .found))) place
 
 pub record CountsTold (nx ny nz : ℕ) (s : List ℕ) (t : ℕ) (place place′ : List ℕ) : Type 0 where
   pub answer : Counted
-  pub answered : CountsAnswered nx ny nz s t answer
+  pub answered : CountsAnswered nx ny nz s (cutOf t) answer
   pub is-told : place′ ≡ tellOver (toldCounts (saidCounts answer)) place
 
 -- the three buffers are those of `mesh`
 pub record MeshTold (nx ny nz : ℕ) (s : List ℕ) (t : ℕ) (w : List ℕ) (o : List Float) (q place w′ : List ℕ) (o′ : List Float) (q′ place′ : List ℕ) : Type 0 where
   pub answer : Counted
-  pub meshed : Meshed nx ny nz s t w o q answer w′ o′ q′
+  pub meshed : Meshed nx ny nz s (cutOf t) w o q answer w′ o′ q′
   pub is-told : place′ ≡ tellOver (toldCounts (saidCounts answer)) place
 
 pub record ClosedTold (quads place place′ : List ℕ) : Type 0 where

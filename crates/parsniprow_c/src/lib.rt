@@ -1,5 +1,6 @@
 // The library for C: exported functions over numbers and slices, each of which writes its answer to lent places. A slice is a pointer and
 // then a length. include/parsniprow.h declares and explains them.
+use block::Cut;
 use cell::CubeAnswer;
 use cell::Found;
 use closed::Closure;
@@ -48,7 +49,7 @@ pub extern "C" fn parsniprow_cube(
 )
     ensures { λ _. ⌜ CubeTold (c0 ∷ c1 ∷ c2 ∷ c3 ∷ c4 ∷ c5 ∷ c6 ∷ c7 ∷ []) t (now (words .entry)) (now (offsets .entry)) (now (answer .entry)) (now (words .exit)) (now (offsets .exit)) (now (answer .exit)) ⌝ }
 {
-    let given = cell::cube([c0, c1, c2, c3, c4, c5, c6, c7], t);
+    let given = cell::cube([c0, c1, c2, c3, c4, c5, c6, c7], Cut { t: t });
     let four = given.words;
     put(words, &four);
     let places = given.offsets;
@@ -71,7 +72,7 @@ pub extern "C" fn parsniprow_counts(
 )
     ensures { λ _. ⌜ CountsTold nx ny nz (now (samples .entry)) t (now (answer .entry)) (now (answer .exit)) ⌝ }
 {
-    let counted = mesh::counts(nx, ny, nz, samples, t);
+    let counted = mesh::counts(nx, ny, nz, samples, Cut { t: t });
     let told = tell_counts(counted);
     put(answer, &told);
 }
@@ -91,7 +92,7 @@ pub extern "C" fn parsniprow_mesh(
 )
     ensures { λ _. ⌜ MeshTold nx ny nz (now (samples .entry)) t (now (words .entry)) (now (offsets .entry)) (now (quads .entry)) (now (answer .entry)) (now (words .exit)) (now (offsets .exit)) (now (quads .exit)) (now (answer .exit)) ⌝ }
 {
-    let counted = mesh::mesh(nx, ny, nz, samples, t, words, offsets, quads);
+    let counted = mesh::mesh(nx, ny, nz, samples, Cut { t: t }, words, offsets, quads);
     let told = tell_counts(counted);
     put(answer, &told);
 }
