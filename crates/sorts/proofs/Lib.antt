@@ -1,0 +1,4 @@
+pub mod SixWords
+pub mod PlainCubes
+pub mod SortedCubes
+pub mod Fixed
