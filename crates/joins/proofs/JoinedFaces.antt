@@ -28,11 +28,11 @@ use Rattle.cube_rule.specs.Sorts.{joinedOn, one, two}
 use Rattle.cube_rule.proofs.Alike.{one-same, two-same}
 use Rattle.cube_rule.proofs.Laws.{cube-laws, cube-one, cube-two}
 use Rattle.sorts.specs.declared.Sorts.{Sorts}
-use Rattle.sorts.specs.Faces.{alternatesOf, plainOf}
+use Rattle.faces.specs.Faces.{alternatesOf, plainOf}
 use Rattle.planes.specs.Planes.{patternAt}
 use Rattle.sorts.specs.Sorting.{oneOf, twoOf, sortsOf}
 use Rattle.signs.specs.Windows.{windowCorners}
-use Rattle.sorts.proofs.PlainCubes.{plain-bit, face-bit}
+use Rattle.faces.proofs.PlainCubes.{plain-bit, face-bit}
 use Rattle.sorts.proofs.SortedCubes.{one-bit, two-bit}
 use Rattle.joins.specs.Joined.{joinedAt, joinedWords, SidesIn, withinOf, sortedOf, singlesOf, Single, Sorted}
 use Rattle.rows.specs.Rows.{WordReady}

@@ -5,7 +5,7 @@ use Prim.Native.Nat.{ℕ, _+_, _<_}
 use mathlib.Core.Path.{_≡_}
 use mathlib.Core.Bool.{Bool, true, cond, _&&_}
 use lib.Dec.{eqb}
-use Rattle.sorts.specs.Faces.{alternatesOf, plainOf}
+use Rattle.faces.specs.Faces.{alternatesOf, plainOf}
 use Rattle.sorts.specs.Sorting.{sortsOf}
 use mathlib.Core.List.{List, [], _∷_}
 use lib.Bits.{bitAnd}

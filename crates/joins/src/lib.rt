@@ -15,7 +15,7 @@ pub fn sorted(lo: &[u16], hi: &[u16], nx: usize, s: usize, cut: Cut, e: [u64; 8]
     ensures { λ r. ⌜ r ≡ sortedOf (now (lo .entry)) (now (hi .entry)) nx s cut e act ⌝ }
     ensures { λ r. ⌜ Sorted loopsOf (now (lo .entry)) (now (hi .entry)) cut nx s act r ⌝ }
 {
-    let doubtful = sorts::alternates(e);
+    let doubtful = faces::alternates(e);
     let joined = joined_words(lo, hi, nx, s, cut, within(doubtful, act));
     sorts::sorts_of(e, doubtful, joined)
 }
@@ -26,7 +26,7 @@ pub fn singles(lo: &[u16], hi: &[u16], nx: usize, s: usize, cut: Cut, e: [u64; 8
     ensures { λ r. ⌜ r ≡ singlesOf (now (lo .entry)) (now (hi .entry)) nx s cut e act ⌝ }
     ensures { λ r. ⌜ Single loopsOf (now (lo .entry)) (now (hi .entry)) cut nx s act r ⌝ }
 {
-    let plain = sorts::plain(e);
+    let plain = faces::plain(e);
     if act & plain == act {
         return plain;
     }

@@ -17,7 +17,7 @@ use Rattle.cube.specs.Table.{maskTable}
 use Rattle.cube_rule.specs.Decider.{joined, loopsOf}
 use Rattle.cube_rule.proofs.Laws.{cube-laws}
 use Rattle.sorts.specs.declared.Sorts.{Sorts}
-use Rattle.sorts.specs.Faces.{plainOf}
+use Rattle.faces.specs.Faces.{plainOf}
 use Rattle.signs.specs.Windows.{windowCorners}
 use Rattle.rows.specs.Rows.{loopsAt, picked, wordLoops, WordReady}
 use Rattle.joins.specs.Joined.{Sorted}

@@ -52,7 +52,7 @@ fn count_word(
     if act == 0 {
         return 0;
     }
-    if act & sorts::plain(e) == act {
+    if act & faces::plain(e) == act {
         return planes::ones_of(act);
     }
     let sorts = joins::sorted(lo, hi, row.nx, s, row.cut, e, act);

@@ -1,4 +1,4 @@
--- Each promise of the crate fixes its answer: any two that it allows are equal. Assumes nothing.
+-- The promise fixes the answer: any two that it allows are equal. Assumes nothing.
 use mathlib.Core.Path.{_≡_}
 use mathlib.Core.List.{List}
 use Prim.Native.Nat.{ℕ}
@@ -6,13 +6,6 @@ use Rattle.laws.specs.Fixed.{Fixes}
 use Rattle.laws.proofs.Fixed.{equation-fixes}
 use Rattle.sorts.specs.declared.Sorts.{Sorts}
 use Rattle.sorts.specs.Sorting.{sortsOf}
-use Rattle.sorts.specs.Faces.{alternatesOf, plainOf}
-
-pub alternates-fixed : (e : List ℕ) → Fixes (λ (r : List ℕ). r ≡ alternatesOf e)
-alternates-fixed e = equation-fixes (alternatesOf e)
-
-pub plain-fixed : (e : List ℕ) → Fixes (λ (r : ℕ). r ≡ plainOf e)
-plain-fixed e = equation-fixes (plainOf e)
 
 pub sorts-of-fixed : (e doubtful joined : List ℕ) → Fixes (λ (r : Sorts). r ≡ sortsOf e doubtful joined)
 sorts-of-fixed e doubtful joined = equation-fixes (sortsOf e doubtful joined)

@@ -1,4 +1,2 @@
-pub mod SixWords
-pub mod PlainCubes
 pub mod SortedCubes
 pub mod Fixed

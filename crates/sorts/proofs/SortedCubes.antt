@@ -13,10 +13,10 @@ use Rattle.cube_rule.specs.Sorts.{oddInThree, twoInThree, twoInFour, mostly, th
 use Rattle.cube_rule.proofs.Alike.{one-same, two-same}
 use Rattle.sorts.specs.declared.Sorts.{Sorts}
 use Rattle.planes.specs.Planes.{activeOf, patternAt}
-use Rattle.sorts.specs.Faces.{alternatesOf, plainAmong}
+use Rattle.faces.specs.Faces.{alternatesOf, plainAmong}
 use Rattle.sorts.specs.Sorting.{oddInThreeOf, twoInThreeOf, twoInFourOf, mostlyOf, threeOf, sixFrom, sixOf, rarerAt, rarerOf, oddOf, someOf, loneOf, oneFrom, twoFrom, oneOf, twoOf, sortsOf}
 use Rattle.planes.proofs.BitSays.{Says, says-and, says-or, says-xor}
-use Rattle.sorts.proofs.PlainCubes.{says-without, says-face, says-doubtful, says-plain}
+use Rattle.faces.proofs.PlainCubes.{says-without, says-face, says-doubtful, says-plain}
 use Rattle.planes.proofs.ActiveCubes.{sign, says-sign, unlike, says-active, pattern-holds}
 
 -- ---- the words, from those that they are made of

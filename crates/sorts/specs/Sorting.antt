@@ -7,7 +7,7 @@ use lib.Bits.{bitAnd, bitOr, bitXor}
 use lib.ListN.{getD}
 use Rattle.sorts.specs.declared.Sorts.{Sorts}
 use Rattle.planes.specs.Planes.{activeOf}
-use Rattle.sorts.specs.Faces.{withoutOf, doubtfulOf, plainAmong}
+use Rattle.faces.specs.Faces.{withoutOf, doubtfulOf, plainAmong}
 
 -- an odd number of three bits is set
 abbrev pub oddInThreeOf : ℕ → ℕ → ℕ → ℕ

@@ -1,4 +1,5 @@
--- The vertices of the cubes of a word, visited by its set bits: those passed are stored and noted, since those skipped are not picked.
+-- The vertices of the cubes of a word, visited by its set bits: each is a cube to be written, and those passed are stored and noted, since those
+-- skipped are not picked.
 -- Assumes nothing.
 use Prim.Native.Nat.{ℕ, _+_, _*_, _-_, _≤_, _<_}
 use mathlib.Core.Path.{_≡_, ap, sym, _∙_, subst}

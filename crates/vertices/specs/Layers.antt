@@ -1,5 +1,5 @@
--- The cubes of one row, 64 at a time: the cubes of a word whose bits are set, the row, and what the passes over rows and layers require and
--- promise. `lo` and `hi` are the row's windows, `n` is the size of a block, `s` its samples.
+-- The vertices of a row of cubes, 64 cubes at a time: what the buffers hold of the cubes of a word whose bits are set and of the row, and what the
+-- passes over rows and layers require and promise. `lo` and `hi` are the row's windows, `n` is the size of a block, `s` its samples.
 -- Assumes nothing.
 use Prim.Native.Nat.{ℕ, _+_, _*_, _-_, _≤_, _<_}
 use mathlib.Core.Path.{_≡_}
@@ -28,8 +28,7 @@ Clear s = (q : ℕ) → q < length s → isCeiling (getD s q 0) ≡ false
 
 -- ---- the cubes of a word
 
--- what the buffers hold of the cubes whose bits are set; the word's first cube is the cube p
--- of the row and has the number c
+-- of the cubes whose bits are set; the word's first cube is the cube p of the row and has the number c
 module _ (loopsOf : Cut → List ℕ → List ℕ) (lo hi : List ℕ) (cut : Cut) (nx act p : ℕ) where
   abbrev pub wordWords : ℕ → List ℕ
   wordWords c = below (picked act (λ (x : ℕ). wordsAt loopsOf lo hi cut nx (c + x) (p + x))) 64

@@ -2,7 +2,7 @@
 -- Assumes nothing.
 use native.Mathlib.Omega.{arith}
 use borrow.Author.Needs.{needs}
-use Rattle.sorts.proofs.SixWords.{six-words}
+use Rattle.faces.proofs.SixWords.{six-words}
 use Rattle.joins.specs.Joined.{joinedWords}
 use Rattle.joins.proofs.joined_words.Statement.{statement}
 use Rattle.joins.proofs.joined_words.Tie as tie

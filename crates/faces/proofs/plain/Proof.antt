@@ -2,9 +2,9 @@
 -- Assumes nothing.
 use borrow.Author.Needs.{needs}
 use mathlib.Core.Path.{ap, _∙_}
-use Rattle.sorts.specs.Faces.{plainAmong}
-use Rattle.sorts.proofs.plain.Statement.{statement}
-use Rattle.sorts.proofs.plain.Tie as tie
+use Rattle.faces.specs.Faces.{plainAmong}
+use Rattle.faces.proofs.plain.Statement.{statement}
+use Rattle.faces.proofs.plain.Tie as tie
 
 returns : tie.Need-returns
 returns c = c .plain-among .ensures ∙ ap (plainAmong (c .before .before .args .e)) (c .before .alternates .ensures)

@@ -1,10 +1,10 @@
 -- `alternates` meets its contract.
 -- Assumes nothing.
 use borrow.Author.Needs.{needs}
-use Rattle.sorts.specs.Faces.{alternatesOf}
-use Rattle.sorts.proofs.SixWords.{six-words}
-use Rattle.sorts.proofs.alternates.Statement.{statement}
-use Rattle.sorts.proofs.alternates.Tie as tie
+use Rattle.faces.specs.Faces.{alternatesOf}
+use Rattle.faces.proofs.SixWords.{six-words}
+use Rattle.faces.proofs.alternates.Statement.{statement}
+use Rattle.faces.proofs.alternates.Tie as tie
 
 returns : tie.Need-returns
 unfolding alternatesOf

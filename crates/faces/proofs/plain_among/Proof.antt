@@ -1,9 +1,9 @@
 -- `plain_among` meets its contract.
 -- Assumes nothing.
 use borrow.Author.Needs.{needs}
-use Rattle.sorts.proofs.PlainCubes.{plain-from}
-use Rattle.sorts.proofs.plain_among.Statement.{statement}
-use Rattle.sorts.proofs.plain_among.Tie as tie
+use Rattle.faces.proofs.PlainCubes.{plain-from}
+use Rattle.faces.proofs.plain_among.Statement.{statement}
+use Rattle.faces.proofs.plain_among.Tie as tie
 
 returns : tie.Need-returns
 returns c =

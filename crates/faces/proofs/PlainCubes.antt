@@ -13,7 +13,7 @@ use Rattle.cube_rule.specs.Plain.{alternateOn, doubtfulOn, uneven, plain}
 use Rattle.cube_rule.proofs.Alike.{plain-same}
 use Rattle.cube_rule.proofs.Tables.{ring-corner-lt}
 use Rattle.planes.specs.Planes.{activeOf, patternAt}
-use Rattle.sorts.specs.Faces.{withoutOf, alternateAt, alternatesOf, unevenOf, doubtfulOf, plainAmong, plainOf}
+use Rattle.faces.specs.Faces.{withoutOf, alternateAt, alternatesOf, unevenOf, doubtfulOf, plainAmong, plainOf}
 use Rattle.planes.proofs.BitSays.{Says, says-or, says-xor}
 use Rattle.planes.proofs.ActiveCubes.{sign, unlike, says-active, pattern-holds}
 
