@@ -9,7 +9,7 @@ use Rattle.laws.specs.Fixed.{Fixes}
 use Rattle.block.specs.declared.Cut.{Cut}
 use Rattle.vertices.proofs.Fixed.{row-written-fixed}
 use Rattle.layers.specs.declared.Marks.{Marks}
-use Rattle.vertices.specs.declared.Row.{Row}
+use Rattle.rows.specs.declared.Row.{Row}
 use Rattle.layers.specs.Steps.{half, stepX, stepY, stepZ, RowStepped, RowCounted}
 use Rattle.layers.proofs.Halves.{halves-same}
 use Rattle.layers.proofs.Steps.{step-counts}

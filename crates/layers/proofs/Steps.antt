@@ -19,7 +19,7 @@ use Rattle.quads.specs.Writing.{rowBy, Wrote}
 use Rattle.quads.proofs.Counts.{row-counted}
 use Rattle.quads.proofs.Writes.{wrote-none, wrote-as}
 use Rattle.layers.specs.declared.Marks.{Marks}
-use Rattle.vertices.specs.declared.Row.{Row}
+use Rattle.rows.specs.declared.Row.{Row}
 use Rattle.layers.specs.Steps.{half, hasQuads, stepBy, stepX, stepY, stepZ, QuadsReady, QuadsMore, RowStepped, RowCounted}
 
 -- ---- along one axis

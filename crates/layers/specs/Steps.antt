@@ -13,8 +13,9 @@ use Rattle.quads.specs.declared.Along.{Along}
 use Rattle.quads.specs.declared.Along.the-variants.{AxisX, AxisY, AxisZ}
 use Rattle.quads.specs.Writing.{rowBy}
 use Rattle.block.specs.declared.Cut.{Cut}
-use Rattle.vertices.specs.declared.Row.{Row}
-use Rattle.vertices.specs.Layers.{rowMasks, RowWritten}
+use Rattle.rows.specs.declared.Row.{Row}
+use Rattle.rows.specs.Rows.{rowMasks}
+use Rattle.vertices.specs.Layers.{RowWritten}
 use Rattle.layers.specs.declared.Marks.{Marks}
 
 -- the table of row j

@@ -2,14 +2,15 @@
 // the signs of both planes, and tables of vertex numbers. Whatever holds the samples calls it row by row.
 use quads::Along;
 use quads::Line;
-use vertices::Row;
+use rows::Row;
 ghost use mathlib.Core.Path.{_≡_};
 ghost use mathlib.Core.List.{[]};
 ghost use Prim.Native.Nat.{_+_, _*_, _<_, _≤_};
 ghost use lib.ListN.{length};
 ghost use Rattle.cube_rule.specs.Decider.{loopsOf};
 ghost use Rattle.quads.specs.Writing.{Tables, Wrote};
-ghost use Rattle.vertices.specs.Layers.{RowReady, RowRoom};
+ghost use Rattle.rows.specs.Rows.{RowReady};
+ghost use Rattle.vertices.specs.Layers.{RowRoom};
 ghost use Rattle.layers.specs.Steps.{half, hasQuads, stepBy, RowFits, QuadsReady, RowQuads, RowStepped, RowFew, RowCounted};
 
 // The number of the next vertex, and where the next quad along each axis goes.
@@ -188,7 +189,7 @@ pub fn row_counts(
     requires { ⌜ RowReady (now lo) (now hi) (row .cut) (now table) (now a) (now b) (row .nx) (row .j) × RowFits row (now a) (now b) × RowFew m ⌝ }
     ensures { λ r. ⌜ RowCounted loopsOf (now (lo .entry)) (now (hi .entry)) row (now (a .entry)) (now (b .entry)) m r ⌝ }
 {
-    let v = vertices::count_row(row, table, a, b, lo, hi);
+    let v = loop_counts::count_row(row, table, a, b, lo, hi);
     let x = count_along(Along::AxisX, row, a, a);
     let y = count_along(Along::AxisY, row, a, a);
     let z = count_along(Along::AxisZ, row, a, b);

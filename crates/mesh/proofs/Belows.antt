@@ -21,8 +21,8 @@ use Rattle.mesh_rule.specs.Buffers.{cubeWords}
 use Rattle.mesh_rule.specs.Grid.{cornersOf}
 use Rattle.mesh_rule.specs.Layers.{layerSize, layerWords, layerCount, layerFirst, rowCube, runMasks}
 use Rattle.mesh_rule.specs.Mesh.{cubeLoops, verticesBefore}
-use Rattle.vertices.specs.Cubes.{namesBy}
-use Rattle.vertices.specs.Tables.{whichOf, RowOf, RowRead}
+use Rattle.cube_vertices.specs.Cubes.{namesBy}
+use Rattle.notes.specs.Tables.{whichOf, RowOf, RowRead}
 use Rattle.vertices.proofs.Layers.{rows-next}
 use Rattle.quads.specs.Writing.{RowTable}
 use Rattle.quads.proofs.Numbers.{number-run}

@@ -22,10 +22,11 @@ use Rattle.mesh_rule.specs.Grid.{cornersOf, between}
 use Rattle.mesh_rule.specs.Mesh.{cubeLoops}
 use Rattle.mesh_rule.proofs.Counts.{most-vertices}
 use Rattle.mesh_rule.proofs.Inner.{both}
-use Rattle.vertices.specs.Cubes.{namesBy}
-use Rattle.vertices.specs.Layers.{Ready, RowReady, RowRoom}
-use Rattle.vertices.specs.Tables.{Numbered}
-use Rattle.vertices.proofs.Notes.{numbered}
+use Rattle.cube_vertices.specs.Cubes.{namesBy}
+use Rattle.vertices.specs.Layers.{Ready, RowRoom}
+use Rattle.rows.specs.Rows.{RowReady}
+use Rattle.notes.specs.Tables.{Numbered}
+use Rattle.notes.proofs.Notes.{numbered}
 use Rattle.vertices.proofs.CubeCorners.{Windows, windows-accepted}
 use Rattle.vertices.proofs.Layers.{row-bounds, row-ready, masks-are, words-are, offsets-are, numbers-are}
 use Rattle.quads.specs.declared.Along.{Along}
@@ -35,7 +36,7 @@ use Rattle.quads.specs.Writing.{RowTable, RingTables, rowBy, rowQuads}
 use Rattle.quads.proofs.Crossed.{crossed-first, planes-x, planes-y, planes-z}
 use Rattle.quads.proofs.RowQuads.{row-count, row-is}
 use Rattle.layers.specs.declared.Marks.{Marks}
-use Rattle.vertices.specs.declared.Row.{Row}
+use Rattle.rows.specs.declared.Row.{Row}
 use Rattle.layers.specs.Steps.{half, hasQuads, stepBy, RowFits, QuadsReady, RowStepped, RowFew, RowCounted}
 use Rattle.layers.proofs.Halves.{half-long}
 use Rattle.layers.proofs.Steps.{step-counts}

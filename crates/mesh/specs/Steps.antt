@@ -15,7 +15,7 @@ use Rattle.mesh_rule.specs.Mesh.{verticesBefore}
 use Rattle.mesh_rule.specs.Layers.{rowCube, rowSample, runMasks, quadsFrom}
 use Rattle.quads.specs.Writing.{rowQuads}
 use Rattle.layers.specs.declared.Marks.{Marks}
-use Rattle.vertices.specs.declared.Row.{Row}
+use Rattle.rows.specs.declared.Row.{Row}
 
 -- a block that rows 1 and 2 accept
 pub record Block (n : Size) (s : List ℕ) : Type 0 where

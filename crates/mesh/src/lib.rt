@@ -5,7 +5,7 @@ use block::Refusal;
 use block::Size;
 use block::Sized;
 use layers::Marks;
-use vertices::Row;
+use rows::Row;
 ghost use mathlib.Core.Path.{_≡_};
 ghost use mathlib.Core.List.{_++_};
 ghost use Prim.Native.Nat.{_+_, _-_, _/_, _<_, _≤_};
@@ -218,7 +218,7 @@ fn note_below(
     let h = 512 * (j % 2);
     let low = 2 * below;
     let high = 2 * first;
-    vertices::note_row(
+    notes::note_row(
         &words[low..high],
         passed,
         below,

@@ -19,9 +19,9 @@ use Rattle.laws.proofs.Words.{digit-holds, word-of, word-ones}
 use Rattle.block.specs.declared.Cut.{Cut}
 use Rattle.block.specs.declared.Size.{Size}
 use Rattle.mesh_rule.specs.Grid.{between}
-use Rattle.signs.specs.Signs.{alongX, alongY, alongZ}
-use Rattle.vertices.specs.Layers.{picked}
-use Rattle.vertices.proofs.Visits.{bitsOf}
+use Rattle.planes.specs.Planes.{alongX, alongY, alongZ}
+use Rattle.rows.specs.Rows.{picked}
+use Rattle.rows.proofs.Visits.{bitsOf}
 use Rattle.quads.specs.declared.Along.{Along}
 use Rattle.quads.specs.declared.Along.the-variants.{AxisX, AxisY, AxisZ}
 use Rattle.quads.specs.Edges.{alongAxis, RowIn, Planes, wordsIn, edgesOf, edgeCount}

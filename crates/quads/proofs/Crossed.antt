@@ -21,10 +21,11 @@ use Rattle.block.specs.Numbering.{Axis, X, Y, Z}
 use Rattle.block.specs.Size.{Limits}
 use Rattle.mesh_rule.specs.Grid.{between, inner, crossedFrom}
 use Rattle.mesh_rule.proofs.Inner.{both, Mid, mid-between}
-use Rattle.signs.specs.Signs.{Plane, rowSign, alongX, alongY, alongZ, limitOf, innerOf}
-use Rattle.signs.proofs.Edges.{along-x-is, along-y-is, along-z-is}
-use Rattle.signs.proofs.Masks.{word-limited, word-inner}
-use Rattle.signs.proofs.Planes.{word-at, further-word}
+use Rattle.signs.specs.Signs.{Plane, rowSign}
+use Rattle.planes.specs.Planes.{alongX, alongY, alongZ, limitOf, innerOf}
+use Rattle.planes.proofs.Edges.{along-x-is, along-y-is, along-z-is, further-word}
+use Rattle.planes.proofs.Masks.{word-limited, word-inner}
+use Rattle.signs.proofs.Planes.{word-at}
 use Rattle.signs.proofs.Rows.{row-bit}
 use Rattle.quads.specs.declared.Along.{Along}
 use Rattle.quads.specs.declared.Along.the-variants.{AxisX, AxisY, AxisZ}

@@ -32,8 +32,8 @@ use Rattle.mesh_rule.specs.Mesh.{cubeLoops, verticesOf, verticesBefore, vertexN
 use Rattle.mesh_rule.proofs.Holders.{first-lt}
 use Rattle.mesh_rule.proofs.Inner.{CrossedIn}
 use Rattle.mesh_rule.proofs.Numbers.{one-for-each-loop, corners-of-number}
-use Rattle.vertices.specs.Cubes.{namesBy}
-use Rattle.vertices.specs.Tables.{whichOf, numberAt}
+use Rattle.cube_vertices.specs.Cubes.{namesBy}
+use Rattle.notes.specs.Tables.{whichOf, numberAt}
 use Rattle.quads.specs.Writing.{RowTable}
 
 -- ---- which vertex has an edge

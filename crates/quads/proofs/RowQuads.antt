@@ -23,11 +23,11 @@ use Rattle.cube_rule.specs.Links.{Decider}
 use Rattle.mesh_rule.specs.Grid.{metal, inner, between, crossedFrom}
 use Rattle.mesh_rule.specs.Mesh.{Quad, flat}
 use Rattle.mesh_rule.proofs.Inner.{both, inner-facts, CrossedIn}
-use Rattle.signs.specs.Signs.{limitOf, innerOf, alongX, alongY, alongZ}
-use Rattle.signs.proofs.Masks.{limit-clears, inner-clears, inner-in}
+use Rattle.planes.specs.Planes.{limitOf, innerOf, alongX, alongY, alongZ}
+use Rattle.planes.proofs.Masks.{limit-clears, inner-clears, inner-in}
 use Rattle.signs.proofs.Planes.{sign-bit}
-use Rattle.vertices.specs.Layers.{picked}
-use Rattle.vertices.proofs.Visits.{picked-set, picked-unset}
+use Rattle.rows.specs.Rows.{picked}
+use Rattle.rows.proofs.Visits.{picked-set, picked-unset}
 use Rattle.quads.specs.declared.Along.{Along}
 use Rattle.quads.specs.declared.Along.the-variants.{AxisX, AxisY, AxisZ}
 use Rattle.quads.specs.Edges.{alongAxis, crossedOn, RowIn, Planes, wordsIn, edgesOf}

@@ -14,9 +14,9 @@ use Rattle.laws.proofs.Below.{length-below}
 use Rattle.laws.proofs.Stores.{sets-join, sets-length}
 use Rattle.laws.proofs.Visit.{Left, below-none, below-one}
 use Rattle.mesh_rule.specs.Mesh.{quad, turned, flat}
-use Rattle.vertices.specs.Layers.{picked}
-use Rattle.vertices.specs.Tables.{numberAt}
-use Rattle.vertices.proofs.Visits.{bitsOf, picked-next, picked-end, picked-room}
+use Rattle.rows.specs.Rows.{picked}
+use Rattle.notes.specs.Tables.{numberAt}
+use Rattle.rows.proofs.Visits.{bitsOf, picked-next, picked-end, picked-room}
 use Rattle.quads.specs.Writing.{quadBy, Wrote}
 
 pub wrote-none : (from : ℕ) (b : List ℕ) → Wrote [] from b b from

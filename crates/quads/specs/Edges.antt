@@ -13,7 +13,8 @@ use Rattle.block.specs.declared.Size.{Size}
 use Rattle.block.specs.Numbering.{Axis, X, Y, Z}
 use Rattle.block.specs.Size.{Limits}
 use Rattle.mesh_rule.specs.Grid.{inner, crossedFrom}
-use Rattle.signs.specs.Signs.{Plane, alongX, alongY, alongZ, limitOf, innerOf}
+use Rattle.signs.specs.Signs.{Plane}
+use Rattle.planes.specs.Planes.{alongX, alongY, alongZ, limitOf, innerOf}
 use Rattle.quads.specs.declared.Along.{Along}
 use Rattle.quads.specs.declared.Along.the-variants.{AxisX, AxisY, AxisZ}
 

@@ -16,9 +16,9 @@ use Rattle.block.specs.Numbering.{Axis}
 use Rattle.mesh_rule.specs.Grid.{cornersOf}
 use Rattle.mesh_rule.specs.Layers.{rowCube}
 use Rattle.mesh_rule.specs.Mesh.{quad, turned, flat, quadAt, cubeLoops, verticesBefore}
-use Rattle.vertices.specs.Cubes.{namesBy}
-use Rattle.vertices.specs.Layers.{picked}
-use Rattle.vertices.specs.Tables.{numberAt, Numbered}
+use Rattle.cube_vertices.specs.Cubes.{namesBy}
+use Rattle.rows.specs.Rows.{picked}
+use Rattle.notes.specs.Tables.{numberAt, Numbered}
 use Rattle.quads.specs.declared.Along.{Along}
 use Rattle.quads.specs.declared.Along.the-variants.{AxisX, AxisY, AxisZ}
 use Rattle.quads.specs.declared.Order.{Order}

@@ -6,10 +6,9 @@ ghost use mathlib.Core.List.{[], _∷_};
 ghost use Prim.Native.Nat.{ℕ, _+_, _*_, _<_, _≤_};
 ghost use lib.ListN.{length};
 ghost use lib.Seq.{sets};
-ghost use lib.Count.{ones};
 ghost use Rattle.laws.specs.Bits.{holds};
 ghost use Rattle.mesh_rule.specs.Mesh.{quad, turned, flat};
-ghost use Rattle.vertices.specs.Tables.{numberAt};
+ghost use Rattle.notes.specs.Tables.{numberAt};
 ghost use Rattle.quads.specs.Edges.{edgesOf, edgeCount};
 ghost use Rattle.quads.specs.Writing.{orderOf, quadBy, wordBy, rowBy, Reach, Tables, Wrote};
 
@@ -56,18 +55,10 @@ fn edges(along: Along, a: &[u64], b: &[u64], nx: usize, j: usize, w: usize) -> u
 {
     let q = 5 * j + w;
     match along {
-        Along::AxisX => signs::along_x(a, q) & signs::limit(nx - 1, w),
-        Along::AxisY => signs::along_y(a, q) & signs::inner(nx, w),
-        Along::AxisZ => signs::along_z(a, b, q) & signs::inner(nx, w),
+        Along::AxisX => planes::along_x(a, q) & planes::limit(nx - 1, w),
+        Along::AxisY => planes::along_y(a, q) & planes::inner(nx, w),
+        Along::AxisZ => planes::along_z(a, b, q) & planes::inner(nx, w),
     }
-}
-
-// The ones of a word.
-fn ones_of(d: u64) -> usize
-    ensures { λ r. ⌜ r ≡ ones d ⌝ }
-    ensures { λ r. ⌜ r ≤ 64 ⌝ }
-{
-    u64::count_ones(d) as usize
 }
 
 // How many crossed inner edges start from row j of a plane: `a` holds the signs of the plane, `b` those of the plane above where the edges run
@@ -81,7 +72,7 @@ pub fn count_row(along: Along, a: &[u64], b: &[u64], nx: usize, j: usize) -> usi
     let mut w: usize = 0;
     while 64 * w < nx {
         let d = edges(along, a, b, nx, j, w);
-        m += ones_of(d);
+        m += planes::ones_of(d);
         w += 1;
     }
     m

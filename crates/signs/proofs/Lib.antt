@@ -1,11 +1,5 @@
 pub mod Rows
-pub mod Masks
+pub mod Windows
 pub mod Planes
-pub mod Cubes
 pub mod RowSigns
-pub mod BitSays
-pub mod SixWords
-pub mod PlainCubes
-pub mod SortedCubes
-pub mod Edges
 pub mod Fixed

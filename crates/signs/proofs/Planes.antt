@@ -9,13 +9,13 @@ use lib.ListN.{length, getD}
 use Rattle.laws.specs.Below.{over}
 use Rattle.laws.specs.Bits.{bit}
 use Rattle.laws.proofs.Over.{each, each-length, over-length, over-at}
-use Rattle.laws.proofs.Words.{Word, word-further, word-bit}
+use Rattle.laws.proofs.Words.{Word, word-bit}
 use Rattle.block.specs.declared.Cut.{Cut}
 use Rattle.block.specs.declared.Size.{Size}
 use Rattle.block.specs.Numbering.{sampleCount}
 use Rattle.block.specs.Size.{Limits}
 use Rattle.mesh_rule.specs.Grid.{metal}
-use Rattle.signs.specs.Signs.{rowSign, rowWord, planeWords, Plane, furtherOf, furtherAt}
+use Rattle.signs.specs.Signs.{rowSign, rowWord, planeWords, Plane}
 use Rattle.signs.specs.Steps.{rowFrom, planeFrom}
 use Rattle.signs.proofs.Rows.{row-bit, row-in, row-room}
 
@@ -64,30 +64,9 @@ module _ {n : Size} {s : List ℕ} {cut : Cut} {k : ℕ} {ws : List ℕ} (p : Pl
   pub word-at : w < 5 → Word (getD ws (5 * j + w) 0) (λ i. rowSign n s cut j k (64 * w + i)) 64
   word-at h = record { is = p .word j w hj h; bit = λ i. row-bit n s cut j k (64 * w + i) }
 
-  -- and one sample further on
-  pub further-word : w < 4 → Word (furtherAt ws (5 * j + w)) (λ i. rowSign n s cut j k (64 * w + (1 + i))) 64
-  unfolding furtherOf
-  further-word h =
-      word-further (word-at (omega arith))
-      (record { is = ap (λ (q : ℕ). getD ws q 0) next ∙ p .word j (w + 1) hj (omega arith); bit = λ i. row-bit n s cut j k (64 * (w + 1) + i) })
-      (ap (rowSign n s cut j k) seam)
-    where
-      next : 5 * j + w + 1 ≡ 5 * j + (w + 1)
-      next = omega arith
-
-      seam : 64 * w + 64 ≡ 64 * (w + 1) + 0
-      seam = omega arith
-
   -- bit i of a word is the sign of sample 64 w + i of the row
   pub sign-bit : (i : ℕ) → w < 5 → i < 64 → 64 * w + i < n .nx → getD ws (5 * j + w) 0 / 2 ^ i % 2 ≡ bit (metal n s cut (64 * w + i) j k)
   sign-bit i hw hi hx = word-bit (word-at hw) i hi ∙ row-in n s cut j k (64 * w + i) hx
-
-  pub further-bit : (i : ℕ) → w < 4 → i < 64 → 64 * w + i + 1 < n .nx → furtherAt ws (5 * j + w) / 2 ^ i % 2 ≡ bit (metal n s cut (64 * w + i + 1) j k)
-  further-bit i hw hi hx =
-      word-bit (further-word hw) i hi ∙ ap (rowSign n s cut j k) next ∙ row-in n s cut j k (64 * w + i + 1) hx
-    where
-      next : 64 * w + (1 + i) ≡ 64 * w + i + 1
-      next = omega arith
 
 -- the row above, five words further on
 pub row-sign-bit : {n : Size} {s : List ℕ} {cut : Cut} {k : ℕ} {ws : List ℕ} (p : Plane n s cut k ws) (j w i : ℕ) → j + 1 < n .ny → w < 4 → i < 64 → 64 * w + i < n .nx

@@ -12,7 +12,7 @@ use Rattle.laws.proofs.Over.{each, over-put}
 use Rattle.block.specs.declared.Cut.{Cut}
 use Rattle.signs.specs.Steps.{rowFrom, planeFrom, fiveWords}
 use Rattle.signs.specs.Windows.{Part}
-use Rattle.signs.proofs.Cubes.{part-of, same-row}
+use Rattle.signs.proofs.Windows.{part-of, same-row}
 
 -- five places more of a buffer whose front is written
 five-more : (f : ℕ → ℕ) (b l : List ℕ) (q v0 v1 v2 v3 v4 : ℕ) → l ≡ over (each f q) b → v0 ≡ f q → v1 ≡ f (q + 1) → v2 ≡ f (q + 2) → v3 ≡ f (q + 3) → v4 ≡ f (q + 4) → q + 5 ≤ length b

@@ -1,4 +1,3 @@
 pub mod Signs
-pub mod Sorting
 pub mod Steps
 pub mod Windows

@@ -17,10 +17,11 @@ use Rattle.mesh_rule.specs.Grid.{cornersOf}
 use Rattle.mesh_rule.specs.Layers.{runMasks, runWords, runOffsets, rowCube}
 use Rattle.mesh_rule.specs.Mesh.{cubeLoops}
 use Rattle.signs.specs.Windows.{windowCorners, Part}
-use Rattle.signs.proofs.Cubes.{part-of, two-rows}
-use Rattle.vertices.specs.Cubes.{namesBy, wordsBy, offsetsBy, loopsAt, namesAt}
-use Rattle.vertices.specs.Layers.{rowMasks, rowWords, rowOffsets, Ready, RowReady}
-use Rattle.vertices.specs.Tables.{whichOf, Numbered}
+use Rattle.signs.proofs.Windows.{part-of, two-rows}
+use Rattle.cube_vertices.specs.Cubes.{namesBy, wordsBy, offsetsBy, namesAt}
+use Rattle.rows.specs.Rows.{loopsAt, rowMasks, RowReady}
+use Rattle.vertices.specs.Layers.{rowWords, rowOffsets, Ready}
+use Rattle.notes.specs.Tables.{whichOf, Numbered}
 use Rattle.vertices.proofs.CubeCorners.{Windows, rows-in, window-corners}
 
 -- rows of m in layers of h: one row more

@@ -1,12 +1,5 @@
 pub mod CubeCorners
-pub mod Stored
-pub mod Notes
-pub mod ReadBack
-pub mod Cubes
-pub mod Visits
-pub mod Words
+pub mod Writes
 pub mod Rows
 pub mod Layers
-pub mod JoinedFaces
-pub mod CountedWords
 pub mod Fixed

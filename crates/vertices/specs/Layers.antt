@@ -1,10 +1,10 @@
--- The cubes of one row, 64 at a time: the cubes of a word whose bits are set, the row, and what the passes over rows and layers require and
--- promise. `lo` and `hi` are the row's windows, `n` is the size of a block, `s` its samples.
+-- The vertices of a row of cubes, 64 cubes at a time: what the buffers hold of the cubes of a word whose bits are set and of the row, and what the
+-- passes over rows and layers require and promise. `lo` and `hi` are the row's windows, `n` is the size of a block, `s` its samples.
 -- Assumes nothing.
 use Prim.Native.Nat.{ℕ, _+_, _*_, _-_, _≤_, _<_}
 use mathlib.Core.Path.{_≡_}
-use mathlib.Core.Bool.{true, cond}
-use mathlib.Core.List.{List, []}
+use mathlib.Core.Bool.{true}
+use mathlib.Core.List.{List}
 use lib.ListN.{length}
 use lib.Ieee.{Float}
 use Rattle.laws.specs.Below.{below}
@@ -15,38 +15,20 @@ use Rattle.block.specs.Numbering.{sampleCount}
 use Rattle.block.specs.Accepted.{Accepted}
 use Rattle.block.specs.Size.{Limits}
 use Rattle.cube.specs.Table.{maskTable}
-use Rattle.cube_rule.specs.Edges.{patternOf}
-use Rattle.cube_rule.specs.Plain.{mixed}
-use Rattle.signs.specs.Signs.{Plane, patternAt}
-use Rattle.signs.specs.Windows.{windowCorners, TwoRows}
-use Rattle.vertices.specs.Cubes.{loopsAt, namesAt, wordsAt, offsetsAt, Stored}
-use Rattle.vertices.specs.Tables.{Noted}
+use Rattle.signs.specs.Signs.{Plane}
+use Rattle.rows.specs.Rows.{loopsAt, picked, wordLoops, rowMasks}
+use Rattle.cube_vertices.specs.Cubes.{namesAt, wordsAt, offsetsAt, Stored}
+use Rattle.notes.specs.Tables.{Noted}
 
 -- ---- the cubes of a word
 
--- the list of x, if bit x of the word is set
-abbrev pub picked : {A : Type 0} → ℕ → (ℕ → List A) → ℕ → List A
-picked act f x = cond (holds act x) (f x) []
-
--- of the cubes whose bits are set: their masks, their vertices' words, and what the buffers hold of them; the word's first cube is the cube p
--- of the row and has the number c
+-- of the cubes whose bits are set; the word's first cube is the cube p of the row and has the number c
 module _ (loopsOf : Cut → List ℕ → List ℕ) (lo hi : List ℕ) (cut : Cut) (nx act p : ℕ) where
-  abbrev pub wordLoops : List ℕ
-  wordLoops = below (picked act (λ (x : ℕ). loopsAt loopsOf lo hi cut nx (p + x))) 64
-
   abbrev pub wordWords : ℕ → List ℕ
   wordWords c = below (picked act (λ (x : ℕ). wordsAt loopsOf lo hi cut nx (c + x) (p + x))) 64
 
   abbrev pub wordOffsets : List Float
   wordOffsets = below (picked act (λ (x : ℕ). offsetsAt loopsOf lo hi cut nx (p + x))) 64
-
--- the cubes whose bits are set lie in the windows, their signs are mixed, `e` has their sign patterns, and the table is the table of 256 masks
-pub record WordReady (lo hi : List ℕ) (cut : Cut) (table : List ℕ) (nx p : ℕ) (e : List ℕ) (act : ℕ) : Type 0 where
-  pub masks : table ≡ maskTable
-  pub low-in : (x : ℕ) → x < 64 → holds act x ≡ true → p + x + 1 + nx < length lo
-  pub high-in : (x : ℕ) → x < 64 → holds act x ≡ true → p + x + 1 + nx < length hi
-  pub signs : (x : ℕ) → x < 64 → holds act x ≡ true → patternAt e x ≡ patternOf cut (windowCorners nx lo hi (p + x))
-  pub active : (x : ℕ) → x < 64 → holds act x ≡ true → mixed (holds (patternAt e x)) ≡ true
 
 -- neither row 3 nor row 4 refuses the row, and there is room for the vertices from the vertex v on
 pub record WordRoom (loopsOf : Cut → List ℕ → List ℕ) (lo hi : List ℕ) (cut : Cut) (nx p act c v : ℕ) (words : List ℕ) (offsets : List Float) (numbers : List ℕ) : Type 0 where
@@ -66,26 +48,13 @@ pub record WordWritten (loopsOf : Cut → List ℕ → List ℕ) (lo hi : List �
 
 -- of the row's cubes
 module _ (loopsOf : Cut → List ℕ → List ℕ) (lo hi : List ℕ) (cut : Cut) (nx : ℕ) where
-  abbrev pub rowMasks : List ℕ
-  rowMasks = below (loopsAt loopsOf lo hi cut nx) (nx - 1)
-
   abbrev pub rowWords : ℕ → List ℕ
   rowWords c = below (λ (x : ℕ). wordsAt loopsOf lo hi cut nx (c + x) x) (nx - 1)
 
   abbrev pub rowOffsets : List Float
   rowOffsets = below (offsetsAt loopsOf lo hi cut nx) (nx - 1)
 
--- what a pass over a row requires: its windows, the sign words of the planes that they are of, and the table of 256 masks
-pub record RowReady (lo hi : List ℕ) (cut : Cut) (table a b : List ℕ) (nx j : ℕ) : Type 0 where
-  pub short : 2 ≤ nx
-  pub long : nx ≤ 256
-  pub low-long : length lo ≡ 2 * nx
-  pub high-long : length hi ≡ 2 * nx
-  pub masks : table ≡ maskTable
-  pub lower : TwoRows cut nx lo j a
-  pub upper : TwoRows cut nx hi j b
-
--- and what one that writes requires besides: neither row 3 nor row 4 refuses, there is room from the vertex v on, and numbers fit
+-- what a pass that writes the row requires besides `RowReady`: neither row 3 nor row 4 refuses, there is room from the vertex v on, and numbers fit
 pub record RowRoom (loopsOf : Cut → List ℕ → List ℕ) (lo hi : List ℕ) (cut : Cut) (nx c v : ℕ) (words : List ℕ) (offsets : List Float) (numbers : List ℕ) : Type 0 where
   pub small : c ≤ 16711680
   pub low : Accepted cut lo

@@ -1,4 +1,1 @@
-pub mod Tables
-pub mod Cubes
 pub mod Layers
-pub mod Joined

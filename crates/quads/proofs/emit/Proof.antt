@@ -8,8 +8,8 @@ use lib.Count.{trailingZeros}
 use lib.ListN.{length}
 use Rattle.laws.specs.Below.{below}
 use Rattle.laws.proofs.Visit.{Left, left-next}
-use Rattle.vertices.specs.Layers.{picked}
-use Rattle.vertices.proofs.Visits.{bitsOf, visit-start, visit-set, visit-in}
+use Rattle.rows.specs.Rows.{picked}
+use Rattle.rows.proofs.Visits.{bitsOf, visit-start, visit-set, visit-in}
 use Rattle.quads.specs.Writing.{quadBy, Wrote}
 use Rattle.quads.proofs.RowQuads.{quad-four}
 use Rattle.quads.proofs.Writes.{wrote-length, words-none, emit-room, emit-next, emit-end}

@@ -1,6 +1,6 @@
 -- `number` meets its contract: two places of the table.
 -- Assumes nothing.
-use Rattle.vertices.specs.Tables.{numberAt}
+use Rattle.notes.specs.Tables.{numberAt}
 use borrow.Author.Needs.{needs}
 use Rattle.quads.proofs.number.Statement.{statement}
 use Rattle.quads.proofs.number.Tie as tie

@@ -5,8 +5,9 @@ use Prim.Native.Nat.{_-_, _≤_, _<_}
 use denote.Ref.{now}
 use Rattle.cube_rule.specs.Decider.{joined, loopsOf}
 use Rattle.cube_rule.proofs.Laws.{cube-laws}
-use Rattle.vertices.proofs.Rows.{RowPart, WordTold, row-start, row-next, row-end, row-room, told-ready}
-use Rattle.vertices.proofs.Stored.{stored-words, stored-offsets}
+use Rattle.vertices.proofs.Rows.{RowPart, row-start, row-next, row-end, row-room}
+use Rattle.rows.proofs.WordSteps.{WordTold, told-ready}
+use Rattle.cube_vertices.proofs.Stored.{stored-words, stored-offsets}
 use borrow.Author.Needs.{needs}
 use native.Mathlib.Omega.{arith}
 use Rattle.vertices.proofs.write_row.Statement.{statement}

@@ -14,14 +14,15 @@ use Rattle.cube_rule.specs.Decider.{loopsOf}
 use Rattle.laws.specs.Below.{below}
 use Rattle.laws.specs.Bits.{holds}
 use Rattle.laws.proofs.Visit.{Left, left-next}
-use Rattle.vertices.specs.Cubes.{loopsAt, namesAt, wordsAt, offsetsAt, Stored}
-use Rattle.vertices.specs.Layers.{picked}
-use Rattle.vertices.specs.Tables.{Noted}
-use Rattle.vertices.proofs.Visits.{bitsOf, visit-start, visit-set, visit-in, picked-room, stored-start, stored-next, stored-end, words-next, offsets-next, noted-next, noted-end}
-use Rattle.vertices.proofs.Notes.{one-noted, noted-none}
-use Rattle.vertices.proofs.CountedWords.{active-names, by-table}
-use Rattle.vertices.proofs.Cubes.{corners-accepted, written-as}
-use Rattle.vertices.proofs.Stored.{stored-words, stored-offsets}
+use Rattle.rows.specs.Rows.{loopsAt, picked}
+use Rattle.cube_vertices.specs.Cubes.{namesAt, wordsAt, offsetsAt, Stored}
+use Rattle.notes.specs.Tables.{Noted}
+use Rattle.rows.proofs.Visits.{bitsOf, visit-start, visit-set, visit-in, picked-room}
+use Rattle.vertices.proofs.Writes.{stored-start, stored-next, stored-end, words-next, offsets-next, noted-next, noted-end, active-names, corners-accepted}
+use Rattle.notes.proofs.Notes.{one-noted, noted-none}
+use Rattle.rows.proofs.Words.{by-table}
+use Rattle.cube_vertices.proofs.Cubes.{written-as}
+use Rattle.cube_vertices.proofs.Stored.{stored-words, stored-offsets}
 use Rattle.vertices.proofs.write_word.Statement.{statement}
 use Rattle.vertices.proofs.write_word.Tie as tie
 
@@ -122,7 +123,7 @@ write-cube-requires c κs =
     let r = s .pre .1 in (
       record {
         masks = s .pre .0 .masks;
-        one = λ t. rw (k .corners .ensures) (d .before .before .singles .ensures (next d) (inside d) (set d) t);
+        one = λ t. rw (k .corners .ensures) (d .before .before .singles .ensures .1 (next d) (inside d) (set d) t);
       },
       record {
         accepted = rw (k .corners .ensures) (corners-accepted _ _ _ _ _ (r .low) (r .high) (low-in d) (high-in d));

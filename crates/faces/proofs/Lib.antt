@@ -1,0 +1,3 @@
+pub mod SixWords
+pub mod PlainCubes
+pub mod Fixed

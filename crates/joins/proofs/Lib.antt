@@ -1,0 +1,2 @@
+pub mod JoinedFaces
+pub mod Fixed

@@ -1,0 +1,84 @@
+// How many loops the cubes of a row have. Cubes whose corners have one sign are passed over 64 at a time, and so are the cubes with one loop and with
+// two found; only the others are linked.
+use block::Cut;
+use rows::Row;
+ghost use mathlib.Core.Path.{_≡_};
+ghost use Prim.Native.Nat.{_+_, _*_, _<_, _≤_};
+ghost use lib.ListN.{length};
+ghost use Rattle.cube_rule.specs.Decider.{loopsOf};
+ghost use Rattle.cube.specs.Table.{maskTable};
+ghost use Rattle.rows.specs.Rows.{wordLoops, WordReady, rowMasks, RowReady};
+
+// How many loops the cubes of a row have, whose windows are `lo` and `hi`; rows j and j + 1 of a and b hold their signs.
+pub fn count_row(
+    row: Row,
+    table: &[u32; 256],
+    a: &[u64],
+    b: &[u64],
+    lo: &[u16],
+    hi: &[u16],
+) -> usize
+    requires { ⌜ RowReady (now lo) (now hi) (row .cut) (now table) (now a) (now b) (row .nx) (row .j) ⌝ }
+    ensures { λ r. ⌜ r ≡ length (rowMasks loopsOf (now (lo .entry)) (now (hi .entry)) (row .cut) (row .nx)) ⌝ }
+    ensures { λ r. ⌜ r ≤ 1020 ⌝ }
+{
+    let cubes = row.nx - 1;
+    let mut w: usize = 0;
+    let mut m: usize = 0;
+    while 64 * w < cubes {
+        let e = planes::eight(a, b, 5 * row.j + w);
+        let act = planes::active(e) & planes::limit(cubes, w);
+        m += count_word(row, lo, hi, table, 64 * w, e, act);
+        w += 1;
+    }
+    m
+}
+
+// How many loops the cubes of a word have whose bits are set in `act`; its first cube is the cube s of the row, and `e` has the signs of its
+// cubes' corners. Cubes with one loop and with two are counted by their bits; only the others are visited.
+fn count_word(
+    row: Row,
+    lo: &[u16],
+    hi: &[u16],
+    table: &[u32; 256],
+    s: usize,
+    e: [u64; 8],
+    act: u64,
+) -> usize
+    requires { ⌜ WordReady (now lo) (now hi) (row .cut) (now table) (row .nx) s e act ⌝ }
+    ensures { λ r. ⌜ r ≡ length (wordLoops loopsOf (now (lo .entry)) (now (hi .entry)) (row .cut) (row .nx) act s) ⌝ }
+    ensures { λ r. ⌜ r ≤ 256 ⌝ }
+{
+    if act == 0 {
+        return 0;
+    }
+    if act & faces::plain(e) == act {
+        return planes::ones_of(act);
+    }
+    let sorts = joins::sorted(lo, hi, row.nx, s, row.cut, e, act);
+    let one = sorts.one & act;
+    let left = act ^ one;
+    let two = sorts.two & left;
+    let mut w = left ^ two;
+    let mut i: usize = 0;
+    let mut m = planes::ones_of(one) + 2 * planes::ones_of(two);
+    while w != 0 {
+        let k = u64::trailing_zeros(w) as usize;
+        let x = i + k;
+        let cs = rows::corners(lo, hi, row.nx, s + x);
+        m += count_cube(row.cut, cs, table);
+        w = (w >> k) >> 1;
+        i = x + 1;
+    }
+    m
+}
+
+// How many loops a cube has.
+fn count_cube(cut: Cut, corners: [u16; 8], table: &[u32; 256]) -> usize
+    requires { ⌜ now table ≡ maskTable ⌝ }
+    ensures { λ r. ⌜ r ≡ length (loopsOf cut corners) ⌝ }
+    ensures { λ r. ⌜ r ≤ 4 ⌝ }
+{
+    let loops = cube::loops_of(table, corners, cut);
+    loops.count as usize
+}

@@ -1,0 +1,3 @@
+pub mod Notes
+pub mod ReadBack
+pub mod Fixed

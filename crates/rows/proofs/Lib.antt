@@ -1,0 +1,4 @@
+pub mod Visits
+pub mod Words
+pub mod WordSteps
+pub mod Fixed

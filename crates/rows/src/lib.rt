@@ -1,0 +1,33 @@
+// A row of cubes: its windows, rows of samples that hold the corners of its cubes.
+use block::Cut;
+ghost use mathlib.Core.Path.{_≡_};
+ghost use Prim.Native.Nat.{_+_, _<_};
+ghost use lib.ListN.{length};
+ghost use Rattle.signs.specs.Windows.{windowCorners};
+
+// A row of samples and the row of cubes above it: the threshold, how many samples a row has, the row's place in its plane, the number of its first
+// cube, and whether there is a layer of cubes below (which only the quads ask).
+pub struct Row {
+    pub cut: Cut,
+    pub nx: usize,
+    pub j: usize,
+    pub c: usize,
+    pub lower: bool,
+}
+
+// The samples at the corners of the cube x of a row, from the row's windows.
+pub fn corners(lo: &[u16], hi: &[u16], nx: usize, x: usize) -> [u16; 8]
+    requires { ⌜ (x + 1 + nx < length (now lo)) × (x + 1 + nx < length (now hi)) ⌝ }
+    ensures { λ r. ⌜ r ≡ windowCorners nx (now (lo .entry)) (now (hi .entry)) x ⌝ }
+{
+    [
+        lo[x],
+        lo[x + 1],
+        lo[x + nx],
+        lo[x + 1 + nx],
+        hi[x],
+        hi[x + 1],
+        hi[x + nx],
+        hi[x + 1 + nx],
+    ]
+}

@@ -1,0 +1,2 @@
+pub mod SortedCubes
+pub mod Fixed
