@@ -12,6 +12,7 @@
 
 #include "../include/parsniprow.h"
 #include "../tests/plain.h"
+#include "raw.h"
 
 #include <stdio.h>
 #include <stdlib.h>
@@ -36,15 +37,8 @@ struct mesh {
     size_t vertex_count, quad_count;
 };
 
-static uint32_t length[3];
-static uint16_t *samples, t;
-static size_t sample_count;
-
-static void stop(const char *what)
-{
-    fprintf(stderr, "bench: %s\n", what);
-    exit(2);
-}
+const char program[] = "bench";
+static struct block block;
 
 static double now(void)
 {
@@ -54,14 +48,6 @@ static double now(void)
 }
 
 /* ---- memory ---- */
-
-static void *taken(size_t bytes)
-{
-    void *memory = malloc(bytes + 1);
-    if (!memory)
-        stop("no memory");
-    return memory;
-}
 
 static struct mesh room_for(const uint32_t *counted)
 {
@@ -90,40 +76,26 @@ static void give_back(struct mesh *mesh)
 
 /* ---- the block ---- */
 
-static void read_block(const char *name)
-{
-    FILE *file = fopen(name, "rb");
-    unsigned char *bytes;
-    sample_count = (size_t)length[0] * length[1] * length[2];
-    bytes = taken(2 * sample_count);
-    samples = taken(2 * sample_count);
-    if (!file || fread(bytes, 1, 2 * sample_count + 1, file) != 2 * sample_count)
-        stop("the file does not hold nx * ny * nz samples");
-    fclose(file);
-    for (size_t index = 0; index < sample_count; index++)
-        samples[index] = (uint16_t)(bytes[2 * index] | bytes[2 * index + 1] << 8);
-    free(bytes);
-}
-
 /* Whether the sample that lies so many steps on along two axes is metal; the axes may be the same. */
 static int metal(const size_t at[3], unsigned u, size_t u_steps, unsigned v, size_t v_steps)
 {
     size_t place[3] = {at[0], at[1], at[2]};
     place[u] += u_steps;
     place[v] += v_steps;
-    return samples[place[0] + length[0] * (place[1] + length[1] * place[2])] >= t;
+    return block.samples[place[0] + block.length[0] * (place[1] + block.length[1] * place[2])] >= block.t;
 }
 
 /* What the other programs' meshes are held against, counted from the samples alone. */
 static void print_shape(void)
 {
     size_t crossed = 0, rim = 0, doubtful = 0, at[3];
-    for (at[2] = 0; at[2] < length[2]; at[2]++)
-        for (at[1] = 0; at[1] < length[1]; at[1]++)
-            for (at[0] = 0; at[0] < length[0]; at[0]++)
+    for (at[2] = 0; at[2] < block.length[2]; at[2]++)
+        for (at[1] = 0; at[1] < block.length[1]; at[1]++)
+            for (at[0] = 0; at[0] < block.length[0]; at[0]++)
                 for (unsigned u = 0; u < 3; u++) {
                     unsigned v = (u + 1) % 3;
-                    int here = metal(at, u, 0, v, 0), has_u = at[u] + 1 < length[u], has_v = at[v] + 1 < length[v];
+                    int here = metal(at, u, 0, v, 0), has_u = at[u] + 1 < block.length[u];
+                    int has_v = at[v] + 1 < block.length[v];
                     crossed += has_u && metal(at, u, 1, v, 0) != here;
                     rim += here && (at[u] == 0) + !has_u;
                     doubtful += has_u && has_v && metal(at, u, 1, v, 1) == here && metal(at, u, 1, v, 0) != here &&
@@ -134,14 +106,9 @@ static void print_shape(void)
 
 /* ---- times ---- */
 
-static int runs_on(int run, double spent)
-{
-    return run < LEAST_RUNS || (run < MOST_RUNS && spent < long_enough);
-}
-
 static void ask_counts(counts_function *function, uint32_t *answer)
 {
-    function(length[0], length[1], length[2], samples, sample_count, t, answer, ANSWER);
+    function(block.length[0], block.length[1], block.length[2], block.samples, block.sample_count, block.t, answer, ANSWER);
     if (answer[0] != 0)
         stop("the counts were refused");
 }
@@ -149,57 +116,58 @@ static void ask_counts(counts_function *function, uint32_t *answer)
 static void ask_mesh(mesh_function *function, const struct mesh *mesh)
 {
     uint32_t answer[ANSWER];
-    function(length[0], length[1], length[2], samples, sample_count, t, mesh->words, 2 * mesh->vertex_count,
-             mesh->offsets, 3 * mesh->vertex_count, mesh->quads, 4 * mesh->quad_count, answer, ANSWER);
+    function(block.length[0], block.length[1], block.length[2], block.samples, block.sample_count, block.t, mesh->words,
+             2 * mesh->vertex_count, mesh->offsets, 3 * mesh->vertex_count, mesh->quads, 4 * mesh->quad_count, answer, ANSWER);
     if (answer[0] != 0)
         stop("the mesh was refused");
 }
 
-static double time_counts(uint32_t *answer)
+/* The best time of several runs of something that answers the seconds of one. */
+static double best_of(double (*seconds)(void *), void *with)
 {
     double best = 1e9, spent = 0.0;
-    for (int run = 0; runs_on(run, spent); run++) {
-        double from = now(), took;
-        ask_counts(parsniprow_counts, answer);
-        took = now() - from;
+    for (int run = 0; run < LEAST_RUNS || (run < MOST_RUNS && spent < long_enough); run++) {
+        double took = seconds(with);
         spent += took;
         best = took < best ? took : best;
     }
     return best;
 }
 
-static double time_mesh(const struct mesh *mesh)
+static double counts_seconds(void *answer)
 {
-    double best = 1e9, spent = 0.0;
-    for (int run = 0; runs_on(run, spent); run++) {
-        double from = now(), took;
-        ask_mesh(parsniprow_mesh, mesh);
-        took = now() - from;
-        spent += took;
-        best = took < best ? took : best;
-    }
-    return best;
+    double from = now();
+    ask_counts(parsniprow_counts, answer);
+    return now() - from;
 }
+
+static double mesh_seconds(void *mesh)
+{
+    double from = now();
+    ask_mesh(parsniprow_mesh, mesh);
+    return now() - from;
+}
+
+/* The two functions of an implementation, and the mesh of its last run. */
+struct whole {
+    counts_function *counts;
+    mesh_function *mesh;
+    struct mesh left;
+};
 
 /* What a caller pays who knows nothing of the block: counts, memory of that size, mesh. Giving the memory back is not
-   timed. The mesh of the last run is left. */
-static double time_whole(counts_function *counts, mesh_function *mesh, struct mesh *left)
+   timed. */
+static double whole_seconds(void *with)
 {
-    double best = 1e9, spent = 0.0;
-    for (int run = 0; runs_on(run, spent); run++) {
-        uint32_t answer[ANSWER];
-        double from, took;
-        if (run > 0)
-            give_back(left);
-        from = now();
-        ask_counts(counts, answer);
-        *left = room_for(answer);
-        ask_mesh(mesh, left);
-        took = now() - from;
-        spent += took;
-        best = took < best ? took : best;
-    }
-    return best;
+    struct whole *whole = with;
+    uint32_t answer[ANSWER];
+    double from;
+    give_back(&whole->left);
+    from = now();
+    ask_counts(whole->counts, answer);
+    whole->left = room_for(answer);
+    ask_mesh(whole->mesh, &whole->left);
+    return now() - from;
 }
 
 static int same(const struct mesh *a, const struct mesh *b)
@@ -213,16 +181,17 @@ static int same(const struct mesh *a, const struct mesh *b)
 static void print_times(void)
 {
     uint32_t counted[ANSWER];
-    struct mesh lent, ours, plain;
-    double counts_time = time_counts(counted), mesh_time, whole_time, plain_time;
+    struct mesh lent;
+    struct whole ours = {parsniprow_counts, parsniprow_mesh, {0}}, plain = {plain_counts, plain_mesh, {0}};
+    double counts_time = best_of(counts_seconds, counted), mesh_time, whole_time, plain_time;
     lent = room_for(counted);
     fill(&lent);
-    mesh_time = time_mesh(&lent);
-    whole_time = time_whole(parsniprow_counts, parsniprow_mesh, &ours);
-    plain_time = time_whole(plain_counts, plain_mesh, &plain);
-    if (!same(&lent, &plain) || !same(&ours, &plain))
+    mesh_time = best_of(mesh_seconds, &lent);
+    whole_time = best_of(whole_seconds, &ours);
+    plain_time = best_of(whole_seconds, &plain);
+    if (!same(&lent, &plain.left) || !same(&ours.left, &plain.left))
         stop("the mesh differs from that of plain");
-    printf("vertices %zu\nquads %zu\n", plain.vertex_count, plain.quad_count);
+    printf("vertices %zu\nquads %zu\n", plain.left.vertex_count, plain.left.quad_count);
 #ifdef SELF
     (void)counts_time;
     (void)mesh_time;
@@ -232,20 +201,17 @@ static void print_times(void)
 #endif
     printf("plain %.6f\n", plain_time);
     give_back(&lent);
-    give_back(&ours);
-    give_back(&plain);
+    give_back(&ours.left);
+    give_back(&plain.left);
 }
 
 int main(int argc, char **argv)
 {
     if (argc != 6)
         stop("usage: bench file nx ny nz t");
-    for (int axis = 0; axis < 3; axis++)
-        length[axis] = (uint32_t)strtoul(argv[2 + axis], NULL, 10);
-    t = (uint16_t)strtoul(argv[5], NULL, 10);
-    read_block(argv[1]);
+    block = read_block(argv + 1);
     print_shape();
     print_times();
-    free(samples);
+    free(block.samples);
     return 0;
 }

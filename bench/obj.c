@@ -3,39 +3,14 @@
    from sample (0, 0, 0).
    Assumes that the library is linked in. A refused block gives its number and value on standard error and status 1. */
 #include "../include/parsniprow.h"
+#include "raw.h"
 
 #include <stdio.h>
 #include <stdlib.h>
 
 enum { ANSWER = 3 };
 
-static void stop(const char *what)
-{
-    fprintf(stderr, "obj: %s\n", what);
-    exit(2);
-}
-
-static void *taken(size_t bytes)
-{
-    void *memory = malloc(bytes + 1);
-    if (!memory)
-        stop("no memory");
-    return memory;
-}
-
-static uint16_t *read_block(const char *name, size_t sample_count)
-{
-    FILE *file = fopen(name, "rb");
-    unsigned char *bytes = taken(2 * sample_count);
-    uint16_t *samples = taken(2 * sample_count);
-    if (!file || fread(bytes, 1, 2 * sample_count + 1, file) != 2 * sample_count)
-        stop("the file does not hold nx * ny * nz samples");
-    fclose(file);
-    for (size_t index = 0; index < sample_count; index++)
-        samples[index] = (uint16_t)(bytes[2 * index] | bytes[2 * index + 1] << 8);
-    free(bytes);
-    return samples;
-}
+const char program[] = "obj";
 
 static void look_at(const uint32_t answer[ANSWER])
 {
@@ -62,35 +37,31 @@ static void write_mesh(FILE *file, const uint32_t length[3], const uint32_t coun
 
 int main(int argc, char **argv)
 {
-    uint32_t length[3], counted[ANSWER], answer[ANSWER], *words, *quads;
-    uint16_t t, *samples;
-    size_t sample_count;
+    uint32_t counted[ANSWER], answer[ANSWER], *words, *quads;
+    struct block block;
     double *offsets;
     FILE *file;
     if (argc != 7)
         stop("usage: obj file nx ny nz t out.obj");
-    for (int axis = 0; axis < 3; axis++)
-        length[axis] = (uint32_t)strtoul(argv[2 + axis], NULL, 10);
-    t = (uint16_t)strtoul(argv[5], NULL, 10);
-    sample_count = (size_t)length[0] * length[1] * length[2];
-    samples = read_block(argv[1], sample_count);
-    parsniprow_counts(length[0], length[1], length[2], samples, sample_count, t, counted, ANSWER);
+    block = read_block(argv + 1);
+    parsniprow_counts(block.length[0], block.length[1], block.length[2], block.samples, block.sample_count, block.t, counted,
+                      ANSWER);
     look_at(counted);
     words = taken(2 * (size_t)counted[1] * sizeof *words);
     offsets = taken(3 * (size_t)counted[1] * sizeof *offsets);
     quads = taken(4 * (size_t)counted[2] * sizeof *quads);
-    parsniprow_mesh(length[0], length[1], length[2], samples, sample_count, t, words, 2 * (size_t)counted[1], offsets,
-                    3 * (size_t)counted[1], quads, 4 * (size_t)counted[2], answer, ANSWER);
+    parsniprow_mesh(block.length[0], block.length[1], block.length[2], block.samples, block.sample_count, block.t, words,
+                    2 * (size_t)counted[1], offsets, 3 * (size_t)counted[1], quads, 4 * (size_t)counted[2], answer, ANSWER);
     look_at(answer);
     file = fopen(argv[6], "w");
     if (!file)
         stop("the OBJ file cannot be written");
-    write_mesh(file, length, counted, words, offsets, quads);
+    write_mesh(file, block.length, counted, words, offsets, quads);
     if (ferror(file) | fclose(file))
         stop("the OBJ file could not be written");
     free(words);
     free(offsets);
     free(quads);
-    free(samples);
+    free(block.samples);
     return 0;
 }

@@ -1,0 +1,12 @@
+# What tests/host and tests/memory share: the sources of the comparison and how they are compiled, the folder for what is made, and the library. For
+# bash, to be sourced in the folder of the repository.
+into=target/tests
+archive=target/staticlib/libparsniprow_c.a
+flags="-std=c99 -Wall -Wextra -Wpedantic -ffp-contract=off"
+comparison=(tests/compare{,_mesh,_edge,_cube,_closed}.c tests/{lent,crash,blocks,lists,bench_cubes,plain}.c)
+
+mkdir -p "$into"
+
+need_archive() {
+    [ -f "$archive" ] || { echo "There is no $archive; ./library makes it."; exit 1; }
+}
