@@ -23,7 +23,7 @@ use Rattle.cube_rule.proofs.Laws.{cube-laws}
 use Rattle.cube_rule.proofs.Unique.{holding}
 use Rattle.place.specs.declared.Offset.{Offset}
 use Rattle.place.specs.Place.{Placeable, placeOf}
-use Rattle.place.specs.Unit.{CrossedSet}
+use Rattle.place.proofs.Bounds.{CrossedSet}
 use Rattle.cell.specs.declared.Found.{Found}
 use Rattle.cell.specs.declared.Found.the-variants.{Loops, Refused}
 use Rattle.cell.specs.declared.CubeAnswer.{CubeAnswer}

@@ -60,7 +60,7 @@ module _ (cut : Cut) (p q r s : ℕ) (four : ringCount (positive cut p) (positiv
 
   -- "joined if A·C is at least B·D": exactly if the form's value at the saddle is at least t
   pub doubtful-saddle : (point : Point) → Saddle p q r s point
-      → (joined cut p q r s ≡ true) ↔ (cut .t * (point .n * point .n) ≤ form p q r s point)
+      → (joined cut p q r s ≡ true) ↔ (cut .t * ((point .u + point .w) * (point .v + point .x)) ≤ form p q r s point)
   doubtful-saddle = decider-is-saddle cut p q r s p-as-r q-as-s p-not-q
 
   -- there is a saddle, inside the face

@@ -1,9 +1,9 @@
 -- The decider is the sign of the bilinear form at the saddle: a face with four crossed edges has a saddle, inside it, and its positive
 -- corners are joined exactly if the form there is at least t (`decider-is-saddle`, `saddle-exists`, at the end).
 -- With the samples t + A, t - B, t + C, t - D round the face, the first difference vanishes where (C + D) v = (A + B) x, and there the
--- form is above t by x n (A C - B D) over C + D. Positive samples at q and s are the same face, turned.
+-- form is above t by x (u + w) (A C - B D) over C + D. Positive samples at q and s are the same face, turned.
 -- Assumes nothing.
-use mathlib.Core.Path.{_≡_, refl, sym, ap, ap₂, _∙_}
+use mathlib.Core.Path.{_≡_, refl, sym, ap, _∙_}
 use mathlib.Core.Bool.{Bool, true, false}
 use mathlib.Core.Logic.{_↔_, _⊎_, inl, inr, ⊎-elim}
 use Prim.Native.Nat.{ℕ, zero, suc, _+_, _-_, _*_, _≤_, _<_}
@@ -33,7 +33,7 @@ weight-some k l v (suc x) k-some n-some e = omega arith
 weight-some k l zero zero k-some n-some e = omega arith
 weight-some k l (suc v) zero k-some n-some e = let g : 0 < k * suc v = mul-pos k-some (omega arith) in omega arith
 
--- C + D times what the form has above t, at p and r, less what it has below t, at q and s, is x n (A C - B D)
+-- C + D times what the form has above t, at p and r, less what it has below t, at q and s, is x (u + w) (A C - B D)
 balance : (A B C D u w v x : ℕ) → (C + D) * v ≡ (A + B) * x →
     (C + D) * (A * (w * x) + C * (u * v)) + x * (u + w) * (B * D) ≡ (C + D) * (B * (u * x) + D * (w * v)) + x * (u + w) * (A * C)
 balance A B C D u w v x e =
@@ -70,7 +70,7 @@ module _ (t p q r s A B C D : ℕ) (sizes : Sizes t p q r s A B C D) where
       ((λ d. omega arith), (λ d. omega arith))
 
   -- the second difference need not vanish for this: where the first does, the form is the same all along the line
-  decides : 0 < D → (point : Point) → Saddle p q r s point → (B * D ≤ A * C) ↔ (t * (point .n * point .n) ≤ form p q r s point)
+  decides : 0 < D → (point : Point) → Saddle p q r s point → (B * D ≤ A * C) ↔ (t * ((point .u + point .w) * (point .v + point .x)) ≤ form p q r s point)
   unfolding form
   decides D-some point saddle =
       let u : ℕ = point .u in
@@ -78,12 +78,11 @@ module _ (t p q r s A B C D : ℕ) (sizes : Sizes t p q r s A B C D) where
       let v : ℕ = point .v in
       let x : ℕ = point .x in
       let e : (C + D) * v ≡ (A + B) * x = ratio v x .0 (saddle .first) in
-      let x-some : 0 < x = weight-some (C + D) (A + B) v x (omega arith) (omega arith) e in
-      let n-some : 0 < x * (u + w) = mul-pos x-some (omega arith) in
+      let x-some : 0 < x = weight-some (C + D) (A + B) v x (omega arith) (point .second) e in
+      let n-some : 0 < x * (u + w) = mul-pos x-some (point .first) in
       let o : (B * D ≤ A * C) ↔ (B * (u * x) + D * (w * v) ≤ A * (w * x) + C * (u * v)) =
       same-order (C + D) (x * (u + w)) _ _ _ _ (omega arith) n-some (balance A B C D u w v x e) in
       let l = level u w v x in
-      let m : t * ((u + w) * (v + x)) ≡ t * (point .n * point .n) = ap₂ (λ (a b : ℕ). t * (a * b)) (point .first) (point .second) in
       ((λ h. let g = o .0 h in omega arith), (λ h. o .1 (omega arith)))
 
 -- the second difference is the first one of the face seen from behind
@@ -95,12 +94,10 @@ found t p q r s A B C D sizes B-some D-some = (point, saddle, inside)
   where
     point : Point
     point = record {
-      n = A + B + C + D;
       u = A + D;
       w = C + B;
       v = A + B;
       x = C + D;
-      some = omega arith;
       first = omega arith;
       second = omega arith;
     }
@@ -112,7 +109,7 @@ found t p q r s A B C D sizes B-some D-some = (point, saddle, inside)
     }
 
     inside : InsideFace point
-    inside = record { u-some = omega arith; w-some = omega arith; v-some = omega arith; x-some = omega arith }
+    inside = (omega arith, omega arith, omega arith, omega arith)
 
 -- p and r are positive, q and s negative
 module _ (t p q r s : ℕ) (p-pos : t ≤ p) (q-neg : q < t) (r-pos : t ≤ r) (s-neg : s < t) where
@@ -120,7 +117,7 @@ module _ (t p q r s : ℕ) (p-pos : t ≤ p) (q-neg : q < t) (r-pos : t ≤ r) (
   sized = record { at-p = omega arith; at-q = omega arith; at-r = omega arith; at-s = omega arith }
 
   pub decider-pos : (point : Point) → Saddle p q r s point →
-      ((t - q) * (t - s) ≤ (p - t) * (r - t)) ↔ (t * (point .n * point .n) ≤ form p q r s point)
+      ((t - q) * (t - s) ≤ (p - t) * (r - t)) ↔ (t * ((point .u + point .w) * (point .v + point .x)) ≤ form p q r s point)
   decider-pos = decides t p q r s (p - t) (t - q) (r - t) (t - s) sized (omega arith)
 
   pub saddle-exists-pos : (point : Point) × Saddle p q r s point × InsideFace point
@@ -129,14 +126,12 @@ module _ (t p q r s : ℕ) (p-pos : t ≤ p) (q-neg : q < t) (r-pos : t ≤ r) (
 -- the same point where the ring begins one corner later
 turn : Point → Point
 turn point = record {
-  n = point .n;
   u = point .v;
   w = point .x;
   v = point .w;
   x = point .u;
-  some = point .some;
   first = point .second;
-  second = omega arith;
+  second = omega (arith, point .first);
 }
 
 turn-form : (p q r s : ℕ) (point : Point) → form q r s p (turn point) ≡ form p q r s point
@@ -149,17 +144,19 @@ turn-saddle p q r s point saddle = record { first = omega arith; second = omega 
 
 turn-inside : (point : Point) → InsideFace point → InsideFace (turn point)
 unfolding turn
-turn-inside point inside =
-    record { u-some = inside .v-some; w-some = inside .x-some; v-some = inside .w-some; x-some = inside .u-some }
+turn-inside point inside = (inside .2, inside .3, inside .1, inside .0)
 
 -- p and r are negative, q and s positive
 module _ (t p q r s : ℕ) (p-neg : p < t) (q-pos : t ≤ q) (r-neg : r < t) (s-pos : t ≤ s) where
   pub decider-neg : (point : Point) → Saddle p q r s point →
-      ((t - p) * (t - r) ≤ (q - t) * (s - t)) ↔ (t * (point .n * point .n) ≤ form p q r s point)
+      ((t - p) * (t - r) ≤ (q - t) * (s - t)) ↔ (t * ((point .u + point .w) * (point .v + point .x)) ≤ form p q r s point)
   unfolding turn
   decider-neg point saddle =
       let d = decider-pos t q r s p q-pos r-neg s-pos p-neg (turn point) (turn-saddle p q r s point saddle) in
-      rw (mul-comm (t - p) (t - r), ← turn-form p q r s point) d
+      rw (mul-comm (t - p) (t - r), ← turn-form p q r s point, sides (point .u) (point .w) (point .v) (point .x)) d
+    where
+      sides : (u w v x : ℕ) → (u + w) * (v + x) ≡ (v + x) * (w + u)
+      sides u w v x = omega arith
 
   pub saddle-exists-neg : (point : Point) × Saddle p q r s point × InsideFace point
   saddle-exists-neg =
@@ -190,7 +187,7 @@ module _ (cut : Cut) (p q r s : ℕ)
 
   -- the positive corners are joined exactly if the form at the saddle is at least t
   pub decider-is-saddle : (point : Point) → Saddle p q r s point →
-      (joined cut p q r s ≡ true) ↔ (cut .t * (point .n * point .n) ≤ form p q r s point)
+      (joined cut p q r s ≡ true) ↔ (cut .t * ((point .u + point .w) * (point .v + point .x)) ≤ form p q r s point)
   decider-is-saddle point saddle =
       ⊎-elim
       (λ (h : Alternate (cut .t) p q r s).
