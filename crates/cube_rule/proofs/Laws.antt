@@ -11,6 +11,7 @@ use Rattle.laws.specs.Bits.{bit, differ, holds}
 use Rattle.laws.proofs.Bits.{mask-lt, mask-none, holds-mask}
 use Rattle.block.specs.declared.Cut.{Cut}
 use Rattle.block.specs.Grey.{positive}
+use Rattle.block.specs.Rows.{lowest}
 use Rattle.cube_rule.specs.Edges.{cornerSample, lower, upper, patternOf, crossed, crossedMask, crossedAt}
 use Rattle.cube_rule.specs.Faces.{ringEdge, ringCorner}
 use Rattle.cube_rule.specs.Links.{linkedOn, linkedAt, Decider, decisions}
@@ -61,6 +62,7 @@ module _ (D : Decider) (cut : Cut) (cs : List ℕ) where
 
 -- two edges that each mask holds alike have the same first holder
 holder-same : (a b : ℕ) (ms : List ℕ) → ((m : ℕ) → List·Memᴰ m ms → holds m a ≡ holds m b) → firstHolder a ms ≡ firstHolder b ms
+unfolding lowest
 holder-same a b [] h = refl
 holder-same a b (m ∷ ms) h =
     ap₂ (λ (x : Bool) (n : ℕ). cond x 0 (suc n)) (h m (List·Memᴰ·head refl)) (holder-same a b ms (λ n d. h n (List·Memᴰ·tail d)))

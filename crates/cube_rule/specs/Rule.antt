@@ -1,12 +1,13 @@
 -- THE RULE of the loops, which says what they are without the way in which they are found (document 01, "Faces, loops and places").
 -- `p` is a cube's sign pattern, `j` says which of its faces have their positive corners joined, `ms` are the masks.
-use Prim.Native.Nat.{ℕ, suc, _+_, _^_, _≤_, _<_}
+use Prim.Native.Nat.{ℕ, _+_, _^_, _≤_, _<_}
 use mathlib.Core.Path.{_≡_}
-use mathlib.Core.Bool.{Bool, true, cond}
+use mathlib.Core.Bool.{Bool, true}
 use mathlib.Core.List.{List, [], _∷_, List·Memᴰ}
 use lib.Count.{ones, trailingZeros}
 use lib.ListN.{length, getD}
 use Rattle.laws.specs.Bits.{bit, holds}
+use Rattle.block.specs.Rows.{lowest}
 use Rattle.cube_rule.specs.Edges.{crossed}
 use Rattle.cube_rule.specs.Faces.{ringEdge}
 use Rattle.cube_rule.specs.Links.{linkedOn}
@@ -18,8 +19,7 @@ holders e (m ∷ ms) = bit (holds m e) + holders e ms
 
 -- the place of the first mask that holds it
 abbrev pub firstHolder : ℕ → List ℕ → ℕ
-firstHolder e [] = 0
-firstHolder e (m ∷ ms) = cond (holds m e) 0 (suc (firstHolder e ms))
+firstHolder e ms = lowest (λ (m : ℕ). holds m e) ms
 
 -- the lowest edge of a mask
 abbrev pub lowestEdge : ℕ → ℕ
