@@ -44,7 +44,7 @@ answered-loop Passes ms m d = d
 answered-loop (Refuses r) ms m d = absurd (List·Memᴰ·not-nil d)
 
 origin-inside : Inside origin
-origin-inside = record { xIn = zero-in-unit; yIn = zero-in-unit; zIn = zero-in-unit }
+origin-inside = (zero-in-unit, zero-in-unit, zero-in-unit)
 
 places-inside : (cut : Cut) (corners : List ℕ) → SixteenBit corners → Each (filled 4 origin (map (placeOf cut corners) (loopsAnswered cut corners)))
 unfolding filled

@@ -7,7 +7,7 @@ use Prim.Native.Nat.{ℕ, zero, suc, _<_}
 use native.Mathlib.Nat.{not-suc-le-zero, le-of-suc-le-suc}
 use native.Mathlib.Omega.{arith}
 use lib.ListN.{length, getD}
-use Rattle.cube_rule.specs.Rule.{lowestEdge}
+use Rattle.cube_rule.specs.Loops.{lowestEdge}
 
 abbrev pub Rising : List ℕ → Type 0
 Rising [] = Unit {0}

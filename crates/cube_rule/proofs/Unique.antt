@@ -12,8 +12,8 @@ use Rattle.laws.specs.Bits.{bit, holds}
 use Rattle.laws.proofs.Bits.{mask-ext, holds-past, some-ones}
 use Rattle.laws.proofs.Trailing.{trailing-lt, trailing-set}
 use Rattle.laws.proofs.Tests.{lt-or-ge}
-use Rattle.cube_rule.specs.Loops.{loopsIn}
-use Rattle.cube_rule.specs.Rule.{holders, lowestEdge, Loop, Rule}
+use Rattle.cube_rule.specs.Loops.{lowestEdge, loopsIn}
+use Rattle.cube_rule.specs.Rule.{holders, Loop, Rule}
 use Rattle.cube_rule.proofs.Rising.{order-rising, rising-same}
 use Rattle.cube_rule.proofs.Ruled.{ruled}
 

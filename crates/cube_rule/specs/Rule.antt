@@ -21,10 +21,6 @@ holders e (m ∷ ms) = bit (holds m e) + holders e ms
 abbrev pub firstHolder : ℕ → List ℕ → ℕ
 firstHolder e ms = lowest (λ (m : ℕ). holds m e) ms
 
--- the lowest edge of a mask
-abbrev pub lowestEdge : ℕ → ℕ
-lowestEdge m = trailingZeros 32 m
-
 -- S is the same at both ends of each link, on whichever face
 abbrev pub Alike : ℕ → (ℕ → Bool) → (ℕ → Bool) → Type 0
 Alike p j S = (f i k : ℕ) → f < 6 → i < 4 → k < 4 → linkedOn (holds p) j f i k ≡ true → S (ringEdge f i) ≡ S (ringEdge f k)
@@ -44,5 +40,5 @@ pub record Rule (p : ℕ) (j : ℕ → Bool) (ms : List ℕ) : Type 0 where
   pub each : (e : ℕ) → e < 12 → holders e ms ≡ bit (crossed p e)
   pub loop : (m : ℕ) → List·Memᴰ m ms → Loop p j m
   pub four : length ms ≤ 4
-  -- "the loops of a cube stand by their lowest edge"
-  pub order : (a b : ℕ) → a < b → b < length ms → lowestEdge (getD ms a 0) < lowestEdge (getD ms b 0)
+  -- "the loops of a cube stand by their lowest edge": trailing zeros give the lowest edge of a mask
+  pub order : (a b : ℕ) → a < b → b < length ms → trailingZeros 32 (getD ms a 0) < trailingZeros 32 (getD ms b 0)

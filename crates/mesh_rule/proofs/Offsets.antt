@@ -50,9 +50,9 @@ corners-grey n s g c = at-grey n s g (c % (n .nx - 1)) (c / (n .nx - 1) % (n .ny
 triples-in-unit : (f : ℕ → Offset) (ms : List ℕ) → ((m : ℕ) → List·Memᴰ m ms → Inside (f m)) → (k : ℕ) → k < length (triples (map f ms))
     → InUnit (getD (triples (map f ms)) k nan)
 triples-in-unit f [] h k l = absurd (not-suc-le-zero l)
-triples-in-unit f (m ∷ ms) h zero l = h m (List·Memᴰ·head refl) .xIn
-triples-in-unit f (m ∷ ms) h (suc zero) l = h m (List·Memᴰ·head refl) .yIn
-triples-in-unit f (m ∷ ms) h (suc (suc zero)) l = h m (List·Memᴰ·head refl) .zIn
+triples-in-unit f (m ∷ ms) h zero l = h m (List·Memᴰ·head refl) .0
+triples-in-unit f (m ∷ ms) h (suc zero) l = h m (List·Memᴰ·head refl) .1
+triples-in-unit f (m ∷ ms) h (suc (suc zero)) l = h m (List·Memᴰ·head refl) .2
 triples-in-unit f (m ∷ ms) h (suc (suc (suc k))) l = triples-in-unit f ms (λ x d. h x (List·Memᴰ·tail d)) k (omega arith)
 
 module _ (n : Size) (s : List ℕ) (cut : Cut) where

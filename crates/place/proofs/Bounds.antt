@@ -142,8 +142,7 @@ module _ (a m : ℕ) (cut : Cut) (corners : List ℕ) (grey : SixteenBit corners
 -- every coordinate of the place of a set of crossed edges that is not empty, for 16-bit samples and every threshold
 pub place-in-unit : (cut : Cut) (corners : List ℕ) (m : ℕ) → SixteenBit corners → CrossedSet cut corners m → Inside (placeOf cut corners m)
 unfolding placeOf
-place-in-unit cut corners m grey set = record {
-  xIn = in-unit (meanOn 0 m cut corners) (mean-within 0 m cut corners grey set);
-  yIn = in-unit (meanOn 1 m cut corners) (mean-within 1 m cut corners grey set);
-  zIn = in-unit (meanOn 2 m cut corners) (mean-within 2 m cut corners grey set);
-}
+place-in-unit cut corners m grey set = (on 0, on 1, on 2)
+  where
+    on : (a : ℕ) → InUnit (meanOn a m cut corners)
+    on a = in-unit (meanOn a m cut corners) (mean-within a m cut corners grey set)

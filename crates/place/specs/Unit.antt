@@ -15,7 +15,5 @@ pub record InUnit (x : Float) : Type 0 where
   pub atMost : T (le x one)
 
 -- each coordinate of an offset is so
-pub record Inside (o : Offset) : Type 0 where
-  pub xIn : InUnit (o .x)
-  pub yIn : InUnit (o .y)
-  pub zIn : InUnit (o .z)
+abbrev pub Inside : Offset → Type 0
+Inside o = InUnit (o .x) × InUnit (o .y) × InUnit (o .z)
