@@ -16,9 +16,10 @@ use Rattle.block.specs.declared.Cut.{Cut}
 use Rattle.block.specs.declared.Refusal.{Refusal}
 use Rattle.block.specs.declared.Checked.{Checked}
 use Rattle.block.specs.declared.Checked.the-variants.{Passes, Refuses}
-use Rattle.block.specs.Answer.{inOrder, judged, decided}
+use Rattle.block.specs.Answer.{judged, decided}
 use Rattle.block.specs.Rows.{thresholdRow, ceilingRow}
 use Rattle.block.proofs.Accepted.{accepted-by}
+use Rattle.block.proofs.Order.{order-refuses, order-passes, order-last}
 use Rattle.cube_rule.specs.Decider.{joined, loopsOf}
 use Rattle.cube_rule.specs.Edges.{crossedAt}
 use Rattle.cube_rule.proofs.Laws.{cube-laws}
@@ -26,13 +27,21 @@ use Rattle.cube_rule.proofs.Unique.{holding}
 use Rattle.place.specs.declared.Offset.{Offset}
 use Rattle.place.specs.Place.{placeOf}
 use Rattle.place.specs.Steps.{Placeable}
-use Rattle.place.specs.Unit.{CrossedSet}
+use Rattle.place.proofs.Bounds.{CrossedSet}
 use Rattle.cell.specs.declared.Found.{Found}
 use Rattle.cell.specs.declared.Found.the-variants.{Loops, Refused}
 use Rattle.cell.specs.declared.CubeAnswer.{CubeAnswer}
 use Rattle.cell.specs.Answer.{wordOf, origin, cubeVerdict, saidCube, loopsAnswered, CubeAnswered}
 use Rattle.cell.specs.Steps.{emptyAnswer}
 use Rattle.cell.proofs.Filled.{place-mask, with-mask, places-by-mask}
+
+-- ---- the verdict: row 3 decides if it refuses, else row 4 does
+
+pub verdict-first : (cut : Cut) (corners : List ℕ) (r : Refusal) → thresholdRow cut ≡ Refuses r → cubeVerdict cut corners ≡ Refuses r
+verdict-first cut corners r e = order-refuses (thresholdRow cut) (ceilingRow corners ∷ []) r e
+
+pub verdict-second : (cut : Cut) (corners : List ℕ) (k : Checked) → thresholdRow cut ≡ Passes → ceilingRow corners ≡ k → cubeVerdict cut corners ≡ k
+verdict-second cut corners k e f = order-passes (thresholdRow cut) (ceilingRow corners ∷ []) e ∙ order-last (ceilingRow corners) ∙ f
 
 -- ---- the loops of a cube have places
 
@@ -73,16 +82,6 @@ module _ (cut : Cut) (corners : List ℕ) where
   pub refused-found : (r : Refusal) → cubeVerdict cut corners ≡ Refuses r → saidCube (Refused r) ≡ judged (cubeVerdict cut corners) (length (loopsOf cut corners))
   unfolding decided
   refused-found r v = rw v
-
--- an accepted cube's verdict: neither row refuses
-pub verdict-first : (cut : Cut) (corners : List ℕ) (r : Refusal) → thresholdRow cut ≡ Refuses r → cubeVerdict cut corners ≡ Refuses r
-unfolding inOrder
-verdict-first cut corners r e = rw e
-
-pub verdict-second : (cut : Cut) (corners : List ℕ) (k : Checked) → thresholdRow cut ≡ Passes → ceilingRow corners ≡ k → cubeVerdict cut corners ≡ k
-unfolding inOrder
-verdict-second cut corners Passes e f = rw (e, f)
-verdict-second cut corners (Refuses r) e f = rw (e, f)
 
 -- ---- unique
 

@@ -1,3 +1,4 @@
 pub mod Filled
 pub mod Answers
 pub mod Words
+pub mod Unit

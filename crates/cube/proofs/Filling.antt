@@ -14,8 +14,7 @@ use lib.ListN.{length, getD, take, drop, set, length-drop}
 use lib.Seq.{take-suc, drop-cons, take-all, length-take-le}
 use Rattle.laws.specs.Filled.{filled}
 use Rattle.laws.proofs.Filled.{filled-more}
-use Rattle.cube_rule.specs.Loops.{loopFrom, loopsFrom}
-use Rattle.cube_rule.specs.Rule.{lowestEdge}
+use Rattle.cube_rule.specs.Loops.{lowestEdge, loopFrom, loopsFrom}
 use Rattle.cube_rule.proofs.Tested.{lasts, lasts-now, lasts-more}
 use Rattle.cube.specs.declared.Loops.{Loops}
 use Rattle.cube.specs.Answer.{answered}

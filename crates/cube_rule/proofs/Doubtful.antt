@@ -14,7 +14,7 @@ use Rattle.block.specs.declared.Cut.{Cut}
 use Rattle.block.specs.Grey.{positive}
 use Rattle.cube_rule.specs.Decider.{joined}
 use Rattle.cube_rule.specs.Links.{ringCount}
-use Rattle.cube_rule.specs.Saddle.{Point, InsideFace, form, Saddle}
+use Rattle.cube_rule.specs.Saddle.{form, Saddle}
 use Rattle.cube_rule.proofs.Saddle.{decider-is-saddle, saddle-exists}
 
 -- ---- the signs alternate, by a test that antt computes at each of the sixteen
@@ -59,12 +59,12 @@ module _ (cut : Cut) (p q r s : ℕ) (four : ringCount (positive cut p) (positiv
   p-not-q = apart (positive cut p) (positive cut q) (right (Bool·beq (positive cut q) (positive cut s)) _ rest)
 
   -- "joined if A·C is at least B·D": exactly if the form's value at the saddle is at least t
-  pub doubtful-saddle : (point : Point) → Saddle p q r s point
-      → (joined cut p q r s ≡ true) ↔ (cut .t * (point .n * point .n) ≤ form p q r s point)
+  pub doubtful-saddle : (u w v x : ℕ) → 0 < u + w → 0 < v + x → Saddle p q r s u w v x
+      → (joined cut p q r s ≡ true) ↔ (cut .t * ((u + w) * (v + x)) ≤ form p q r s u w v x)
   doubtful-saddle = decider-is-saddle cut p q r s p-as-r q-as-s p-not-q
 
   -- there is a saddle, inside the face
-  pub doubtful-has-saddle : (point : Point) × Saddle p q r s point × InsideFace point
+  pub doubtful-has-saddle : (u : ℕ) × (w : ℕ) × (v : ℕ) × (x : ℕ) × (0 < u) × (0 < w) × (0 < v) × (0 < x) × Saddle p q r s u w v x
   doubtful-has-saddle = saddle-exists cut p q r s p-as-r q-as-s p-not-q
 
   -- "The divisor of the decider's saddle, A+C−B−D, is positive": the positive corners outweigh the negative ones

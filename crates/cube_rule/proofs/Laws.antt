@@ -11,11 +11,12 @@ use Rattle.laws.specs.Bits.{bit, differ, holds}
 use Rattle.laws.proofs.Bits.{mask-lt, mask-none, holds-mask}
 use Rattle.block.specs.declared.Cut.{Cut}
 use Rattle.block.specs.Grey.{positive}
+use Rattle.block.specs.Rows.{lowest}
 use Rattle.cube_rule.specs.Edges.{cornerSample, lower, upper, patternOf, crossed, crossedMask, crossedAt}
 use Rattle.cube_rule.specs.Faces.{ringEdge, ringCorner}
-use Rattle.cube_rule.specs.Links.{linkedAt, Decider, decisions}
+use Rattle.cube_rule.specs.Links.{linkedOn, linkedAt, Decider, decisions}
 use Rattle.cube_rule.specs.Loops.{linksOf, loopsFrom, loopsBy}
-use Rattle.cube_rule.specs.Rule.{linkedOn, firstHolder, Rule}
+use Rattle.cube_rule.specs.Rule.{firstHolder, Rule}
 use Rattle.cube_rule.specs.Laws.{CubeLaws}
 use Rattle.cube_rule.specs.Plain.{mixed, plain}
 use Rattle.cube_rule.specs.Sorts.{joinedOn, one, two}
@@ -54,13 +55,14 @@ module _ (D : Decider) (cut : Cut) (cs : List ℕ) where
   cube-unique ms r = rule-unique (patternOf cut cs) (pattern-lt cut cs) (decisions D cut cs) ms r
 
   -- its links are those of its faces' samples
-  pub linked-is : (f i k : ℕ) → f < 6 → linkedOn (patternOf cut cs) (decisions D cut cs) f i k ≡ linkedAt D cut cs f i k
+  pub linked-is : (f i k : ℕ) → f < 6 → linkedOn (holds (patternOf cut cs)) (decisions D cut cs) f i k ≡ linkedAt D cut cs f i k
   linked-is f i k hf =
       let s : (c : ℕ) → c < 4 → holds (patternOf cut cs) (ringCorner f c) ≡ positive cut (cornerSample cs (ringCorner f c)) = λ c h. pattern-sign cut cs (ringCorner f c) (ring-corner-lt f c hf h) in
       rw (s 0 (omega arith), s 1 (omega arith), s 2 (omega arith), s 3 (omega arith))
 
 -- two edges that each mask holds alike have the same first holder
 holder-same : (a b : ℕ) (ms : List ℕ) → ((m : ℕ) → List·Memᴰ m ms → holds m a ≡ holds m b) → firstHolder a ms ≡ firstHolder b ms
+unfolding lowest
 holder-same a b [] h = refl
 holder-same a b (m ∷ ms) h =
     ap₂ (λ (x : Bool) (n : ℕ). cond x 0 (suc n)) (h m (List·Memᴰ·head refl)) (holder-same a b ms (λ n d. h n (List·Memᴰ·tail d)))
@@ -124,17 +126,7 @@ module _ (D : Decider) where
   cube-laws = record {
     each = λ cut cs e he. cube-ruled D cut cs .each e he ∙ ap bit (pattern-crossed cut cs e he);
     linked = λ cut cs f i k hf hi hk e.
-        holder-same (ringEdge f i) (ringEdge f k) (loopsBy D cut cs) (λ m d. cube-ruled D cut cs .loop m d .closed (ringEdge f i) (ringEdge f k) (record {
-          face = f;
-          i = i;
-          k = k;
-          face-lt = hf;
-          i-lt = hi;
-          k-lt = hk;
-          from = refl;
-          to = refl;
-          link = linked-is D cut cs f i k hf ∙ e;
-        }));
+        holder-same (ringEdge f i) (ringEdge f k) (loopsBy D cut cs) (λ m d. cube-ruled D cut cs .loop m d .closed f i k hf hi hk (linked-is D cut cs f i k hf ∙ e));
     sized = λ cut cs m d. let l = cube-ruled D cut cs .loop m d in (l .three, l .twelve, l .small);
     four = λ cut cs. cube-ruled D cut cs .four;
     quiet = quiet;

@@ -1,5 +1,6 @@
 pub mod Tables
 pub mod Rings
+pub mod Rising
 pub mod Trails
 pub mod Tested
 pub mod Alike

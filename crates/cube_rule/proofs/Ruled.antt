@@ -14,10 +14,11 @@ use Rattle.laws.proofs.Bits.{holds-mask, both-or-none, holds-past}
 use Rattle.laws.proofs.Tests.{both, left, right, cases, is-true, some, some-at, lt-or-ge}
 use Rattle.cube_rule.specs.Edges.{crossed, crossedMask}
 use Rattle.cube_rule.specs.Faces.{ringEdge, ringCorner}
-use Rattle.cube_rule.specs.Links.{next, ringCrossed}
+use Rattle.cube_rule.specs.Links.{next, ringCrossed, linkedOn}
 use Rattle.cube_rule.specs.Loops.{firstLink, secondLink, placed, linksOf, loopsFrom, loopsIn}
-use Rattle.cube_rule.specs.Rule.{linkedOn, Linked, Loop, Rule}
+use Rattle.cube_rule.specs.Rule.{Alike, Loop, Rule}
 use Rattle.cube_rule.proofs.Tables.{ring-edge-crossed}
+use Rattle.cube_rule.proofs.Rising.{rising-order}
 use Rattle.cube_rule.proofs.Rings.{linked-sets, first-lt, second-lt, one-link, placed-at, placed-from}
 use Rattle.cube_rule.proofs.Trails.{has, linksOn, linked, hangs-same}
 use Rattle.cube_rule.proofs.Tested.{kept, keptOn, kept-or-not, good-loop, loop-sized, loop-kept, loop-hangs, good-each, good-loops, good-order}
@@ -50,7 +51,7 @@ module _ (p : ℕ) (j : ℕ → Bool) where
 
   -- ---- two edges that are linked on a face are in one of its two sets
 
-  linked-in : (f i k : ℕ) → f < 6 → i < 4 → k < 4 → linkedOn p j f i k ≡ true
+  linked-in : (f i k : ℕ) → f < 6 → i < 4 → k < 4 → linkedOn (holds p) j f i k ≡ true
       → ((holds (first f) i ≡ true) × (holds (first f) k ≡ true)) ⊎ ((holds (second f) i ≡ true) × (holds (second f) k ≡ true))
   linked-in f i k hf hi hk e =
       split (eqb i k) (holds (first f) i) (holds (first f) k) (holds (second f) i) (holds (second f) k)
@@ -67,53 +68,40 @@ module _ (p : ℕ) (j : ℕ → Bool) where
       split false false b false d e = absurd (false≢true e)
 
   -- so a set that has both ends of each link or neither is closed under links
-  closed-of : (l : ℕ) → ((f : ℕ) → f < 6 → T (keptOn (linksOf p j) l f)) → (a b : ℕ) → Linked p j a b → holds l a ≡ holds l b
-  closed-of l k a b r =
-      ap (holds l) (r .from)
-      ∙ ⊎-elim (λ w. one (first f) (first-small f) (subst (λ (x : ℕ). T (kept l x)) (s .0) (left (kept l (getD (linksOf p j) (2 * f) 0)) _ (k f (r .face-lt)))) w)
-      (λ w. one (second f) (second-small f) (subst (λ (x : ℕ). T (kept l x)) (s .1) (right (kept l (getD (linksOf p j) (2 * f) 0)) _ (k f (r .face-lt)))) w)
-      (linked-in f (r .i) (r .k) (r .face-lt) (r .i-lt) (r .k-lt) (r .link))
-      ∙ sym (ap (holds l) (r .to))
+  closed-of : (l : ℕ) → ((f : ℕ) → f < 6 → T (keptOn (linksOf p j) l f)) → Alike p j (holds l)
+  closed-of l kept-on f i k hf hi hk e =
+      ⊎-elim (λ w. one (first f) (first-small f) (subst (λ (x : ℕ). T (kept l x)) (s .0) (left (kept l (getD (linksOf p j) (2 * f) 0)) _ (kept-on f hf))) w)
+      (λ w. one (second f) (second-small f) (subst (λ (x : ℕ). T (kept l x)) (s .1) (right (kept l (getD (linksOf p j) (2 * f) 0)) _ (kept-on f hf))) w)
+      (linked-in f i k hf hi hk e)
     where
-      f : ℕ
-      f = r .face
-
       s : (getD (linksOf p j) (2 * f) 0 ≡ placed f (first f)) × (getD (linksOf p j) (2 * f + 1) 0 ≡ placed f (second f))
-      s = slots f (r .face-lt)
+      s = slots f hf
 
-      one : (m : ℕ) → m < 16 → T (kept l (placed f m)) → (holds m (r .i) ≡ true) × (holds m (r .k) ≡ true) → holds l (ringEdge f (r .i)) ≡ holds l (ringEdge f (r .k))
+      one : (m : ℕ) → m < 16 → T (kept l (placed f m)) → (holds m i ≡ true) × (holds m k ≡ true) → holds l (ringEdge f i) ≡ holds l (ringEdge f k)
       one m hm t w =
-          both-or-none l (placed f m) (ringEdge f (r .i)) (ringEdge f (r .k)) (kept-or-not l (placed f m) t)
-          (placed-at f m (r .i) (r .face-lt) hm (r .i-lt) ∙ w .0) (placed-at f m (r .k) (r .face-lt) hm (r .k-lt) ∙ w .1)
+          both-or-none l (placed f m) (ringEdge f i) (ringEdge f k) (kept-or-not l (placed f m) t)
+          (placed-at f m i hf hm hi ∙ w .0) (placed-at f m k hf hm hk ∙ w .1)
 
-  -- ---- two edges of one of a face's two sets are linked, or the same
+  -- ---- two edges of one of a face's two sets are linked, or the same: so what is the same at both ends of each link is the same at both
 
-  linked-from : (f i k : ℕ) → f < 6 → i < 4 → k < 4
+  same-from : (S : ℕ → Bool) → Alike p j S → (f i k : ℕ) → f < 6 → i < 4 → k < 4
       → ((holds (first f) i ≡ true) × (holds (first f) k ≡ true)) ⊎ ((holds (second f) i ≡ true) × (holds (second f) k ≡ true))
-      → (ringEdge f i ≡ ringEdge f k) ⊎ Linked p j (ringEdge f i) (ringEdge f k)
-  linked-from f i k hf hi hk w = go (eqb i k) refl
+      → S (ringEdge f i) ≡ S (ringEdge f k)
+  same-from S h f i k hf hi hk w = go (eqb i k) refl
     where
       joined : (x a b c d : Bool) → x ≡ false → ((a ≡ true) × (b ≡ true)) ⊎ ((c ≡ true) × (d ≡ true)) → (not x && (a && b || c && d)) ≡ true
       joined x a b c d e (inl w) = rw (e, w .0, w .1)
       joined x a b c d e (inr w) = rw (e, w .0, w .1) (or-true (a && b))
 
-      go : (x : Bool) → eqb i k ≡ x → (ringEdge f i ≡ ringEdge f k) ⊎ Linked p j (ringEdge f i) (ringEdge f k)
-      go true e = inl (ap (ringEdge f) (eqb-true i k e))
-      go false e = inr (record {
-        face = f;
-        i = i;
-        k = k;
-        face-lt = hf;
-        i-lt = hi;
-        k-lt = hk;
-        from = refl;
-        to = refl;
-        link = linked-sets (holds p (ringCorner f 0)) (holds p (ringCorner f 1)) (holds p (ringCorner f 2)) (holds p (ringCorner f 3)) (j f) i k hi hk
-            ∙ joined (eqb i k) (holds (first f) i) (holds (first f) k) (holds (second f) i) (holds (second f) k) e w;
-      })
+      go : (x : Bool) → eqb i k ≡ x → S (ringEdge f i) ≡ S (ringEdge f k)
+      go true e = ap (λ (c : ℕ). S (ringEdge f c)) (eqb-true i k e)
+      go false e =
+          h f i k hf hi hk
+          (linked-sets (holds p (ringCorner f 0)) (holds p (ringCorner f 1)) (holds p (ringCorner f 2)) (holds p (ringCorner f 3)) (j f) i k hi hk
+          ∙ joined (eqb i k) (holds (first f) i) (holds (first f) k) (holds (second f) i) (holds (second f) k) e w)
 
-  -- so what is the same at both ends of each link is the same along the sets
-  same-along : (S : ℕ → Bool) → ((a b : ℕ) → Linked p j a b → S a ≡ S b) → (a b : ℕ) → T (linked (linksOf p j) a b) → S a ≡ S b
+  -- and along the sets
+  same-along : (S : ℕ → Bool) → Alike p j S → (a b : ℕ) → T (linked (linksOf p j) a b) → S a ≡ S b
   unfolding linked
   same-along S h a b t = go (some-at 6 (linksOn (linksOf p j) a b) (right (ltb b 12) _ u))
     where
@@ -127,21 +115,19 @@ module _ (p : ℕ) (j : ℕ → Bool) where
       hb = ltb→lt b 12 (left (ltb b 12) _ u)
 
       ends : (f m : ℕ) → f < 6 → m < 16 → T (has (placed f m) a b)
-          → ((i k : ℕ) → i < 4 → k < 4 → holds m i ≡ true → holds m k ≡ true → (ringEdge f i ≡ ringEdge f k) ⊎ Linked p j (ringEdge f i) (ringEdge f k)) → S a ≡ S b
+          → ((i k : ℕ) → i < 4 → k < 4 → holds m i ≡ true → holds m k ≡ true → S (ringEdge f i) ≡ S (ringEdge f k)) → S a ≡ S b
       ends f m hf hm g from =
           let x = placed-from f m a hf hm ha (is-true _ (left (holds (placed f m) a) _ g)) in
           let y = placed-from f m b hf hm hb (is-true _ (right (holds (placed f m) a) (holds (placed f m) b) g)) in
-          ap S (x .2)
-          ∙ ⊎-elim (λ e. ap S e) (λ r. h (ringEdge f (x .0)) (ringEdge f (y .0)) r) (from (x .0) (y .0) (x .1) (y .1) (x .3) (y .3))
-          ∙ sym (ap S (y .2))
+          ap S (x .2) ∙ from (x .0) (y .0) (x .1) (y .1) (x .3) (y .3) ∙ sym (ap S (y .2))
 
       go : (f : ℕ) × (f < 6) × T (linksOn (linksOf p j) a b f) → S a ≡ S b
       go r =
           let f = r .0 in
           let s = slots f (r .1) in
           ⊎-elim
-          (λ (g : T (has (getD (linksOf p j) (2 * f) 0) a b)). ends f (first f) (r .1) (first-small f) (subst (λ (x : ℕ). T (has x a b)) (s .0) g) (λ i k hi hk x y. linked-from f i k (r .1) hi hk (inl (x, y))))
-          (λ (g : T (has (getD (linksOf p j) (2 * f + 1) 0) a b)). ends f (second f) (r .1) (second-small f) (subst (λ (x : ℕ). T (has x a b)) (s .1) g) (λ i k hi hk x y. linked-from f i k (r .1) hi hk (inr (x, y))))
+          (λ (g : T (has (getD (linksOf p j) (2 * f) 0) a b)). ends f (first f) (r .1) (first-small f) (subst (λ (x : ℕ). T (has x a b)) (s .0) g) (λ i k hi hk x y. same-from S h f i k (r .1) hi hk (inl (x, y))))
+          (λ (g : T (has (getD (linksOf p j) (2 * f + 1) 0) a b)). ends f (second f) (r .1) (second-small f) (subst (λ (x : ℕ). T (has x a b)) (s .1) g) (λ i k hi hk x y. same-from S h f i k (r .1) hi hk (inr (x, y))))
           (cases (has (getD (linksOf p j) (2 * f) 0) a b) (has (getD (linksOf p j) (2 * f + 1) 0) a b) (r .2))
 
   -- ---- each loop
@@ -160,10 +146,10 @@ module _ (p : ℕ) (j : ℕ → Bool) where
         whole = λ S h a b x y. hangs-same (linksOf p j) S (same-along S h) l _ (loop-hangs (linksOf p j) l t) a b (edge-lt l a (s .small) x) (edge-lt l b (s .small) y) x y;
       }
 
-  -- ---- a crossed edge has one link on each of its faces
-
-  one-link-each : (f i : ℕ) → f < 6 → i < 4
-      → bit (linkedOn p j f i 0) + bit (linkedOn p j f i 1) + bit (linkedOn p j f i 2) + bit (linkedOn p j f i 3) ≡ bit (crossed p (ringEdge f i))
+  -- "Each crossed edge has one link on each of its two faces", and any other has none
+  pub one-link-each : (f i : ℕ) → f < 6 → i < 4
+      → bit (linkedOn (holds p) j f i 0) + bit (linkedOn (holds p) j f i 1) + bit (linkedOn (holds p) j f i 2) + bit (linkedOn (holds p) j f i 3)
+      ≡ bit (crossed p (ringEdge f i))
   one-link-each f i hf hi =
       one-link (holds p (ringCorner f 0)) (holds p (ringCorner f 1)) (holds p (ringCorner f 2)) (holds p (ringCorner f 3)) (j f) i hi
       ∙ ap bit (ring-is i hi) ∙ ap bit (sym (ring-edge-crossed (holds p) f i hf hi))
@@ -199,6 +185,5 @@ ruled p h j =
       each = λ e he. good-each (sortOf p (joinedOn (holds p) j)) (crossedMask p) (linksOf p j) (loopsIn p j) t e he ∙ ap bit (crossed-mask p e he);
       loop = λ m d. loop-of p j m (good-loops (sortOf p (joinedOn (holds p) j)) (crossedMask p) (linksOf p j) (loopsIn p j) t m d);
       four = loops-four 4 (linksOf p j) (crossedMask p);
-      order = good-order (sortOf p (joinedOn (holds p) j)) (crossedMask p) (linksOf p j) (loopsIn p j) t;
-      links = one-link-each p j;
+      order = rising-order (loopsIn p j) (good-order (sortOf p (joinedOn (holds p) j)) (crossedMask p) (linksOf p j) (loopsIn p j) t);
     }

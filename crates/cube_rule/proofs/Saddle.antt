@@ -1,9 +1,9 @@
 -- The decider is the sign of the bilinear form at the saddle: a face with four crossed edges has a saddle, inside it, and its positive
 -- corners are joined exactly if the form there is at least t (`decider-is-saddle`, `saddle-exists`, at the end).
 -- With the samples t + A, t - B, t + C, t - D round the face, the first difference vanishes where (C + D) v = (A + B) x, and there the
--- form is above t by x n (A C - B D) over C + D. Positive samples at q and s are the same face, turned.
+-- form is above t by x (u + w) (A C - B D) over C + D. Positive samples at q and s are the same face, turned.
 -- Assumes nothing.
-use mathlib.Core.Path.{_≡_, refl, sym, ap, ap₂, _∙_}
+use mathlib.Core.Path.{_≡_, refl, sym, ap, _∙_}
 use mathlib.Core.Bool.{Bool, true, false}
 use mathlib.Core.Logic.{_↔_, _⊎_, inl, inr, ⊎-elim}
 use Prim.Native.Nat.{ℕ, zero, suc, _+_, _-_, _*_, _≤_, _<_}
@@ -14,7 +14,7 @@ use borrow.Author.Tests.{leb-true, leb-false, le-leb}
 use Rattle.block.specs.declared.Cut.{Cut}
 use Rattle.block.specs.Grey.{positive}
 use Rattle.cube_rule.specs.Decider.{joined}
-use Rattle.cube_rule.specs.Saddle.{Point, InsideFace, form, Saddle}
+use Rattle.cube_rule.specs.Saddle.{form, Saddle}
 use Rattle.cube_rule.proofs.Decider.{joined-pos, joined-neg}
 
 -- b - a and d - c have one sign where a positive multiple of the one is a positive multiple of the other
@@ -33,7 +33,7 @@ weight-some k l v (suc x) k-some n-some e = omega arith
 weight-some k l zero zero k-some n-some e = omega arith
 weight-some k l (suc v) zero k-some n-some e = let g : 0 < k * suc v = mul-pos k-some (omega arith) in omega arith
 
--- C + D times what the form has above t, at p and r, less what it has below t, at q and s, is x n (A C - B D)
+-- C + D times what the form has above t, at p and r, less what it has below t, at q and s, is x (u + w) (A C - B D)
 balance : (A B C D u w v x : ℕ) → (C + D) * v ≡ (A + B) * x →
     (C + D) * (A * (w * x) + C * (u * v)) + x * (u + w) * (B * D) ≡ (C + D) * (B * (u * x) + D * (w * v)) + x * (u + w) * (A * C)
 balance A B C D u w v x e =
@@ -70,101 +70,77 @@ module _ (t p q r s A B C D : ℕ) (sizes : Sizes t p q r s A B C D) where
       ((λ d. omega arith), (λ d. omega arith))
 
   -- the second difference need not vanish for this: where the first does, the form is the same all along the line
-  decides : 0 < D → (point : Point) → Saddle p q r s point → (B * D ≤ A * C) ↔ (t * (point .n * point .n) ≤ form p q r s point)
+  decides : 0 < D → (u w v x : ℕ) → 0 < u + w → 0 < v + x → Saddle p q r s u w v x
+      → (B * D ≤ A * C) ↔ (t * ((u + w) * (v + x)) ≤ form p q r s u w v x)
   unfolding form
-  decides D-some point saddle =
-      let u : ℕ = point .u in
-      let w : ℕ = point .w in
-      let v : ℕ = point .v in
-      let x : ℕ = point .x in
+  decides D-some u w v x along across saddle =
       let e : (C + D) * v ≡ (A + B) * x = ratio v x .0 (saddle .first) in
-      let x-some : 0 < x = weight-some (C + D) (A + B) v x (omega arith) (omega arith) e in
-      let n-some : 0 < x * (u + w) = mul-pos x-some (omega arith) in
+      let x-some : 0 < x = weight-some (C + D) (A + B) v x (omega arith) across e in
+      let n-some : 0 < x * (u + w) = mul-pos x-some along in
       let o : (B * D ≤ A * C) ↔ (B * (u * x) + D * (w * v) ≤ A * (w * x) + C * (u * v)) =
       same-order (C + D) (x * (u + w)) _ _ _ _ (omega arith) n-some (balance A B C D u w v x e) in
       let l = level u w v x in
-      let m : t * ((u + w) * (v + x)) ≡ t * (point .n * point .n) = ap₂ (λ (a b : ℕ). t * (a * b)) (point .first) (point .second) in
       ((λ h. let g = o .0 h in omega arith), (λ h. o .1 (omega arith)))
 
 -- the second difference is the first one of the face seen from behind
 behind : {t p q r s A B C D : ℕ} → Sizes t p q r s A B C D → Sizes t p s r q A D C B
 behind sizes = record { at-p = sizes .at-p; at-q = sizes .at-s; at-r = sizes .at-r; at-s = sizes .at-q }
 
-found : (t p q r s A B C D : ℕ) → Sizes t p q r s A B C D → 0 < B → 0 < D → (point : Point) × Saddle p q r s point × InsideFace point
-found t p q r s A B C D sizes B-some D-some = (point, saddle, inside)
-  where
-    point : Point
-    point = record {
-      n = A + B + C + D;
-      u = A + D;
-      w = C + B;
-      v = A + B;
-      x = C + D;
-      some = omega arith;
-      first = omega arith;
-      second = omega arith;
-    }
+-- a saddle on none of the face's edges
+abbrev SaddleInside : (p q r s : ℕ) → Type 0
+SaddleInside p q r s = (u : ℕ) × (w : ℕ) × (v : ℕ) × (x : ℕ) × (0 < u) × (0 < w) × (0 < v) × (0 < x) × Saddle p q r s u w v x
 
-    saddle : Saddle p q r s point
-    saddle = record {
-      first = ratio t p q r s A B C D sizes (A + B) (C + D) .1 (mul-comm (C + D) (A + B));
-      second = ratio t p s r q A D C B (behind sizes) (A + D) (C + B) .1 (mul-comm (C + B) (A + D));
-    }
-
-    inside : InsideFace point
-    inside = record { u-some = omega arith; w-some = omega arith; v-some = omega arith; x-some = omega arith }
+found : (t p q r s A B C D : ℕ) → Sizes t p q r s A B C D → 0 < B → 0 < D → SaddleInside p q r s
+found t p q r s A B C D sizes B-some D-some = (
+  A + D,
+  C + B,
+  A + B,
+  C + D,
+  omega arith,
+  omega arith,
+  omega arith,
+  omega arith,
+  record {
+    first = ratio t p q r s A B C D sizes (A + B) (C + D) .1 (mul-comm (C + D) (A + B));
+    second = ratio t p s r q A D C B (behind sizes) (A + D) (C + B) .1 (mul-comm (C + B) (A + D));
+  },
+)
 
 -- p and r are positive, q and s negative
 module _ (t p q r s : ℕ) (p-pos : t ≤ p) (q-neg : q < t) (r-pos : t ≤ r) (s-neg : s < t) where
   sized : Sizes t p q r s (p - t) (t - q) (r - t) (t - s)
   sized = record { at-p = omega arith; at-q = omega arith; at-r = omega arith; at-s = omega arith }
 
-  pub decider-pos : (point : Point) → Saddle p q r s point →
-      ((t - q) * (t - s) ≤ (p - t) * (r - t)) ↔ (t * (point .n * point .n) ≤ form p q r s point)
+  pub decider-pos : (u w v x : ℕ) → 0 < u + w → 0 < v + x → Saddle p q r s u w v x →
+      ((t - q) * (t - s) ≤ (p - t) * (r - t)) ↔ (t * ((u + w) * (v + x)) ≤ form p q r s u w v x)
   decider-pos = decides t p q r s (p - t) (t - q) (r - t) (t - s) sized (omega arith)
 
-  pub saddle-exists-pos : (point : Point) × Saddle p q r s point × InsideFace point
+  pub saddle-exists-pos : SaddleInside p q r s
   saddle-exists-pos = found t p q r s (p - t) (t - q) (r - t) (t - s) sized (omega arith) (omega arith)
 
--- the same point where the ring begins one corner later
-turn : Point → Point
-turn point = record {
-  n = point .n;
-  u = point .v;
-  w = point .x;
-  v = point .w;
-  x = point .u;
-  some = point .some;
-  first = point .second;
-  second = omega arith;
-}
+-- the same point where the ring begins one corner later: v of v + x, then w of w + u
+turn-form : (p q r s u w v x : ℕ) → form q r s p v x w u ≡ form p q r s u w v x
+unfolding form
+turn-form p q r s u w v x = omega arith
 
-turn-form : (p q r s : ℕ) (point : Point) → form q r s p (turn point) ≡ form p q r s point
-unfolding form turn
-turn-form p q r s point = omega arith
-
-turn-saddle : (p q r s : ℕ) (point : Point) → Saddle p q r s point → Saddle q r s p (turn point)
-unfolding turn
-turn-saddle p q r s point saddle = record { first = omega arith; second = omega arith }
-
-turn-inside : (point : Point) → InsideFace point → InsideFace (turn point)
-unfolding turn
-turn-inside point inside =
-    record { u-some = inside .v-some; w-some = inside .x-some; v-some = inside .w-some; x-some = inside .u-some }
+turn-saddle : (p q r s u w v x : ℕ) → Saddle p q r s u w v x → Saddle q r s p v x w u
+turn-saddle p q r s u w v x saddle = record { first = omega arith; second = omega arith }
 
 -- p and r are negative, q and s positive
 module _ (t p q r s : ℕ) (p-neg : p < t) (q-pos : t ≤ q) (r-neg : r < t) (s-pos : t ≤ s) where
-  pub decider-neg : (point : Point) → Saddle p q r s point →
-      ((t - p) * (t - r) ≤ (q - t) * (s - t)) ↔ (t * (point .n * point .n) ≤ form p q r s point)
-  unfolding turn
-  decider-neg point saddle =
-      let d = decider-pos t q r s p q-pos r-neg s-pos p-neg (turn point) (turn-saddle p q r s point saddle) in
-      rw (mul-comm (t - p) (t - r), ← turn-form p q r s point) d
+  pub decider-neg : (u w v x : ℕ) → 0 < u + w → 0 < v + x → Saddle p q r s u w v x →
+      ((t - p) * (t - r) ≤ (q - t) * (s - t)) ↔ (t * ((u + w) * (v + x)) ≤ form p q r s u w v x)
+  decider-neg u w v x along across saddle =
+      let d = decider-pos t q r s p q-pos r-neg s-pos p-neg v x w u across (omega arith) (turn-saddle p q r s u w v x saddle) in
+      rw (mul-comm (t - p) (t - r), ← turn-form p q r s u w v x, sides) d
+    where
+      sides : (u + w) * (v + x) ≡ (v + x) * (w + u)
+      sides = omega arith
 
-  pub saddle-exists-neg : (point : Point) × Saddle p q r s point × InsideFace point
+  pub saddle-exists-neg : SaddleInside p q r s
   saddle-exists-neg =
       let f = saddle-exists-pos t s p q r s-pos p-neg q-pos r-neg in
-      (turn (f .0), turn-saddle s p q r (f .0) (f .1), turn-inside (f .0) (f .2))
+      (f .2, f .3, f .1, f .0, f .6, f .7, f .5, f .4, turn-saddle s p q r (f .0) (f .1) (f .2) (f .3) (f .8))
 
 -- the samples at the first and third corner are positive, the others negative
 abbrev Alternate : (t p q r s : ℕ) → Type 0
@@ -189,17 +165,17 @@ module _ (cut : Cut) (p q r s : ℕ)
       go false false e f = absurd (p-not-q (e ∙ sym f))
 
   -- the positive corners are joined exactly if the form at the saddle is at least t
-  pub decider-is-saddle : (point : Point) → Saddle p q r s point →
-      (joined cut p q r s ≡ true) ↔ (cut .t * (point .n * point .n) ≤ form p q r s point)
-  decider-is-saddle point saddle =
+  pub decider-is-saddle : (u w v x : ℕ) → 0 < u + w → 0 < v + x → Saddle p q r s u w v x →
+      (joined cut p q r s ≡ true) ↔ (cut .t * ((u + w) * (v + x)) ≤ form p q r s u w v x)
+  decider-is-saddle u w v x along across saddle =
       ⊎-elim
       (λ (h : Alternate (cut .t) p q r s).
-      decided _ _ _ (joined-pos cut p q r s (h .0) (h .1) (h .2) (h .3)) (decider-pos (cut .t) p q r s (h .0) (h .1) (h .2) (h .3) point saddle))
+      decided _ _ _ (joined-pos cut p q r s (h .0) (h .1) (h .2) (h .3)) (decider-pos (cut .t) p q r s (h .0) (h .1) (h .2) (h .3) u w v x along across saddle))
       (λ (h : Alternate (cut .t) q r s p).
-      decided _ _ _ (joined-neg cut p q r s (h .3) (h .0) (h .1) (h .2)) (decider-neg (cut .t) p q r s (h .3) (h .0) (h .1) (h .2) point saddle))
+      decided _ _ _ (joined-neg cut p q r s (h .3) (h .0) (h .1) (h .2)) (decider-neg (cut .t) p q r s (h .3) (h .0) (h .1) (h .2) u w v x along across saddle))
       alternate
 
-  pub saddle-exists : (point : Point) × Saddle p q r s point × InsideFace point
+  pub saddle-exists : SaddleInside p q r s
   saddle-exists =
       ⊎-elim
       (λ (h : Alternate (cut .t) p q r s). saddle-exists-pos (cut .t) p q r s (h .0) (h .1) (h .2) (h .3))

@@ -3,13 +3,13 @@
 -- Assumes nothing.
 use Prim.Native.Nat.{ℕ, _+_, _/_, _%_, _^_, _<_}
 use mathlib.Core.Path.{_≡_, refl, ap₂, _∙_}
-use mathlib.Core.Bool.{Bool, true, false, _&&_, Bool·beq}
+use mathlib.Core.Bool.{Bool, true, false, _&&_, _||_, Bool·beq}
 use mathlib.Core.Logic.{_⊎_, inl, inr, ⊎-elim}
 use lib.Dec.{T, eqb, ltb, eqb→eq, ltb→lt}
 use Rattle.laws.specs.Bits.{bit, differ}
 use Rattle.laws.proofs.Tests.{both, one-of, left, right, cases, same-eq, below, below-at}
 use Rattle.cube_rule.specs.Edges.{lower, upper, axisOf, cornerOn}
-use Rattle.cube_rule.specs.Faces.{ringEdge, ringCorner, onFace}
+use Rattle.cube_rule.specs.Faces.{ringEdge, ringCorner}
 use Rattle.cube_rule.specs.Links.{next}
 
 -- ---- an edge runs from its lower corner to the upper one, along its axis
@@ -44,6 +44,11 @@ module _ (e : ℕ) (h : e < 12) where
 
 -- ---- an edge is on the face x=0 exactly if both its corners have x = 0, and so for all six: face f is at f % 2 on the axis f / 2
 
+-- the edge e is one of the face f
+abbrev pub onFace : ℕ → ℕ → Bool
+onFace f e = eqb e (ringEdge f 0) || eqb e (ringEdge f 1) || eqb e (ringEdge f 2) || eqb e (ringEdge f 3)
+
+-- both its corners are on f's side of the axis
 abbrev bothEnds : ℕ → ℕ → Bool
 bothEnds f e = eqb (cornerOn (f / 2) (lower e)) (f % 2) && eqb (cornerOn (f / 2) (upper e)) (f % 2)
 

@@ -13,7 +13,8 @@ use lib.Count.{ones, onesIn, ones-step, trailingZeros}
 use Rattle.laws.specs.Bits.{bit, holds}
 use Rattle.laws.proofs.Bits.{ones-in}
 use Rattle.laws.proofs.Tests.{both, one-of, left, right, cases, imply, below, below-at}
-use Rattle.cube_rule.specs.Rule.{holders, Rising}
+use Rattle.cube_rule.specs.Rule.{holders}
+use Rattle.cube_rule.proofs.Rising.{Rising}
 use Rattle.cube_rule.proofs.Trails.{trail, hangs}
 
 -- ---- one loop

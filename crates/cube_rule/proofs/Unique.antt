@@ -1,7 +1,7 @@
 -- THE RULE leaves no choice: any two lists of masks that keep it are equal. Two loops that share an edge have the same edges, since
 -- each is closed and connected; so both lists have the same loops, and both stand by the lowest edges.
 -- Assumes nothing.
-use mathlib.Core.Path.{_≡_, refl, sym, ap, ap₂, _∙_, subst}
+use mathlib.Core.Path.{_≡_, refl, sym, ap, _∙_, subst}
 use mathlib.Core.Bool.{Bool, true, false, false≢true}
 use mathlib.Core.Logic.{_⊎_, inl, inr, ⊎-elim}
 use mathlib.Core.List.{List, [], _∷_, List·Memᴰ, List·Memᴰ·head, List·Memᴰ·tail, List·Memᴰ·not-nil, List·Memᴰ·cases-cons}
@@ -12,54 +12,10 @@ use Rattle.laws.specs.Bits.{bit, holds}
 use Rattle.laws.proofs.Bits.{mask-ext, holds-past, some-ones}
 use Rattle.laws.proofs.Trailing.{trailing-lt, trailing-set}
 use Rattle.laws.proofs.Tests.{lt-or-ge}
-use Rattle.cube_rule.specs.Loops.{loopsIn}
-use Rattle.cube_rule.specs.Rule.{holders, lowestEdge, Rising, Loop, Rule}
+use Rattle.cube_rule.specs.Loops.{lowestEdge, loopsIn}
+use Rattle.cube_rule.specs.Rule.{holders, Loop, Rule}
+use Rattle.cube_rule.proofs.Rising.{order-rising, rising-same}
 use Rattle.cube_rule.proofs.Ruled.{ruled}
-
--- ---- lists that rise
-
-rising-tail : (m : ℕ) (ms : List ℕ) → Rising (m ∷ ms) → Rising ms
-rising-tail m [] r = tt
-rising-tail m (n ∷ ms) r = r .1
-
-rising-past : (m : ℕ) (ms : List ℕ) → Rising (m ∷ ms) → (x : ℕ) → List·Memᴰ x ms → lowestEdge m < lowestEdge x
-rising-past m [] r x d = absurd (List·Memᴰ·not-nil d)
-rising-past m (n ∷ ms) r x d = go (List·Memᴰ·cases-cons d) (rising-past n ms (r .1) x)
-  where
-    go : (x ≡ n) ⊎ List·Memᴰ x ms → (List·Memᴰ x ms → lowestEdge n < lowestEdge x) → lowestEdge m < lowestEdge x
-    go (inl e) ih = rw e (r .0)
-    go (inr k) ih = less (r .0) (ih k)
-      where
-        less : {a b c : ℕ} → a < b → b < c → a < c
-        less p q = omega arith
-
--- that have the same elements are the same
-rising-same : (ms ns : List ℕ) → Rising ms → Rising ns → ((x : ℕ) → List·Memᴰ x ms → List·Memᴰ x ns) → ((x : ℕ) → List·Memᴰ x ns → List·Memᴰ x ms) → ms ≡ ns
-rising-same [] [] r s f g = refl
-rising-same [] (n ∷ ns) r s f g = absurd (List·Memᴰ·not-nil (g n (List·Memᴰ·head refl)))
-rising-same (m ∷ ms) [] r s f g = absurd (List·Memᴰ·not-nil (f m (List·Memᴰ·head refl)))
-rising-same (m ∷ ms) (n ∷ ns) r s f g =
-    ap₂ (λ (x : ℕ) (xs : List ℕ). x ∷ xs) heads
-    (rising-same ms ns (rising-tail m ms r) (rising-tail n ns s)
-    (λ x d. other n ns x (f x (List·Memᴰ·tail d)) (subst (λ (y : ℕ). lowestEdge y < lowestEdge x) heads (rising-past m ms r x d)))
-    (λ x d. other m ms x (g x (List·Memᴰ·tail d)) (subst (λ (y : ℕ). lowestEdge y < lowestEdge x) (sym heads) (rising-past n ns s x d))))
-  where
-    clash : {a b : ℕ} → a < b → b < a → ⊥
-    clash p q = omega arith
-
-    heads : m ≡ n
-    heads = go (List·Memᴰ·cases-cons (f m (List·Memᴰ·head refl))) (List·Memᴰ·cases-cons (g n (List·Memᴰ·head refl)))
-      where
-        go : (m ≡ n) ⊎ List·Memᴰ m ns → (n ≡ m) ⊎ List·Memᴰ n ms → m ≡ n
-        go (inl e) _ = e
-        go (inr d) (inl e) = sym e
-        go (inr d) (inr k) = absurd (clash (rising-past n ns s m d) (rising-past m ms r n k))
-
-    other : (y : ℕ) (ys : List ℕ) (x : ℕ) → List·Memᴰ x (y ∷ ys) → lowestEdge y < lowestEdge x → List·Memᴰ x ys
-    other y ys x d h = ⊎-elim (λ (e : x ≡ y). absurd (self (subst (λ (z : ℕ). lowestEdge y < lowestEdge z) e h))) (λ (k : List·Memᴰ x ys). k) (List·Memᴰ·cases-cons d)
-      where
-        self : {a : ℕ} → a < a → ⊥
-        self p = omega arith
 
 -- ---- who holds an edge
 
@@ -124,7 +80,7 @@ module _ (p : ℕ) (j : ℕ → Bool) where
 
   -- two lists that keep the rule are equal
   pub rule-fixes : (ms ns : List ℕ) → Rule p j ms → Rule p j ns → ms ≡ ns
-  rule-fixes ms ns r s = rising-same ms ns (r .order) (s .order) (among ms ns r s) (among ns ms s r)
+  rule-fixes ms ns r s = rising-same ms ns (order-rising ms (r .order)) (order-rising ns (s .order)) (among ms ns r s) (among ns ms s r)
 
 -- any masks that keep the rule are the loops
 pub rule-unique : (p : ℕ) → p < 256 → (j : ℕ → Bool) (ms : List ℕ) → Rule p j ms → ms ≡ loopsIn p j

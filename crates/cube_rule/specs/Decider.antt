@@ -1,5 +1,4 @@
 -- The asymptotic decider (document 01, "Faces, loops and places"): "The differences are signed and the comparison is exact."
--- Assumes nothing.
 use Prim.Native.Nat.{ℕ}
 use mathlib.Core.Bool.{Bool, cond}
 use mathlib.Core.List.{List}

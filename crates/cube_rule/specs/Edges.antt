@@ -1,5 +1,5 @@
 -- The corners and edges of one cube, its sign pattern, and which edges are crossed (document 01, "The block and its numbering").
--- A cube is the list of its eight samples, by corner; a sign pattern and a set of edges are masks. Assumes nothing.
+-- A cube is the list of its eight samples, by corner; a sign pattern and a set of edges are masks.
 use Prim.Native.Nat.{ℕ, _/_, _%_, _^_}
 use mathlib.Core.Bool.{Bool}
 use mathlib.Core.List.{List, [], _∷_}
@@ -13,24 +13,14 @@ abbrev pub cornerOn : ℕ → ℕ → ℕ
 cornerOn axis c = c / 2 ^ axis % 2
 
 -- "Edges by corner pairs .. The corner named first is the lower one."
-pub record Edge : Type 0 where
-  pub lower : ℕ
-  pub upper : ℕ
-
-abbrev pub edge : ℕ → ℕ → Edge
-edge a b = record { lower = a; upper = b }
-
-abbrev pub edges : List Edge
-edges =
-    edge 0 1 ∷ edge 2 3 ∷ edge 4 5 ∷ edge 6 7
-    ∷ edge 0 2 ∷ edge 1 3 ∷ edge 4 6 ∷ edge 5 7
-    ∷ edge 0 4 ∷ edge 1 5 ∷ edge 2 6 ∷ edge 3 7 ∷ []
+abbrev pub edges : List (ℕ × ℕ)
+edges = (0, 1) ∷ (2, 3) ∷ (4, 5) ∷ (6, 7) ∷ (0, 2) ∷ (1, 3) ∷ (4, 6) ∷ (5, 7) ∷ (0, 4) ∷ (1, 5) ∷ (2, 6) ∷ (3, 7) ∷ []
 
 abbrev pub lower : ℕ → ℕ
-lower e = getD edges e (edge 0 0) .lower
+lower e = getD edges e (0, 0) .0
 
 abbrev pub upper : ℕ → ℕ
-upper e = getD edges e (edge 0 0) .upper
+upper e = getD edges e (0, 0) .1
 
 -- edges 0 to 3 run along x (axis 0), 4 to 7 along y (1), 8 to 11 along z (2)
 abbrev pub axisOf : ℕ → ℕ

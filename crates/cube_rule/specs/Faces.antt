@@ -1,9 +1,6 @@
 -- The six faces of a cube (document 01, "The block and its numbering"): x=0, x=1, y=0, y=1, z=0, z=1 are faces 0 to 5.
--- Assumes nothing.
 use Prim.Native.Nat.{ℕ}
-use mathlib.Core.Bool.{Bool, _||_}
 use mathlib.Core.List.{List, [], _∷_}
-use lib.Dec.{eqb}
 use lib.ListN.{getD}
 
 -- "Faces by edges", in 01's order round the face
@@ -25,7 +22,3 @@ ringEdge f i = getD (getD faceEdges f []) i 0
 
 abbrev pub ringCorner : ℕ → ℕ → ℕ
 ringCorner f i = getD (getD faceCorners f []) i 0
-
--- the edge e is one of the face f
-abbrev pub onFace : ℕ → ℕ → Bool
-onFace f e = eqb e (ringEdge f 0) || eqb e (ringEdge f 1) || eqb e (ringEdge f 2) || eqb e (ringEdge f 3)

@@ -1,12 +1,11 @@
 -- The face rule: which edges of a face are linked (document 01, "Faces, loops and places").
 -- A face is seen as a ring: corners 0 to 3 with the signs a, b, c, d, and edges 0 to 3, of which edge i joins corner i to the next.
--- Assumes nothing.
 use Prim.Native.Nat.{ℕ, _+_, _%_}
-use mathlib.Core.Bool.{Bool, true, false, not, _&&_, _||_, Bool·beq}
+use mathlib.Core.Bool.{Bool, false, not, _&&_, _||_, Bool·beq}
 use mathlib.Core.List.{List, [], _∷_}
 use lib.Dec.{eqb}
 use lib.ListN.{getD}
-use Rattle.laws.specs.Bits.{bit, differ, holds}
+use Rattle.laws.specs.Bits.{bit, differ}
 use Rattle.block.specs.declared.Cut.{Cut}
 use Rattle.block.specs.Grey.{positive}
 use Rattle.cube_rule.specs.Edges.{cornerSample}
@@ -43,16 +42,15 @@ module _ (a b c d : Bool) where
 abbrev pub Decider : Type 0
 Decider = Cut → ℕ → ℕ → ℕ → ℕ → Bool
 
--- edges i and k of a face with the samples p, q, r, s round it
-abbrev pub linkedBy : Decider → Cut → ℕ → ℕ → ℕ → ℕ → ℕ → ℕ → Bool
-linkedBy D cut p q r s i k = linkedIf (positive cut p) (positive cut q) (positive cut r) (positive cut s) (D cut p q r s) i k
-
--- edges i and k of the face f of a cube
-abbrev pub linkedAt : Decider → Cut → List ℕ → ℕ → ℕ → ℕ → Bool
-linkedAt D cut corners f i k =
-    linkedBy D cut (cornerSample corners (ringCorner f 0)) (cornerSample corners (ringCorner f 1)) (cornerSample corners (ringCorner f 2)) (cornerSample corners (ringCorner f 3)) i k
-
 -- how a cube's faces are decided
 abbrev pub decisions : Decider → Cut → List ℕ → ℕ → Bool
 decisions D cut corners f =
     D cut (cornerSample corners (ringCorner f 0)) (cornerSample corners (ringCorner f 1)) (cornerSample corners (ringCorner f 2)) (cornerSample corners (ringCorner f 3))
+
+-- edges i and k of the face f of a cube are linked: `s c` is the sign of its corner c, `j f` says whether the positive corners of f are joined
+abbrev pub linkedOn : (ℕ → Bool) → (ℕ → Bool) → ℕ → ℕ → ℕ → Bool
+linkedOn s j f i k = linkedIf (s (ringCorner f 0)) (s (ringCorner f 1)) (s (ringCorner f 2)) (s (ringCorner f 3)) (j f) i k
+
+-- the same of a cube's samples
+abbrev pub linkedAt : Decider → Cut → List ℕ → ℕ → ℕ → ℕ → Bool
+linkedAt D cut corners f i k = linkedOn (λ (c : ℕ). positive cut (cornerSample corners c)) (decisions D cut corners) f i k

@@ -1,7 +1,7 @@
 -- The loops of a cube, by an executable definition. What they are without it is `Rule`.
 -- Assumes nothing.
 use Prim.Native.Nat.{ℕ, zero, suc, _+_, _*_, _/_, _%_, _^_}
-use mathlib.Core.Bool.{Bool, true, false, not, cond, Bool·beq}
+use mathlib.Core.Bool.{Bool, not, cond, Bool·beq}
 use mathlib.Core.List.{List, [], _∷_}
 use lib.Dec.{eqb}
 use lib.Bits.{bitAnd, bitOr, bitXor}
@@ -47,6 +47,10 @@ linksOf p j = linksFrom p (0 ∷ 1 ∷ 2 ∷ 3 ∷ 4 ∷ 5 ∷ []) j
 
 -- ---- loops
 
+-- the lowest edge of a set
+abbrev pub lowestEdge : ℕ → ℕ
+lowestEdge m = trailingZeros 32 m
+
 -- a set of edges, with the other end of a link that has an edge in it
 abbrev pub join : ℕ → ℕ → ℕ
 join m l = cond (eqb (bitAnd m l) 0) m (bitOr m l)
@@ -66,7 +70,7 @@ loopFrom ls e = grow (grow (grow (2 ^ e) ls) ls) ls
 unfoldable pub loopsFrom : ℕ → List ℕ → ℕ → List ℕ
 unfolding loopFrom
 loopsFrom zero ls m = []
-loopsFrom (suc n) ls m = cond (eqb m 0) [] (let l = loopFrom ls (trailingZeros 32 m) in l ∷ loopsFrom n ls (bitXor m l))
+loopsFrom (suc n) ls m = cond (eqb m 0) [] (let l = loopFrom ls (lowestEdge m) in l ∷ loopsFrom n ls (bitXor m l))
 
 -- "at most four in a cube"
 abbrev pub loopsIn : ℕ → (ℕ → Bool) → List ℕ

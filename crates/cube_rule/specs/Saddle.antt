@@ -1,33 +1,15 @@
--- The bilinear form of a face and its saddle (document 01, "Faces, loops and places"), in whole numbers: fractions have one divisor n.
--- Assumes nothing.
+-- The bilinear form of a face and its saddle (document 01, "Faces, loops and places"), in whole numbers.
 use mathlib.Core.Path.{_≡_}
-use Prim.Native.Nat.{ℕ, _+_, _*_, _<_}
+use Prim.Native.Nat.{ℕ, _+_, _*_}
 
--- A point of a face: its coordinates are u/n along the face's first side and v/n along its second; w/n and x/n are what is left of 1.
-pub record Point : Type 0 where
-  pub n : ℕ
-  pub u : ℕ
-  pub w : ℕ
-  pub v : ℕ
-  pub x : ℕ
-  pub some : 0 < n
-  pub first : u + w ≡ n
-  pub second : v + x ≡ n
-
--- on none of the face's four edges
-pub record InsideFace (point : Point) : Type 0 where
-  pub u-some : 0 < point .u
-  pub w-some : 0 < point .w
-  pub v-some : 0 < point .v
-  pub x-some : 0 < point .x
-
--- The samples round the face: p at (0, 0), q at (1, 0), r at (1, 1), s at (0, 1).
-module _ (p q r s : ℕ) where
-  -- the bilinear form at a point, times n·n
-  unfoldable pub form : Point → ℕ
-  form point = p * (point .w * point .x) + q * (point .u * point .x) + r * (point .u * point .v) + s * (point .w * point .v)
+-- The samples round the face: p at (0, 0), q at (1, 0), r at (1, 1), s at (0, 1). A point of it: u of u + w along the face's first side,
+-- and v of v + x along its second, neither sum being 0. It is on none of the four edges if none of the four numbers is 0.
+module _ (p q r s u w v x : ℕ) where
+  -- the bilinear form at the point, times (u + w)·(v + x)
+  unfoldable pub form : ℕ
+  form = p * (w * x) + q * (u * x) + r * (u * v) + s * (w * v)
 
   -- Both differences of the form vanish at the point: along either side, the line through it has one value of the form at both ends.
-  pub record Saddle (point : Point) : Type 0 where
-    pub first : q * point .x + r * point .v ≡ p * point .x + s * point .v
-    pub second : s * point .w + r * point .u ≡ p * point .w + q * point .u
+  pub record Saddle : Type 0 where
+    pub first : q * x + r * v ≡ p * x + s * v
+    pub second : s * w + r * u ≡ p * w + q * u

@@ -25,7 +25,7 @@ use Rattle.block.proofs.Rows.{count-passes}
 use Rattle.cube_rule.specs.Decider.{loopsOf}
 use Rattle.mesh_rule.specs.Buffers.{meshWords, meshOffsets, meshQuads}
 use Rattle.block.specs.Grey.{SixteenBit}
-use Rattle.mesh_rule.proofs.Offsets.{offsets-in-unit, mesh-offsets-length}
+use Rattle.mesh_rule.proofs.Offsets.{offset-numbers, mesh-offsets-length}
 use Rattle.mesh_rule.proofs.Words.{mesh-words-length}
 use Rattle.mesh_rule.proofs.Small.{few-vertices, few-quads}
 use Rattle.mesh.specs.declared.Totals.{Totals}
@@ -157,6 +157,6 @@ module _ (nx ny nz t : ℕ) (s w : List ℕ) (o : List Float) (q : List ℕ) (r 
     pub accepted-front : SixteenBit s → Front size s cut w′ o′ q′ c
     accepted-front grey = record {
       few = (omega (arith, vertices-are, few-v), omega (arith, quads-are, few-q));
-      numbers = subst Numbers (sym offsets-are) (λ (k : ℕ) h. offsets-in-unit size s cut grey k h .number);
+      numbers = subst Numbers (sym offsets-are) (offset-numbers size s cut grey);
       text = accepted-text;
     }

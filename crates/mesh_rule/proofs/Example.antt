@@ -9,6 +9,7 @@ use Rattle.laws.specs.Below.{below}
 use Rattle.laws.specs.Bits.{maskOf}
 use Rattle.block.specs.declared.Cut.{Cut}
 use Rattle.block.specs.declared.Size.{Size}
+use Rattle.block.specs.Rows.{lowest}
 use Rattle.cube_rule.specs.Edges.{patternOf, crossedMask}
 use Rattle.cube_rule.specs.Loops.{grow, loopFrom, loopsFrom, loopsBy}
 use Rattle.cube_rule.specs.Decider.{joined, loopsOf}
@@ -35,7 +36,7 @@ the-vertices = refl
 
 pub the-quads : flat (quads loopsOf (size 3) samples cut)
     ≡ 0 ∷ 4 ∷ 6 ∷ 2 ∷ 1 ∷ 3 ∷ 7 ∷ 5 ∷ 0 ∷ 1 ∷ 5 ∷ 4 ∷ 2 ∷ 6 ∷ 7 ∷ 3 ∷ 0 ∷ 2 ∷ 3 ∷ 1 ∷ 4 ∷ 5 ∷ 7 ∷ 6 ∷ []
-unfolding quads quadsBefore quadAt vertexNumber verticesBefore verticesOf cornersOf below loopsBy joined patternOf crossedMask loopsFrom loopFrom grow maskOf trailingZeros
+unfolding quads quadsBefore quadAt vertexNumber lowest verticesBefore verticesOf cornersOf below loopsBy joined patternOf crossedMask loopsFrom loopFrom grow maskOf trailingZeros
 the-quads = refl
 
 -- one metal sample at the corner of the smallest block: its one vertex is on no inner edge
@@ -45,5 +46,5 @@ unused-vertex = refl
 
 -- one metal sample, (1,1,2), in the middle of the last face along z: of its five edges only the one along z, from (1,1,1), is inner
 pub on-a-face : flat (quads loopsOf (size 3) (replicate 22 0 ++ 400 ∷ replicate 4 0) cut) ≡ 0 ∷ 2 ∷ 3 ∷ 1 ∷ []
-unfolding quads quadsBefore quadAt vertexNumber verticesBefore verticesOf cornersOf below loopsBy joined patternOf crossedMask loopsFrom loopFrom grow maskOf trailingZeros
+unfolding quads quadsBefore quadAt vertexNumber lowest verticesBefore verticesOf cornersOf below loopsBy joined patternOf crossedMask loopsFrom loopFrom grow maskOf trailingZeros
 on-a-face = refl

@@ -8,11 +8,13 @@ use native.Mathlib.Nat.{not-suc-le-zero, le-of-suc-le-suc}
 use native.Mathlib.Omega.{arith}
 use lib.ListN.{length, getD}
 use Rattle.laws.specs.Bits.{bit, holds}
+use Rattle.block.specs.Rows.{lowest}
 use Rattle.cube_rule.specs.Rule.{holders, firstHolder}
 
 module _ (e : ℕ) where
   -- the first holder stands among the masks
   pub first-lt : (ms : List ℕ) → 0 < holders e ms → firstHolder e ms < length ms
+  unfolding lowest
   first-lt [] h = absurd (not-suc-le-zero h)
   first-lt (m ∷ ms) h = go (holds m e) h (first-lt ms)
     where
@@ -23,6 +25,7 @@ module _ (e : ℕ) where
 
   -- it holds the edge
   pub first-holds : (ms : List ℕ) → 0 < holders e ms → holds (getD ms (firstHolder e ms) 0) e ≡ true
+  unfolding lowest
   first-holds [] h = absurd (not-suc-le-zero h)
   first-holds (m ∷ ms) h = go (holds m e) refl h (first-holds ms)
     where
@@ -38,6 +41,7 @@ module _ (e : ℕ) where
 
   -- and no other mask does, where there is at most one holder
   pub only-first : (ms : List ℕ) → holders e ms ≤ 1 → (p : ℕ) → p < length ms → holds (getD ms p 0) e ≡ true → p ≡ firstHolder e ms
+  unfolding lowest
   only-first [] q p h x = absurd (not-suc-le-zero h)
   only-first (m ∷ ms) q zero h x = rw x
   only-first (m ∷ ms) q (suc p) h x = go (holds m e) q (λ r. only-first ms r p (le-of-suc-le-suc h) x)

@@ -1,4 +1,5 @@
 pub mod Inner
+pub mod Neighbours
 pub mod Holders
 pub mod Numbers
 pub mod Quads

@@ -1,12 +1,14 @@
--- Every offset of a mesh is within its cube: each coordinate in the offsets buffer is at least 0 and at most 1, and is not minus zero, for
+-- Every offset of a mesh is within its cube: each coordinate in the offsets buffer is at least 0 and at most 1, and has the sign plus, for
 -- 16-bit samples and every threshold. The buffer has three coordinates for each vertex.
 -- Assumes nothing.
 use Prim.Native.Nat.{ℕ, zero, suc, _+_, _*_, _-_, _/_, _%_, _<_}
 use mathlib.Core.Path.{_≡_, refl, ap, sym, _∙_, subst}
+use mathlib.Core.Bool.{not}
 use mathlib.Core.List.{List, [], _∷_, map, List·Memᴰ, List·Memᴰ·head, List·Memᴰ·tail}
 use native.Mathlib.Nat.{not-suc-le-zero}
 use native.Mathlib.Omega.{arith}
-use lib.Ieee.{nan}
+use lib.Dec.{T}
+use lib.Ieee.{nan, isNan}
 use lib.ListN.{length, getD, length-append, length-map}
 use Rattle.laws.specs.Below.{below}
 use Rattle.laws.proofs.Below.{split, getD-below}
@@ -18,7 +20,7 @@ use Rattle.place.specs.declared.Offset.{Offset}
 use Rattle.place.specs.Place.{placeOf}
 use Rattle.place.specs.Unit.{InUnit, Inside}
 use Rattle.block.specs.Grey.{SixteenBit}
-use Rattle.place.proofs.Bounds.{place-in-unit}
+use Rattle.place.proofs.Bounds.{unit-number, place-in-unit}
 use Rattle.cell.proofs.Answers.{loop-crossed}
 use Rattle.mesh_rule.specs.Grid.{cornersAt, cornersOf}
 use Rattle.mesh_rule.specs.Mesh.{verticesOf, verticesBefore, vertices, cubeLoops}
@@ -48,9 +50,9 @@ corners-grey n s g c = at-grey n s g (c % (n .nx - 1)) (c / (n .nx - 1) % (n .ny
 triples-in-unit : (f : ℕ → Offset) (ms : List ℕ) → ((m : ℕ) → List·Memᴰ m ms → Inside (f m)) → (k : ℕ) → k < length (triples (map f ms))
     → InUnit (getD (triples (map f ms)) k nan)
 triples-in-unit f [] h k l = absurd (not-suc-le-zero l)
-triples-in-unit f (m ∷ ms) h zero l = h m (List·Memᴰ·head refl) .xIn
-triples-in-unit f (m ∷ ms) h (suc zero) l = h m (List·Memᴰ·head refl) .yIn
-triples-in-unit f (m ∷ ms) h (suc (suc zero)) l = h m (List·Memᴰ·head refl) .zIn
+triples-in-unit f (m ∷ ms) h zero l = h m (List·Memᴰ·head refl) .0
+triples-in-unit f (m ∷ ms) h (suc zero) l = h m (List·Memᴰ·head refl) .1
+triples-in-unit f (m ∷ ms) h (suc (suc zero)) l = h m (List·Memᴰ·head refl) .2
 triples-in-unit f (m ∷ ms) h (suc (suc (suc k))) l = triples-in-unit f ms (λ x d. h x (List·Memᴰ·tail d)) k (omega arith)
 
 module _ (n : Size) (s : List ℕ) (cut : Cut) where
@@ -69,6 +71,10 @@ module _ (n : Size) (s : List ℕ) (cut : Cut) where
       subst InUnit
       (sym (ap (λ (j : ℕ). getD (meshOffsets loopsOf n s cut) j nan) (r .4) ∙ getD-below (cubeOffsets loopsOf n s cut) nan (cubeCount n) (r .0) (r .1) (r .2) (r .3)))
       (cube-in-unit g (r .0) (r .1) (r .3))
+
+  -- none is a NaN
+  pub offset-numbers : SixteenBit s → (k : ℕ) → k < length (meshOffsets loopsOf n s cut) → T (not (isNan (getD (meshOffsets loopsOf n s cut) k nan)))
+  offset-numbers g k h = unit-number (getD (meshOffsets loopsOf n s cut) k nan) (offsets-in-unit g k h)
 
 -- ---- how many there are
 

@@ -1,8 +1,8 @@
--- Each fraction and each coordinate of each offset is at least 0 and at most 1, and is not minus zero.
+-- Each fraction and each coordinate of each offset is at least 0 and at most 1, and has the sign plus.
 -- A sum over the mask's edges is at most the number of edges summed, since no rounding carries it past a whole number.
 -- Assumes nothing.
 use mathlib.Core.Path.{_≡_, refl, sym, _∙_, subst}
-use mathlib.Core.Bool.{Bool, true, false, cond}
+use mathlib.Core.Bool.{Bool, true, false, cond, not}
 use mathlib.Core.List.{List, [], _∷_}
 use Prim.Native.Nat.{ℕ, zero, suc, _+_, _*_, _/_, _%_, _^_, _≤_, _<_, zero-le}
 use native.Mathlib.Nat.{le-refl, le-trans, le-of-eq, le-add-right, le-of-suc-le, mul-one, zero-mul}
@@ -15,15 +15,15 @@ use lib.Ieee.Positive.{den-pos}
 use borrow.Author.Tests.{leb-true, leb-false, eqb-true}
 use Rattle.laws.specs.Bits.{differ, holds}
 use Rattle.laws.proofs.Bits.{ones-pos}
-use Rattle.laws.proofs.Within.{plain, Within, wider, either, add-within, whole-within, div-within}
+use Rattle.laws.proofs.Within.{Within, wider, either, add-within, whole-within, div-within}
 use Rattle.block.specs.declared.Cut.{Cut}
 use Rattle.block.specs.Answer.{accepted}
 use Rattle.block.specs.Grey.{cutOf, positive, apart, isCeiling, noThreshold, SixteenBit}
-use Rattle.cube_rule.specs.Edges.{lower, upper, axisOf, cornerOn, cornerSample}
+use Rattle.cube_rule.specs.Edges.{lower, upper, axisOf, cornerOn, cornerSample, crossedAt}
 use Rattle.place.specs.declared.Crossing.the-variants.{At}
 use Rattle.place.specs.Crossing.{gap, float, fraction, EdgeAnswered}
 use Rattle.place.specs.Place.{plusZero, one, local, fractionAt, sumOn, meanOn, placeOf}
-use Rattle.place.specs.Unit.{InUnit, Inside, CrossedSet}
+use Rattle.place.specs.Unit.{InUnit, Inside}
 use Rattle.place.proofs.Answers.{refusedBy, edge-answers}
 use Rattle.place.proofs.Counts.{countBelow, count-le, count-small}
 
@@ -35,11 +35,19 @@ in-unit nan w = absurd (w .0)
 in-unit (inf s) w = absurd (w .0)
 in-unit (fin true m e) w = absurd (w .0)
 in-unit (fin false m e) w = record {
-  number = unfold isNan in tt;
+  plus = (m, e, refl);
   atLeast = le-of-values plusZero (fin false m e) 0 1 (m * up e) (down e) (lit< tt) (den-pos (fin false m e)) (refl, refl) (refl, refl) (le-trans (le-of-eq (zero-mul (down e))) zero-le);
   atMost = le-of-values (fin false m e) one (m * up e) (down e) 1 1 (den-pos (fin false m e)) (lit< tt) (refl, refl) (refl, refl) (le-trans (le-of-eq (mul-one (m * up e))) (w .1));
-  notMinusZero = λ h. subst (λ (x : Float). T (plain x)) h tt;
 }
+
+-- what is in the unit is no NaN
+pub unit-number : (x : Float) → InUnit x → T (not (isNan x))
+unfolding isNan
+unit-number x u = subst (λ (y : Float). T (not (isNan y))) (sym (u .plus .2)) tt
+
+-- plus zero is
+pub zero-in-unit : InUnit plusZero
+zero-in-unit = in-unit plusZero (tt, lit≤ tt)
 
 -- ---- a fraction
 
@@ -86,6 +94,12 @@ fraction-in-unit p q t f P Q said =
 
 -- ---- a place
 
+-- the mask m is a set of crossed edges of a cube, and not the empty one
+pub record CrossedSet (cut : Cut) (corners : List ℕ) (m : ℕ) : Type 0 where
+  pub some : 0 < m
+  pub small : m < 4096
+  pub crossed : (e : ℕ) → e < 12 → holds m e ≡ true → crossedAt cut corners e ≡ true
+
 -- the coordinate of a crossing
 local-within : (a e : ℕ) (f : Float) → Within 1 f → Within 1 (local a e f)
 unfolding local
@@ -128,8 +142,7 @@ module _ (a m : ℕ) (cut : Cut) (corners : List ℕ) (grey : SixteenBit corners
 -- every coordinate of the place of a set of crossed edges that is not empty, for 16-bit samples and every threshold
 pub place-in-unit : (cut : Cut) (corners : List ℕ) (m : ℕ) → SixteenBit corners → CrossedSet cut corners m → Inside (placeOf cut corners m)
 unfolding placeOf
-place-in-unit cut corners m grey set = record {
-  xIn = in-unit (meanOn 0 m cut corners) (mean-within 0 m cut corners grey set);
-  yIn = in-unit (meanOn 1 m cut corners) (mean-within 1 m cut corners grey set);
-  zIn = in-unit (meanOn 2 m cut corners) (mean-within 2 m cut corners grey set);
-}
+place-in-unit cut corners m grey set = (on 0, on 1, on 2)
+  where
+    on : (a : ℕ) → InUnit (meanOn a m cut corners)
+    on a = in-unit (meanOn a m cut corners) (mean-within a m cut corners grey set)

@@ -1,32 +1,19 @@
 -- What is promised of each fraction and of each coordinate of each offset (document 01, "Faces, loops and places").
--- Assumes nothing.
-use Prim.Native.Nat.{ℕ, _<_}
+use Prim.Native.Nat.{ℕ}
 use mathlib.Core.Path.{_≡_}
-use mathlib.Core.Bool.{true, not}
-use mathlib.Core.List.{List}
+use mathlib.Core.Bool.{false}
 use lib.Dec.{T}
-use lib.Ieee.{Float, le, isNan}
-use Rattle.laws.specs.Bits.{holds}
-use Rattle.block.specs.declared.Cut.{Cut}
-use Rattle.cube_rule.specs.Edges.{crossedAt}
+use lib.IntN.{ℤ}
+use lib.Ieee.{Float, fin, le}
 use Rattle.place.specs.declared.Offset.{Offset}
-use Rattle.place.specs.Place.{plusZero, minusZero, one}
+use Rattle.place.specs.Place.{plusZero, one}
 
--- "at least 0 and at most 1", "never minus zero": so it is a number and no NaN
+-- a number with the sign plus, so no NaN and "never minus zero"; "at least 0 and at most 1"
 pub record InUnit (x : Float) : Type 0 where
-  pub number : T (not (isNan x))
+  pub plus : (m : ℕ) × (e : ℤ) × (x ≡ fin false m e)
   pub atLeast : T (le plusZero x)
   pub atMost : T (le x one)
-  pub notMinusZero : x ≡ minusZero → ⊥
 
 -- each coordinate of an offset is so
-pub record Inside (o : Offset) : Type 0 where
-  pub xIn : InUnit (o .x)
-  pub yIn : InUnit (o .y)
-  pub zIn : InUnit (o .z)
-
--- the mask m is a set of crossed edges of a cube, and not the empty one
-pub record CrossedSet (cut : Cut) (corners : List ℕ) (m : ℕ) : Type 0 where
-  pub some : 0 < m
-  pub small : m < 4096
-  pub crossed : (e : ℕ) → e < 12 → holds m e ≡ true → crossedAt cut corners e ≡ true
+abbrev pub Inside : Offset → Type 0
+Inside o = InUnit (o .x) × InUnit (o .y) × InUnit (o .z)

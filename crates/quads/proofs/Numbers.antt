@@ -25,6 +25,7 @@ use Rattle.cell.specs.Answer.{wordOf}
 use Rattle.cell.proofs.Words.{word-holds}
 use Rattle.cube_rule.specs.Laws.{CubeLaws}
 use Rattle.cube_rule.specs.Links.{Decider}
+use Rattle.block.specs.Rows.{lowest}
 use Rattle.cube_rule.specs.Rule.{holders, firstHolder}
 use Rattle.mesh_rule.specs.Grid.{cornersAt, cornersOf}
 use Rattle.mesh_rule.specs.Layers.{rowCube}
@@ -105,6 +106,7 @@ abbrev digits : List ℕ → ℕ → ℕ
 digits ws e = bitOr (getD ws 1 0) (getD ws 3 0) / 2 ^ e % 2 + 2 * (bitOr (getD ws 2 0) (getD ws 3 0) / 2 ^ e % 2)
 
 digits-first : (ws : List ℕ) (e : ℕ) → length ws ≤ 4 → holders e ws ≡ 1 → digits ws e ≡ firstHolder e ws
+unfolding lowest
 digits-first [] e h o = absurd (omega arith)
 digits-first (a ∷ []) e h o = rw (or-digits 0 0 e, none-holds e) (sym (one-of (holds a e) o))
 digits-first (a ∷ b ∷ []) e h o = rw (or-digits b 0 e, or-digits 0 0 e, none-holds e) (or-zero (holds b e) ∙ sym (two-of (holds a e) (holds b e) o))
@@ -166,6 +168,7 @@ cubes-few n l = product-le (n .nx - 1) (n .ny - 1) (n .nz - 1) 255 255 255 (less
 
 -- the words of a cube's vertices hold the edges that its masks hold
 words-hold : (cs ms : List ℕ) (e : ℕ) → e < 12 → (holders e (map (wordOf cs) ms) ≡ holders e ms) × (firstHolder e (map (wordOf cs) ms) ≡ firstHolder e ms)
+unfolding lowest
 words-hold cs [] e h = (refl, refl)
 words-hold cs (m ∷ ms) e h =
     let r = words-hold cs ms e h in
