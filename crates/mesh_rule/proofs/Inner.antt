@@ -14,6 +14,7 @@ use Rattle.block.specs.declared.Size.{Size}
 use Rattle.block.specs.Numbering.{Axis, X, Y, Z}
 use Rattle.cube_rule.specs.Edges.{crossedAt}
 use Rattle.mesh_rule.specs.Grid.{cornersAt, between, inner, crossedFrom}
+use Rattle.mesh_rule.specs.Mesh.{table}
 
 pub both : (a b : Bool) → (a && b) ≡ true → (a ≡ true) × (b ≡ true)
 both true b h = (refl, h)
@@ -58,11 +59,9 @@ inner-sample n X i j k h = omega arith
 inner-sample n Y i j k h = omega arith
 inner-sample n Z i j k h = omega arith
 
--- ---- 01's table: what holds of each of the four cubes and of the edge's number there, in the order of the table
+-- ---- 01's table: what holds of each of the four cubes and of the edge's number there
 abbrev pub Round : (ℕ → ℕ → ℕ → ℕ → Type 0) → Axis → ℕ → ℕ → ℕ → Type 0
-Round P X i j k = P i (j - 1) (k - 1) 3 × P i j (k - 1) 2 × P i j k 0 × P i (j - 1) k 1
-Round P Y i j k = P (i - 1) j (k - 1) 7 × P (i - 1) j k 5 × P i j k 4 × P i j (k - 1) 6
-Round P Z i j k = P (i - 1) (j - 1) k 11 × P i (j - 1) k 10 × P i j k 8 × P (i - 1) j k 9
+Round P a i j k = table (λ p₀ p₁ p₂ p₃. p₀ × p₁ × p₂ × p₃) P a i j k
 
 pub map-round : {P Q : ℕ → ℕ → ℕ → ℕ → Type 0} → ((x y z e : ℕ) → P x y z e → Q x y z e)
     → (a : Axis) (i j k : ℕ) → Round P a i j k → Round Q a i j k

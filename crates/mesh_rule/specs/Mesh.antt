@@ -40,6 +40,12 @@ abbrev pub flat : List Quad → List ℕ
 flat [] = []
 flat (q ∷ qs) = q .v0 ∷ q .v1 ∷ q .v2 ∷ q .v3 ∷ flat qs
 
+-- 01's table, for the edge from (i,j,k) along the axis: f of each of its four cubes and of its number there, put together by g
+abbrev pub table {ℓ} : {A B : Type ℓ} → (A → A → A → A → B) → (ℕ → ℕ → ℕ → ℕ → A) → Axis → ℕ → ℕ → ℕ → B
+table g f X i j k = g (f i (j - 1) (k - 1) 3) (f i j (k - 1) 2) (f i j k 0) (f i (j - 1) k 1)
+table g f Y i j k = g (f (i - 1) j (k - 1) 7) (f (i - 1) j k 5) (f i j k 4) (f i j (k - 1) 6)
+table g f Z i j k = g (f (i - 1) (j - 1) k 11) (f i (j - 1) k 10) (f i j k 8) (f (i - 1) j k 9)
+
 module _ (loopsOf : Cut → List ℕ → List ℕ) (n : Size) (s : List ℕ) (cut : Cut) where
   -- the loops of the cube c
   abbrev pub cubeLoops : ℕ → List ℕ
@@ -63,11 +69,9 @@ module _ (loopsOf : Cut → List ℕ → List ℕ) (n : Size) (s : List ℕ) (cu
   abbrev pub vertexAt : ℕ → ℕ → ℕ → ℕ → ℕ
   vertexAt i j k e = vertexNumber (cubeNumber n i j k) e
 
-  -- the vertices round the edge from (i,j,k) along the axis: 01's table of cubes and edge numbers
+  -- the vertices round the edge from (i,j,k) along the axis
   abbrev pub around : Axis → ℕ → ℕ → ℕ → Quad
-  around X i j k = quad (vertexAt i (j - 1) (k - 1) 3) (vertexAt i j (k - 1) 2) (vertexAt i j k 0) (vertexAt i (j - 1) k 1)
-  around Y i j k = quad (vertexAt (i - 1) j (k - 1) 7) (vertexAt (i - 1) j k 5) (vertexAt i j k 4) (vertexAt i j (k - 1) 6)
-  around Z i j k = quad (vertexAt (i - 1) (j - 1) k 11) (vertexAt i (j - 1) k 10) (vertexAt i j k 8) (vertexAt (i - 1) j k 9)
+  around a i j k = table quad vertexAt a i j k
 
   -- "Each crossed inner edge gives one quad"
   unfoldable pub quadAt : Axis → ℕ → ℕ → ℕ → List Quad
