@@ -1,9 +1,8 @@
--- "An inner edge lies in four cubes": the test `inner` holds exactly if the four cubes of 01's table are cubes of the block, and then the
--- edge, if it is crossed, is crossed in each of them by the number that the table gives it there.
+-- The four cubes of 01's table round an inner edge are cubes of the block, and the edge, if it is crossed, is crossed in each of them by the
+-- number that the table gives it there.
 -- Assumes nothing.
 use Prim.Native.Nat.{ℕ, _+_, _-_, _<_}
 use mathlib.Core.Path.{_≡_, refl}
-use mathlib.Core.Logic.{_↔_}
 use mathlib.Core.Bool.{Bool, true, false, _&&_, false≢true}
 use mathlib.Core.List.{List}
 use native.Mathlib.Omega.{arith}
@@ -87,15 +86,6 @@ pub four-cubes : (n : Size) (a : Axis) (i j k : ℕ) → Inner n a i j k → Fou
 four-cubes n X i j k h = omega arith
 four-cubes n Y i j k h = omega arith
 four-cubes n Z i j k h = omega arith
-
-four-inner : (n : Size) (a : Axis) (i j k : ℕ) → FourCubes n a i j k → Inner n a i j k
-four-inner n X i j k h = omega arith
-four-inner n Y i j k h = omega arith
-four-inner n Z i j k h = omega arith
-
-pub inner-is-in-four-cubes : (n : Size) (a : Axis) (i j k : ℕ) → (inner n a i j k ≡ true) ↔ FourCubes n a i j k
-inner-is-in-four-cubes n a i j k =
-    (λ h. four-cubes n a i j k (inner-facts n a i j k h), λ h. inner-test n a i j k (four-inner n a i j k h))
 
 -- ---- crossed in each of the four
 

@@ -1,4 +1,5 @@
 pub mod Inner
+pub mod InFour
 pub mod Holders
 pub mod Numbers
 pub mod Quads

@@ -25,9 +25,13 @@ cornersAt n s i j k =
     sampleAt n s i j k ∷ sampleAt n s (i + 1) j k ∷ sampleAt n s i (j + 1) k ∷ sampleAt n s (i + 1) (j + 1) k
     ∷ sampleAt n s i j (k + 1) ∷ sampleAt n s (i + 1) j (k + 1) ∷ sampleAt n s i (j + 1) (k + 1) ∷ sampleAt n s (i + 1) (j + 1) (k + 1) ∷ []
 
--- the corners of the cube with number c
+-- f of the coordinates of the cube with number c
+abbrev pub atCube : {A : Type 0} → Size → (ℕ → ℕ → ℕ → A) → ℕ → A
+atCube n f c = f (c % (n .nx - 1)) (c / (n .nx - 1) % (n .ny - 1)) (c / (n .nx - 1) / (n .ny - 1))
+
+-- the corners of that cube
 unfoldable pub cornersOf : Size → List ℕ → ℕ → List ℕ
-cornersOf n s c = cornersAt n s (c % (n .nx - 1)) (c / (n .nx - 1) % (n .ny - 1)) (c / (n .nx - 1) / (n .ny - 1))
+cornersOf n s c = atCube n (cornersAt n s) c
 
 -- c is neither the first nor the last of n
 abbrev pub between : ℕ → ℕ → Bool
@@ -39,11 +43,23 @@ inner n X i j k = ltb (i + 1) (n .nx) && between (n .ny) j && between (n .nz) k
 inner n Y i j k = between (n .nx) i && ltb (j + 1) (n .ny) && between (n .nz) k
 inner n Z i j k = between (n .nx) i && between (n .ny) j && ltb (k + 1) (n .nz)
 
--- its ends differ in sign
+-- f at the next sample along the axis
+abbrev pub ahead {ℓ} : {A : Type ℓ} → (ℕ → ℕ → ℕ → A) → Axis → ℕ → ℕ → ℕ → A
+ahead f X i j k = f (i + 1) j k
+ahead f Y i j k = f i (j + 1) k
+ahead f Z i j k = f i j (k + 1)
+
+-- the edge's ends differ in sign
 abbrev pub crossedFrom : Size → List ℕ → Cut → Axis → ℕ → ℕ → ℕ → Bool
-crossedFrom n s cut X i j k = differ (metal n s cut i j k) (metal n s cut (i + 1) j k)
-crossedFrom n s cut Y i j k = differ (metal n s cut i j k) (metal n s cut i (j + 1) k)
-crossedFrom n s cut Z i j k = differ (metal n s cut i j k) (metal n s cut i j (k + 1))
+crossedFrom n s cut a i j k = differ (metal n s cut i j k) (ahead (metal n s cut) a i j k)
+
+-- the sample (i,j,k) is a corner of the cube (x,y,z)
+abbrev pub isCorner : ℕ → ℕ → ℕ → ℕ → ℕ → ℕ → Bool
+isCorner x y z i j k = (eqb i x || eqb i (x + 1)) && (eqb j y || eqb j (y + 1)) && (eqb k z || eqb k (z + 1))
+
+-- both ends of the edge along the axis from (i,j,k) are corners of the cube with number c
+abbrev pub hasEdge : Size → Axis → ℕ → ℕ → ℕ → ℕ → Bool
+hasEdge n a i j k c = atCube n (λ x y z. isCorner x y z i j k && ahead (isCorner x y z) a i j k) c
 
 -- the edge along the axis from the sample with the index p is inner, and crossed
 abbrev pub innerFrom : Size → Axis → ℕ → Bool
