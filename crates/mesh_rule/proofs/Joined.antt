@@ -11,7 +11,7 @@ use borrow.Author.Tests.{eqb-false}
 use lib.Dec.{eqb}
 use Rattle.block.specs.declared.Size.{Size}
 use Rattle.block.specs.Numbering.{Axis, X, Y, Z}
-use Rattle.mesh_rule.specs.Grid.{atEnd, OffEdges, AtLeastThree}
+use Rattle.mesh_rule.specs.Grid.{ahead, atEnd, OffEdges, AtLeastThree}
 use Rattle.mesh_rule.proofs.Inner.{Mid, Inner}
 
 -- what goes both ways along each step of a line goes from anywhere on it to anywhere
@@ -64,13 +64,7 @@ two-mid n i j k o = go (two-false (atEnd (n .nx) i) (atEnd (n .ny) j) (atEnd (n 
     go (inr (inl m)) = inr (inl (x (m .0), z (m .1)))
     go (inr (inr m)) = inr (inr (x (m .0), y (m .1)))
 
--- what holds of the next sample along the axis
-abbrev pub Ahead : (ℕ → ℕ → ℕ → Type 0) → Axis → ℕ → ℕ → ℕ → Type 0
-Ahead P X i j k = P (i + 1) j k
-Ahead P Y i j k = P i (j + 1) k
-Ahead P Z i j k = P i j (k + 1)
-
-module _ (n : Size) (three : AtLeastThree n) (P : ℕ → ℕ → ℕ → Type 0) (step : (a : Axis) (i j k : ℕ) → Inner n a i j k → P i j k ↔ Ahead P a i j k) where
+module _ (n : Size) (three : AtLeastThree n) (P : ℕ → ℕ → ℕ → Type 0) (step : (a : Axis) (i j k : ℕ) → Inner n a i j k → P i j k ↔ ahead P a i j k) where
   along-x : (i i′ j k : ℕ) → i < n .nx → i′ < n .nx → Mid (n .ny) j → Mid (n .nz) k → P i j k ↔ P i′ j k
   along-x i i′ j k hi hi′ hj hk = line (λ i. P i j k) (n .nx) (λ i h. step X i j k (h, hj, hk)) i i′ hi hi′
 

@@ -2,7 +2,7 @@
 -- and each of their four numbers is that of the one vertex of its cube whose mask holds the edge.
 -- Assumes nothing.
 use Prim.Native.Nat.{ℕ, _+_, _<_}
-use mathlib.Core.Path.{_≡_, refl}
+use mathlib.Core.Path.{_≡_, refl, ap, _∙_, subst⁻¹}
 use mathlib.Core.Logic.{⊎-elim}
 use mathlib.Core.Bool.{Bool, true, false, cond, _&&_}
 use mathlib.Core.List.{List, [], _∷_, _++_, List·Memᴰ, List·Memᴰ·head, List·Memᴰ·not-nil, List·Memᴰ·append-cases, List·Memᴰ·eq-of-singleton, Memᴰ·append-left, Memᴰ·append-right}
@@ -19,9 +19,9 @@ use Rattle.block.specs.Numbering.{Axis, X, Y, Z, sampleIndex, sampleCount, cube
 use Rattle.cube_rule.specs.Laws.{CubeLaws}
 use Rattle.cube_rule.specs.Links.{Decider}
 use Rattle.mesh_rule.specs.Grid.{crossedInner, metal, inner, crossedFrom}
-use Rattle.mesh_rule.specs.Mesh.{Quad, turned, flat, vertices, vertexAt, around, quadAt, quadsBefore, quads}
+use Rattle.mesh_rule.specs.Mesh.{Quad, turned, flat, Holder, AllHold, vertexAt, around, quadAt, quadsBefore, quads}
 use Rattle.mesh_rule.proofs.Inner.{both, inner-facts, inner-sample, Round, map-round, crossed-round}
-use Rattle.mesh_rule.proofs.Numbers.{Holder, vertex-at}
+use Rattle.mesh_rule.proofs.Numbers.{vertex-at}
 
 -- equal buffers hold equal quads
 pub flat-injective : (p q : List Quad) → flat p ≡ flat q → p ≡ q
@@ -36,14 +36,10 @@ flat-injective (a ∷ p) (b ∷ q) h =
     let e3 : a .v3 ≡ b .v3 = cc in
     λ i. record { v0 = e0 i; v1 = e1 i; v2 = e2 i; v3 = e3 i } ∷ flat-injective p q e i
 
--- what holds of each of the four numbers
-abbrev pub Each : (ℕ → Type 0) → Quad → Type 0
-Each P q = P (q .v0) × P (q .v1) × P (q .v2) × P (q .v3)
-
--- the order does not matter for all being below v
-below-turned : (v : ℕ) (b : Bool) (q : Quad) → Each (λ x. x < v) q → Each (λ x. x < v) (turned b q)
-below-turned v true q h = h
-below-turned v false q h = omega arith
+-- turned twice
+turned-back : (b : Bool) (q : Quad) → turned b (turned b q) ≡ q
+turned-back true q = refl
+turned-back false q = refl
 
 one-or-none : {A : Type 0} (b : Bool) (x : A) → length (cond b (x ∷ []) []) ≡ bit b
 one-or-none true x = refl
@@ -124,29 +120,20 @@ module _ (loopsOf : Cut → List ℕ → List ℕ) (n : Size) (s : List ℕ) (cu
 
   -- ---- of which vertices
 
-  -- the quad round an edge is made by 01's table
-  each-around : (P : ℕ → Type 0) (a : Axis) (i j k : ℕ) → Round (λ x y z e. P (vertexAt loopsOf n s cut x y z e)) a i j k
-      → Each P (around loopsOf n s cut a i j k)
-  each-around P X i j k r = r
-  each-around P Y i j k r = r
-  each-around P Z i j k r = r
-
-  -- v is the number of a vertex
-  abbrev pub IsVertex : ℕ → Type 0
-  IsVertex v = v < length (vertices loopsOf n s cut)
-
   module _ {D : Decider} (laws : CubeLaws D loopsOf) where
-    -- the four numbers, by 01's table: each is that of a vertex of its cube, and the mask of that vertex holds the edge
+    -- by 01's table: each is that of a vertex of its cube, and the mask of that vertex holds the edge
     pub round-holds : (a : Axis) (i j k : ℕ) → inner n a i j k ≡ true → crossedFrom n s cut a i j k ≡ true
-        → Round (λ x y z e. Holder loopsOf n s cut (vertexAt loopsOf n s cut x y z e) (cubeNumber n x y z) e) a i j k
-    round-holds a i j k h x =
-        map-round (vertex-at loopsOf n s cut laws) a i j k (crossed-round n s cut a i j k (inner-facts n a i j k h) x)
+        → AllHold loopsOf n s cut a i j k (around loopsOf n s cut a i j k)
+    round-holds a i j k h x = all-hold a i j k (map-round (vertex-at loopsOf n s cut laws) a i j k (crossed-round n s cut a i j k (inner-facts n a i j k h) x))
+      where
+        all-hold : (a : Axis) (i j k : ℕ) → Round (λ x y z e. Holder loopsOf n s cut (vertexAt loopsOf n s cut x y z e) (cubeNumber n x y z) e) a i j k
+            → AllHold loopsOf n s cut a i j k (around loopsOf n s cut a i j k)
+        all-hold X i j k r = r
+        all-hold Y i j k r = r
+        all-hold Z i j k r = r
 
-    edge-inside : (a : Axis) (i j k : ℕ) → inner n a i j k ≡ true → crossedFrom n s cut a i j k ≡ true → Each IsVertex (quadOf a i j k)
-    edge-inside a i j k h x =
-        below-turned (length (vertices loopsOf n s cut)) (metal n s cut i j k) (around loopsOf n s cut a i j k)
-        (each-around IsVertex a i j k (map-round (λ x y z e v. v .is-vertex) a i j k (round-holds a i j k h x)))
-
-    -- so every number of every quad is below the vertex count
-    pub quad-inside : {q : Quad} → List·Memᴰ q (quads loopsOf n s cut) → Each IsVertex q
-    quad-inside m = let o = edge-of-quad m in rw (o .is) (edge-inside (o .axis) (o .i) (o .j) (o .k) (o .is-inner) (o .is-crossed))
+    pub quad-holds : {q : Quad} (e : FromEdge q) → AllHold loopsOf n s cut (e .axis) (e .i) (e .j) (e .k) (turned (metal n s cut (e .i) (e .j) (e .k)) q)
+    quad-holds {q} e =
+        subst⁻¹ (AllHold loopsOf n s cut (e .axis) (e .i) (e .j) (e .k))
+        (ap (turned (metal n s cut (e .i) (e .j) (e .k))) (e .is) ∙ turned-back (metal n s cut (e .i) (e .j) (e .k)) (around loopsOf n s cut (e .axis) (e .i) (e .j) (e .k)))
+        (round-holds (e .axis) (e .i) (e .j) (e .k) (e .is-inner) (e .is-crossed))

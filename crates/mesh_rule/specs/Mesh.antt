@@ -1,10 +1,12 @@
 -- The mesh of a block: its vertices and its quads (document 01, "The mesh"), over the loops of a cube. `loopsOf cut corners` are the
 -- masks of a cube's loops, in order; what the theorems ask of it is `CubeLaws`. Assumes nothing.
-use Prim.Native.Nat.{ℕ, zero, suc, _+_, _*_, _-_, _/_, _%_}
+use Prim.Native.Nat.{ℕ, zero, suc, _+_, _*_, _-_, _/_, _%_, _<_}
+use mathlib.Core.Path.{_≡_}
 use mathlib.Core.Bool.{Bool, true, false, cond, _&&_}
 use mathlib.Core.List.{List, [], _∷_, _++_, map}
-use lib.ListN.{length}
+use lib.ListN.{length, getD}
 use Rattle.laws.specs.Below.{below}
+use Rattle.laws.specs.Bits.{holds}
 use Rattle.block.specs.declared.Cut.{Cut}
 use Rattle.block.specs.declared.Size.{Size}
 use Rattle.block.specs.Numbering.{Axis, X, Y, Z, cubeNumber, cubeCount, sampleCount}
@@ -60,6 +62,21 @@ module _ (loopsOf : Cut → List ℕ → List ℕ) (n : Size) (s : List ℕ) (cu
 
   unfoldable pub vertices : List Vertex
   vertices = verticesBefore (cubeCount n)
+
+  -- the vertex v
+  abbrev pub vertexOf : ℕ → Vertex
+  vertexOf v = getD vertices v (record { cube = 0; mask = 0 })
+
+  -- v is the number of a vertex of the cube c, and its mask holds the edge e
+  pub record Holder (v c e : ℕ) : Type 0 where
+    pub is-vertex : v < length vertices
+    pub in-cube : vertexOf v .cube ≡ c
+    pub holds-edge : holds (vertexOf v .mask) e ≡ true
+
+  -- each number of q, by the table, is that of a vertex of its cube whose mask holds the edge
+  abbrev pub AllHold : Axis → ℕ → ℕ → ℕ → Quad → Type 0
+  AllHold a i j k q =
+      table {A = ℕ → Type 0} (λ p₀ p₁ p₂ p₃. p₀ (q .v0) × p₁ (q .v1) × p₂ (q .v2) × p₃ (q .v3)) (λ x y z e v. Holder v (cubeNumber n x y z) e) a i j k
 
   -- the number of the vertex of the cube c whose mask holds the edge e
   unfoldable pub vertexNumber : ℕ → ℕ → ℕ
