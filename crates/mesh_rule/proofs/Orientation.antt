@@ -9,6 +9,7 @@ use mathlib.Core.List.{List, List·Memᴰ}
 use native.Mathlib.Nat.{mul-suc}
 use native.Mathlib.Omega.{arith}
 use lib.Dec.{ltb, le→leb}
+use lib.ListN.{length, getD}
 use lib.IntN.{ℤ, pos, negsuc, negℤ, _+ℤ_, _-ℤ_, _*ℤ_, negℤ-negℤ, negℤ-+ℤ, +ℤ-comm, *ℤ-zero, *ℤ-negsuc}
 use lib.Signed.{_≤ℤ_, leZ-yes}
 use borrow.Author.Tests.{le-ltb}
@@ -20,14 +21,14 @@ use Rattle.cube_rule.specs.Laws.{CubeLaws}
 use Rattle.cube_rule.specs.Links.{Decider}
 use Rattle.cube_rule.proofs.Laws.{cube-laws}
 use Rattle.mesh_rule.specs.Grid.{metal, inner, crossedFrom}
-use Rattle.mesh_rule.specs.Mesh.{Quad, quad, turned, vertexAt, around, quads}
+use Rattle.mesh_rule.specs.Mesh.{Quad, quad, turned, flat, vertexAt, around, quads}
 use Rattle.mesh_rule.specs.Orientation.{next, place, twiceArea, FacesHollow, QuadOf}
 use Rattle.mesh_rule.proofs.Example.{size, samples, the-vertices}
 use Rattle.mesh_rule.proofs.Example.{cut as cutAt100}
 use Rattle.mesh_rule.proofs.Inner.{OneLower, Round, map-round, four-cubes, inner-facts, crossed-round}
 use Rattle.mesh_rule.proofs.Numbers.{vertex-at}
 use Rattle.mesh_rule.proofs.Reading.{In, cubes, in-cube}
-use Rattle.mesh_rule.proofs.Quads.{edge-of-quad, quad-holds}
+use Rattle.mesh_rule.proofs.Quads.{quad-numbers, edge-of-quad, quad-holds}
 
 -- ---- 01's block with each vertex in the middle of its cube: each of the six quads has the area of one square of the grid, and twice that is
 -- 8 in squares of half a step
@@ -161,5 +162,9 @@ module _ {D : Decider} {loopsOf : Cut → List ℕ → List ℕ} (laws : CubeLaw
 
 -- ---- of 01's loops
 
-pub each-quad : (n : Size) (s : List ℕ) (cut : Cut) {q : Quad} → List·Memᴰ q (quads loopsOf n s cut) → QuadOf loopsOf n s cut q
-each-quad n s cut m = quad-of (cube-laws joined) n s cut m
+-- the quad m, by the four numbers that the buffer holds of it
+pub each-quad : (n : Size) (s : List ℕ) (cut : Cut) (m : ℕ) → m < length (quads loopsOf n s cut)
+    → QuadOf loopsOf n s cut
+      (quad (getD (flat (quads loopsOf n s cut)) (4 * m) 0) (getD (flat (quads loopsOf n s cut)) (4 * m + 1) 0)
+      (getD (flat (quads loopsOf n s cut)) (4 * m + 2) 0) (getD (flat (quads loopsOf n s cut)) (4 * m + 3) 0))
+each-quad n s cut m h = quad-of (cube-laws joined) n s cut (quad-numbers (quads loopsOf n s cut) m h)

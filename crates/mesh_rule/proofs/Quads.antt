@@ -1,13 +1,14 @@
 -- "Each crossed inner edge gives one quad": the quads are those of the crossed inner edges and no others, as many as there are such edges,
 -- and each of their four numbers is that of the one vertex of its cube whose mask holds the edge.
 -- Assumes nothing.
-use Prim.Native.Nat.{ℕ, _+_, _<_}
+use Prim.Native.Nat.{ℕ, zero, suc, _+_, _*_, _<_}
 use mathlib.Core.Path.{_≡_, refl, ap, _∙_, subst⁻¹}
 use mathlib.Core.Logic.{⊎-elim}
 use mathlib.Core.Bool.{Bool, true, false, cond, _&&_}
-use mathlib.Core.List.{List, [], _∷_, _++_, List·Memᴰ, List·Memᴰ·head, List·Memᴰ·not-nil, List·Memᴰ·append-cases, List·Memᴰ·eq-of-singleton, Memᴰ·append-left, Memᴰ·append-right}
+use mathlib.Core.List.{List, [], _∷_, _++_, List·Memᴰ, List·Memᴰ·head, List·Memᴰ·tail, List·Memᴰ·not-nil, List·Memᴰ·append-cases, List·Memᴰ·eq-of-singleton, Memᴰ·append-left, Memᴰ·append-right}
+use native.Mathlib.Nat.{not-suc-le-zero, le-of-suc-le-suc}
 use native.Mathlib.Omega.{arith}
-use lib.ListN.{length, length-append}
+use lib.ListN.{length, getD, length-append}
 use Rattle.laws.specs.Bits.{bit}
 use Rattle.laws.proofs.Below.{mem-below, mem-of-below}
 use Rattle.laws.specs.Counting.{count}
@@ -19,7 +20,7 @@ use Rattle.block.specs.Numbering.{Axis, X, Y, Z, sampleIndex, sampleCount, cube
 use Rattle.cube_rule.specs.Laws.{CubeLaws}
 use Rattle.cube_rule.specs.Links.{Decider}
 use Rattle.mesh_rule.specs.Grid.{crossedInner, metal, inner, crossedFrom}
-use Rattle.mesh_rule.specs.Mesh.{Quad, turned, flat, Holder, AllHold, vertexAt, around, quadAt, quadsBefore, quads}
+use Rattle.mesh_rule.specs.Mesh.{Quad, quad, turned, flat, vertices, Holder, AllHold, vertexAt, around, quadAt, quadsBefore, quads}
 use Rattle.mesh_rule.proofs.Inner.{both, inner-facts, inner-sample, Round, map-round, crossed-round}
 use Rattle.mesh_rule.proofs.Numbers.{vertex-at}
 
@@ -35,6 +36,16 @@ flat-injective (a ∷ p) (b ∷ q) h =
     let e2 : a .v2 ≡ b .v2 = cc in
     let e3 : a .v3 ≡ b .v3 = cc in
     λ i. record { v0 = e0 i; v1 = e1 i; v2 = e2 i; v3 = e3 i } ∷ flat-injective p q e i
+
+-- the quad m by the four numbers that the buffer holds of it
+pub quad-numbers : (qs : List Quad) (m : ℕ) → m < length qs
+    → List·Memᴰ (quad (getD (flat qs) (4 * m) 0) (getD (flat qs) (4 * m + 1) 0) (getD (flat qs) (4 * m + 2) 0) (getD (flat qs) (4 * m + 3) 0)) qs
+quad-numbers [] m h = absurd (not-suc-le-zero h)
+quad-numbers (q ∷ qs) zero h = List·Memᴰ·head refl
+quad-numbers (q ∷ qs) (suc m) h =
+    let four : (r : ℕ) → 4 * suc m + r ≡ suc (suc (suc (suc (4 * m + r)))) = λ r. omega arith in
+    let none : 4 * suc m ≡ suc (suc (suc (suc (4 * m)))) = omega arith in
+    rw (four 1, four 2, four 3, none) (List·Memᴰ·tail (quad-numbers qs m (le-of-suc-le-suc h)))
 
 -- turned twice
 turned-back : (b : Bool) (q : Quad) → turned b (turned b q) ≡ q
@@ -137,3 +148,19 @@ module _ (loopsOf : Cut → List ℕ → List ℕ) (n : Size) (s : List ℕ) (cu
         subst⁻¹ (AllHold loopsOf n s cut (e .axis) (e .i) (e .j) (e .k))
         (ap (turned (metal n s cut (e .i) (e .j) (e .k))) (e .is) ∙ turned-back (metal n s cut (e .i) (e .j) (e .k)) (around loopsOf n s cut (e .axis) (e .i) (e .j) (e .k)))
         (round-holds (e .axis) (e .i) (e .j) (e .k) (e .is-inner) (e .is-crossed))
+
+    -- so every number of every quad is below the vertex count
+    pub quad-inside : {q : Quad} → List·Memᴰ q (quads loopsOf n s cut)
+        → (q .v0 < length (vertices loopsOf n s cut)) × (q .v1 < length (vertices loopsOf n s cut)) × (q .v2 < length (vertices loopsOf n s cut)) × (q .v3 < length (vertices loopsOf n s cut))
+    quad-inside {q} m = let e = edge-of-quad m in back (metal n s cut (e .i) (e .j) (e .k)) (inside (e .axis) (e .i) (e .j) (e .k) _ (quad-holds e))
+      where
+        inside : (a : Axis) (i j k : ℕ) (q : Quad) → AllHold loopsOf n s cut a i j k q
+            → (q .v0 < length (vertices loopsOf n s cut)) × (q .v1 < length (vertices loopsOf n s cut)) × (q .v2 < length (vertices loopsOf n s cut)) × (q .v3 < length (vertices loopsOf n s cut))
+        inside X i j k q r = (r .0 .is-vertex, r .1 .is-vertex, r .2 .is-vertex, r .3 .is-vertex)
+        inside Y i j k q r = (r .0 .is-vertex, r .1 .is-vertex, r .2 .is-vertex, r .3 .is-vertex)
+        inside Z i j k q r = (r .0 .is-vertex, r .1 .is-vertex, r .2 .is-vertex, r .3 .is-vertex)
+
+        back : (b : Bool) → (turned b q .v0 < length (vertices loopsOf n s cut)) × (turned b q .v1 < length (vertices loopsOf n s cut)) × (turned b q .v2 < length (vertices loopsOf n s cut)) × (turned b q .v3 < length (vertices loopsOf n s cut))
+            → (q .v0 < length (vertices loopsOf n s cut)) × (q .v1 < length (vertices loopsOf n s cut)) × (q .v2 < length (vertices loopsOf n s cut)) × (q .v3 < length (vertices loopsOf n s cut))
+        back true r = r
+        back false r = (r .0, r .3, r .2, r .1)
