@@ -165,6 +165,6 @@ module _ {D : Decider} {loopsOf : Cut → List ℕ → List ℕ} (laws : CubeLaw
 -- the quad m, by the four numbers that the buffer holds of it
 pub each-quad : (n : Size) (s : List ℕ) (cut : Cut) (m : ℕ) → m < length (quads loopsOf n s cut)
     → QuadOf loopsOf n s cut
-      (quad (getD (flat (quads loopsOf n s cut)) (4 * m) 0) (getD (flat (quads loopsOf n s cut)) (4 * m + 1) 0)
-      (getD (flat (quads loopsOf n s cut)) (4 * m + 2) 0) (getD (flat (quads loopsOf n s cut)) (4 * m + 3) 0))
+    (quad (getD (flat (quads loopsOf n s cut)) (4 * m) 0) (getD (flat (quads loopsOf n s cut)) (4 * m + 1) 0)
+    (getD (flat (quads loopsOf n s cut)) (4 * m + 2) 0) (getD (flat (quads loopsOf n s cut)) (4 * m + 3) 0))
 each-quad n s cut m h = quad-of (cube-laws joined) n s cut (quad-numbers (quads loopsOf n s cut) m h)

@@ -33,11 +33,7 @@ abbrev pub turned : Bool → Quad → Quad
 turned true q = q
 turned false q = quad (q .v0) (q .v3) (q .v2) (q .v1)
 
--- vertices and quads as the buffers hold them
-abbrev pub flatVertices : List Vertex → List ℕ
-flatVertices [] = []
-flatVertices (v ∷ vs) = v .cube ∷ v .mask ∷ flatVertices vs
-
+-- quads as the buffer holds them
 abbrev pub flat : List Quad → List ℕ
 flat [] = []
 flat (q ∷ qs) = q .v0 ∷ q .v1 ∷ q .v2 ∷ q .v3 ∷ flat qs
