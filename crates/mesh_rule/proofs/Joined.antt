@@ -47,16 +47,16 @@ abbrev TwoMid : Size → ℕ → ℕ → ℕ → Type 0
 TwoMid n i j k = (Mid (n .ny) j × Mid (n .nz) k) ⊎ (Mid (n .nx) i × Mid (n .nz) k) ⊎ (Mid (n .nx) i × Mid (n .ny) j)
 
 two-mid : (n : Size) (i j k : ℕ) → OffEdges n i j k → TwoMid n i j k
-two-mid n i j k o = go (two-false (atEnd (n .nx) i) (atEnd (n .ny) j) (atEnd (n .nz) k) (o .off))
+two-mid n i j k o = go (two-false (atEnd (n .nx) i) (atEnd (n .ny) j) (atEnd (n .nz) k) (o .3))
   where
     x : atEnd (n .nx) i ≡ false → Mid (n .nx) i
-    x = mid (n .nx) i (o .x-in)
+    x = mid (n .nx) i (o .0)
 
     y : atEnd (n .ny) j ≡ false → Mid (n .ny) j
-    y = mid (n .ny) j (o .y-in)
+    y = mid (n .ny) j (o .1)
 
     z : atEnd (n .nz) k ≡ false → Mid (n .nz) k
-    z = mid (n .nz) k (o .z-in)
+    z = mid (n .nz) k (o .2)
 
     go : ((atEnd (n .ny) j ≡ false) × (atEnd (n .nz) k ≡ false)) ⊎ ((atEnd (n .nx) i ≡ false) × (atEnd (n .nz) k ≡ false)) ⊎ ((atEnd (n .nx) i ≡ false) × (atEnd (n .ny) j ≡ false))
         → TwoMid n i j k
@@ -87,7 +87,7 @@ module _ (n : Size) (three : AtLeastThree n) (P : ℕ → ℕ → ℕ → Type 0
 
   -- a sample off the twelve edges, and the lower end of an inner edge
   pub off-edges-joined : (i j k : ℕ) → OffEdges n i j k → P i j k ↔ P 1 1 1
-  off-edges-joined i j k o = to-centre i j k (o .x-in) (o .y-in) (o .z-in) (two-mid n i j k o)
+  off-edges-joined i j k o = to-centre i j k (o .0) (o .1) (o .2) (two-mid n i j k o)
 
   pub inner-joined : (a : Axis) (i j k : ℕ) → Inner n a i j k → P i j k ↔ P 1 1 1
   inner-joined X i j k h = to-centre i j k (omega arith) (omega arith) (omega arith) (inl (h .1, h .2))

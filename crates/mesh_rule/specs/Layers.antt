@@ -1,6 +1,6 @@
 -- What the lent buffers hold of a mesh row by row and layer by layer, for the passes that write them. Layer k has the cubes (i,j,k), plane k the
 -- samples (i,j,k). Assumes nothing.
-use Prim.Native.Nat.{ℕ, _+_, _*_, _-_, _/_, _%_}
+use Prim.Native.Nat.{ℕ, _+_, _*_, _-_}
 use mathlib.Core.List.{List, [], _∷_, map}
 use lib.ListN.{length}
 use lib.Ieee.{Float}
@@ -10,7 +10,7 @@ use Rattle.block.specs.declared.Size.{Size}
 use Rattle.block.specs.Numbering.{Axis}
 use Rattle.place.specs.Place.{placeOf}
 use Rattle.cell.specs.Answer.{wordOf}
-use Rattle.mesh_rule.specs.Grid.{cornersOf}
+use Rattle.mesh_rule.specs.Grid.{atSample, cornersOf}
 use Rattle.mesh_rule.specs.Mesh.{cubeLoops, verticesBefore, quadAt, flat}
 use Rattle.mesh_rule.specs.Buffers.{triples}
 
@@ -63,7 +63,7 @@ module _ (loopsOf : Cut → List ℕ → List ℕ) (n : Size) (s : List ℕ) (cu
 
   -- what the quad buffer holds of the edges along an axis whose lower samples are the m from index p on, and of those on the plane k
   abbrev pub quadsFrom : Axis → ℕ → List ℕ
-  quadsFrom a p = flat (quadAt loopsOf n s cut a (p % n .nx) (p / n .nx % n .ny) (p / n .nx / n .ny))
+  quadsFrom a p = flat (atSample n (quadAt loopsOf n s cut a) p)
 
   abbrev pub runQuads : Axis → ℕ → ℕ → List ℕ
   runQuads a p m = below (λ (x : ℕ). quadsFrom a (p + x)) m

@@ -1,6 +1,6 @@
 -- The mesh of a block: its vertices and its quads (document 01, "The mesh"), over the loops of a cube. `loopsOf cut corners` are the
--- masks of a cube's loops, in order; what the theorems ask of it is `CubeLaws`. Assumes nothing.
-use Prim.Native.Nat.{ℕ, zero, suc, _+_, _*_, _-_, _/_, _%_, _<_}
+-- masks of a cube's loops, in order; what the theorems ask of it is `CubeLaws`.
+use Prim.Native.Nat.{ℕ, _+_, _-_, _<_}
 use mathlib.Core.Path.{_≡_}
 use mathlib.Core.Bool.{Bool, true, false, cond, _&&_}
 use mathlib.Core.List.{List, [], _∷_, _++_, map}
@@ -11,7 +11,7 @@ use Rattle.block.specs.declared.Cut.{Cut}
 use Rattle.block.specs.declared.Size.{Size}
 use Rattle.block.specs.Numbering.{Axis, X, Y, Z, cubeNumber, cubeCount, sampleCount}
 use Rattle.cube_rule.specs.Rule.{firstHolder}
-use Rattle.mesh_rule.specs.Grid.{cornersOf, metal, inner, crossedFrom}
+use Rattle.mesh_rule.specs.Grid.{atSample, cornersOf, metal, inner, crossedFrom}
 
 -- a vertex: its cube's number, and the mask of its loop
 pub record Vertex : Type 0 where
@@ -92,7 +92,7 @@ module _ (loopsOf : Cut → List ℕ → List ℕ) (n : Size) (s : List ℕ) (cu
 
   -- the quads of the edges along the axis whose lower sample has an index below m
   unfoldable pub quadsBefore : Axis → ℕ → List Quad
-  quadsBefore a m = below (λ (p : ℕ). quadAt a (p % n .nx) (p / n .nx % n .ny) (p / n .nx / n .ny)) m
+  quadsBefore a m = below (atSample n (quadAt a)) m
 
   -- "Order: edges along x, then y, then z, each by index of the lower sample"
   unfoldable pub quads : List Quad
