@@ -67,5 +67,5 @@ module _ {nx ny nz : ℕ} {s : List ℕ} {t : ℕ} (three : AtLeastThree (sizeOf
           ∙ sym (word-at a (2 * v) (omega arith)) ∙ sc .cubes v l ∙ word-at b (2 * v) (omega (arith, sc .count))
           ∙ words-at loopsOf size s′ (record { t = t′ }) v (omega (arith, l, sc .count, mesh-given b .vertex-count)) .0
       cubes v (inr g) =
-          ap (λ (x : Vertex). x .cube) (List·getD-eq-default (vertices loopsOf size s cut) (record { cube = 0; mask = 0 }) v (omega (arith, g, mesh-given a .vertex-count)))
-          ∙ sym (ap (λ (x : Vertex). x .cube) (List·getD-eq-default (vertices loopsOf size s′ (record { t = t′ })) (record { cube = 0; mask = 0 }) v (omega (arith, g, sc .count, mesh-given b .vertex-count))))
+          ap (λ (x : Vertex). x .cube) (List·getD-eq-default (vertices loopsOf size s cut) (record { cube = 0; mask = 0 }) {n = v} (omega (arith, g, mesh-given a .vertex-count)))
+          ∙ sym (ap (λ (x : Vertex). x .cube) (List·getD-eq-default (vertices loopsOf size s′ (record { t = t′ })) (record { cube = 0; mask = 0 }) {n = v} (omega (arith, g, sc .count, mesh-given b .vertex-count))))

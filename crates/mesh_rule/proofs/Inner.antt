@@ -11,8 +11,8 @@ use borrow.Author.Tests.{ltb-true, lt-ltb}
 use Rattle.block.specs.declared.Cut.{Cut}
 use Rattle.block.specs.declared.Size.{Size}
 use Rattle.block.specs.Numbering.{Axis, X, Y, Z}
-use Rattle.cube_rule.specs.Edges.{crossedAt}
-use Rattle.mesh_rule.specs.Grid.{cornersAt, between, inner, crossedFrom}
+use Rattle.cube_rule.specs.Edges.{lower, upper, cornerSample, crossedAt}
+use Rattle.mesh_rule.specs.Grid.{sampleAt, cornersAt, between, inner, ahead, crossedFrom}
 use Rattle.mesh_rule.specs.Mesh.{table}
 
 pub both : (a b : Bool) → (a && b) ≡ true → (a ≡ true) × (b ≡ true)
@@ -99,6 +99,26 @@ back : (a : ℕ) → 0 < a → a - 1 + 1 ≡ a
 back a h = omega arith
 
 -- the edge's two samples are the corners of the edge's number in each of the four cubes
+pub table-ends : (n : Size) (a : Axis) (i j k : ℕ) → inner n a i j k ≡ true → (s : List ℕ)
+    → table (λ p₀ p₁ p₂ p₃. p₀ × p₁ × p₂ × p₃)
+    (λ x y z e. (cornerSample (cornersAt n s x y z) (lower e) ≡ sampleAt n s i j k) × (cornerSample (cornersAt n s x y z) (upper e) ≡ ahead (sampleAt n s) a i j k)) a i j k
+table-ends n X i j k h s =
+    let f = inner-facts n X i j k h in
+    let bj = back j (f .1 .0) in
+    let bk = back k (f .2 .0) in
+    ((rw (bj, bk), rw (bj, bk)), (rw bk, rw bk), (refl, refl), (rw bj, rw bj))
+table-ends n Y i j k h s =
+    let f = inner-facts n Y i j k h in
+    let bi = back i (f .0 .0) in
+    let bk = back k (f .2 .0) in
+    ((rw (bi, bk), rw (bi, bk)), (rw bi, rw bi), (refl, refl), (rw bk, rw bk))
+table-ends n Z i j k h s =
+    let f = inner-facts n Z i j k h in
+    let bi = back i (f .0 .0) in
+    let bj = back j (f .1 .0) in
+    ((rw (bi, bj), rw (bi, bj)), (rw bj, rw bj), (refl, refl), (rw bi, rw bi))
+
+-- so it is crossed in each of them if it is crossed
 pub crossed-round : (n : Size) (s : List ℕ) (cut : Cut) (a : Axis) (i j k : ℕ) → Inner n a i j k → crossedFrom n s cut a i j k ≡ true
     → Round (CrossedIn n s cut) a i j k
 crossed-round n s cut X i j k h x =

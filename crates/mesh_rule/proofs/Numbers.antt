@@ -22,7 +22,8 @@ use Rattle.cube_rule.specs.Laws.{CubeLaws}
 use Rattle.cube_rule.specs.Links.{Decider}
 use Rattle.cube_rule.specs.Rule.{holders, firstHolder}
 use Rattle.mesh_rule.specs.Grid.{cornersAt, cornersOf}
-use Rattle.mesh_rule.specs.Mesh.{Vertex, cubeLoops, verticesOf, verticesBefore, vertices, vertexOf, Holder, vertexNumber, vertexAt}
+use Rattle.mesh_rule.specs.Mesh.{Vertex, cubeLoops, verticesOf, verticesBefore, vertices, vertexOf, Holder, vertexNumber}
+use Rattle.mesh_rule.specs.Layers.{vertexAt}
 use Rattle.mesh_rule.proofs.Holders.{first-lt, first-holds, only-first}
 use Rattle.mesh_rule.proofs.Inner.{CrossedIn}
 

@@ -21,7 +21,8 @@ use Rattle.cube_rule.specs.Laws.{CubeLaws}
 use Rattle.cube_rule.specs.Links.{Decider}
 use Rattle.cube_rule.proofs.Laws.{cube-laws}
 use Rattle.mesh_rule.specs.Grid.{metal, inner, crossedFrom}
-use Rattle.mesh_rule.specs.Mesh.{Quad, quad, turned, flat, vertexAt, around, quads}
+use Rattle.mesh_rule.specs.Mesh.{Quad, quad, turned, flat, around, quads}
+use Rattle.mesh_rule.specs.Layers.{vertexAt}
 use Rattle.mesh_rule.specs.Orientation.{next, place, twiceArea, FacesHollow, QuadOf}
 use Rattle.mesh_rule.proofs.Example.{size, samples, the-vertices}
 use Rattle.mesh_rule.proofs.Example.{cut as cutAt100}

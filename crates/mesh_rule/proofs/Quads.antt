@@ -20,7 +20,8 @@ use Rattle.block.specs.Numbering.{Axis, X, Y, Z, sampleIndex, sampleCount, cube
 use Rattle.cube_rule.specs.Laws.{CubeLaws}
 use Rattle.cube_rule.specs.Links.{Decider}
 use Rattle.mesh_rule.specs.Grid.{crossedInner, metal, inner, crossedFrom}
-use Rattle.mesh_rule.specs.Mesh.{Quad, quad, turned, flat, vertices, Holder, AllHold, vertexAt, around, quadAt, quadsBefore, quads}
+use Rattle.mesh_rule.specs.Mesh.{Quad, quad, turned, flat, vertices, Holder, AllHold, around, quadAt, quadsBefore, quads}
+use Rattle.mesh_rule.specs.Layers.{vertexAt}
 use Rattle.mesh_rule.proofs.Inner.{both, inner-facts, inner-sample, Round, map-round, crossed-round}
 use Rattle.mesh_rule.proofs.Numbers.{vertex-at}
 

@@ -14,7 +14,8 @@ use Rattle.block.specs.Numbering.{Axis, X, Y, Z, cubeNumber}
 use Rattle.cube_rule.specs.Laws.{CubeLaws}
 use Rattle.cube_rule.specs.Links.{Decider}
 use Rattle.mesh_rule.specs.Grid.{crossedFrom}
-use Rattle.mesh_rule.specs.Mesh.{Quad, turned, vertexOf, Holder, vertexAt, around}
+use Rattle.mesh_rule.specs.Mesh.{Quad, turned, vertexOf, Holder, around}
+use Rattle.mesh_rule.specs.Layers.{vertexAt}
 use Rattle.mesh_rule.specs.Orientation.{coordinate}
 use Rattle.mesh_rule.proofs.Inner.{Inner, CubeIn, OneLower, four-cubes, Round, map-round, crossed-round}
 use Rattle.mesh_rule.proofs.Numbers.{vertex-at}

@@ -7,11 +7,11 @@ use lib.Ieee.{Float}
 use Rattle.laws.specs.Below.{below}
 use Rattle.block.specs.declared.Cut.{Cut}
 use Rattle.block.specs.declared.Size.{Size}
-use Rattle.block.specs.Numbering.{Axis}
+use Rattle.block.specs.Numbering.{Axis, cubeNumber}
 use Rattle.place.specs.Place.{placeOf}
 use Rattle.cell.specs.Answer.{wordOf}
 use Rattle.mesh_rule.specs.Grid.{atSample, cornersOf}
-use Rattle.mesh_rule.specs.Mesh.{cubeLoops, verticesBefore, quadAt, flat}
+use Rattle.mesh_rule.specs.Mesh.{cubeLoops, verticesBefore, vertexNumber, quadAt, flat}
 use Rattle.mesh_rule.specs.Buffers.{triples}
 
 -- how many cubes a layer has, and how many samples a plane
@@ -34,6 +34,10 @@ pairs c [] = []
 pairs c (w ∷ ws) = c ∷ w ∷ pairs c ws
 
 module _ (loopsOf : Cut → List ℕ → List ℕ) (n : Size) (s : List ℕ) (cut : Cut) where
+  -- the number of the vertex of the cube (i,j,k) whose mask holds the edge e
+  abbrev pub vertexAt : ℕ → ℕ → ℕ → ℕ → ℕ
+  vertexAt i j k e = vertexNumber loopsOf n s cut (cubeNumber n i j k) e
+
   -- of the cube c
   unfoldable pub cubeWords : ℕ → List ℕ
   cubeWords c = pairs c (map (wordOf (cornersOf n s c)) (cubeLoops loopsOf n s cut c))

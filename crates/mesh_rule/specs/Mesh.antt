@@ -78,13 +78,9 @@ module _ (loopsOf : Cut → List ℕ → List ℕ) (n : Size) (s : List ℕ) (cu
   unfoldable pub vertexNumber : ℕ → ℕ → ℕ
   vertexNumber c e = length (verticesBefore c) + firstHolder e (cubeLoops c)
 
-  -- of the cube (i,j,k)
-  abbrev pub vertexAt : ℕ → ℕ → ℕ → ℕ → ℕ
-  vertexAt i j k e = vertexNumber (cubeNumber n i j k) e
-
   -- the vertices round the edge from (i,j,k) along the axis
   abbrev pub around : Axis → ℕ → ℕ → ℕ → Quad
-  around a i j k = table quad vertexAt a i j k
+  around a i j k = table quad (λ x y z e. vertexNumber (cubeNumber n x y z) e) a i j k
 
   -- "Each crossed inner edge gives one quad"
   unfoldable pub quadAt : Axis → ℕ → ℕ → ℕ → List Quad

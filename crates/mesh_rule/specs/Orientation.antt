@@ -1,4 +1,4 @@
--- Which way a quad faces (document 01, "The mesh"): from metal to hollow, wherever in their closed cubes its vertices stand.
+-- What a quad of the mesh is and which way it faces (document 01, "The mesh"): from metal to hollow.
 use Prim.Native.Nat.{ℕ, _+_, _*_, _≤_}
 use mathlib.Core.Path.{_≡_}
 use mathlib.Core.Bool.{Bool, true, cond}
@@ -24,7 +24,7 @@ coordinate n Y c = atCube n (λ x y z. y) c
 coordinate n Z c = atCube n (λ x y z. z) c
 
 module _ (loopsOf : Cut → List ℕ → List ℕ) (n : Size) (s : List ℕ) (cut : Cut) where
-  -- where vertex v stands along an axis, and how far it is from u to v, in d-ths of a grid step, if v is `offset v` such parts into its cube
+  -- where vertex v stands along an axis, if `offset v` is its offset in its cube, and the way from u to v; all in d-ths of a grid step
   abbrev pub place : ℕ → (ℕ → Axis → ℕ) → ℕ → Axis → ℤ
   place d offset v b = pos (d * coordinate n b (vertexOf loopsOf n s cut v .cube) + offset v b)
 
@@ -37,13 +37,14 @@ module _ (loopsOf : Cut → List ℕ → List ℕ) (n : Size) (s : List ℕ) (cu
       span d offset (q .v0) (q .v2) (next a) *ℤ span d offset (q .v1) (q .v3) (next (next a))
       -ℤ span d offset (q .v0) (q .v2) (next (next a)) *ℤ span d offset (q .v1) (q .v3) (next a)
 
-  -- the quad faces the hollow end of the edge along the axis from (i,j,k): seen along it from the metal end, no area is negative
+  -- the quad faces the hollow end of the edge along the axis from (i,j,k), wherever in their closed cubes its vertices stand: the area along the
+  -- edge from its metal end to its hollow end is never negative
   abbrev pub FacesHollow : Axis → ℕ → ℕ → ℕ → Quad → Type 0
   FacesHollow a i j k q =
       (d : ℕ) (offset : ℕ → Axis → ℕ) → ((v : ℕ) (b : Axis) → offset v b ≤ d)
       → pos 0 ≤ℤ cond (metal n s cut i j k) (twiceArea d offset a q) (negℤ (twiceArea d offset a q))
 
-  -- q is the quad of a crossed inner edge: its numbers, in the order of the table if the lower sample is positive, and which way it faces
+  -- q is the quad of a crossed inner edge: its four vertices, in the table's order if the lower sample is positive, and which way it faces
   pub record QuadOf (q : Quad) : Type 0 where
     pub axis : Axis
     pub i : ℕ
