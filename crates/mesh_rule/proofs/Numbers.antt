@@ -91,6 +91,7 @@ module _ (loopsOf : Cut → List ℕ → List ℕ) (n : Size) (s : List ℕ) (cu
         is = ap (vertexOf loopsOf n s cut) (r .4) ∙ loop-stands (r .0) (r .1) (r .2) l;
       }
 
+  -- its cube is one of the block's, and its mask is one of that cube's loops
   pub vertex-is-loop : (v : ℕ) → v < length (vertices loopsOf n s cut)
       → (vertexOf loopsOf n s cut v .cube < cubeCount n) × List·Memᴰ (vertexOf loopsOf n s cut v .mask) (cubeLoops loopsOf n s cut (vertexOf loopsOf n s cut v .cube))
   vertex-is-loop v h =

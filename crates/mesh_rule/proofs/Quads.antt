@@ -164,4 +164,4 @@ module _ (loopsOf : Cut → List ℕ → List ℕ) (n : Size) (s : List ℕ) (cu
         back : (b : Bool) → (turned b q .v0 < length (vertices loopsOf n s cut)) × (turned b q .v1 < length (vertices loopsOf n s cut)) × (turned b q .v2 < length (vertices loopsOf n s cut)) × (turned b q .v3 < length (vertices loopsOf n s cut))
             → (q .v0 < length (vertices loopsOf n s cut)) × (q .v1 < length (vertices loopsOf n s cut)) × (q .v2 < length (vertices loopsOf n s cut)) × (q .v3 < length (vertices loopsOf n s cut))
         back true r = r
-        back false r = (r .0, r .3, r .2, r .1)
+        back false r = omega arith

@@ -22,7 +22,7 @@ use Rattle.mesh_rule.specs.Layers.{pairs, cubeWords, cubeOffsets}
 
 -- ---- lists made from the vertices, cube by cube
 
--- what is written of some vertices after the other is written of both
+-- what is made of all vertices is made of those of each cube in turn
 made-below : {A : Type 0} (made : List Vertex → List A) → made [] ≡ [] → ((p q : List Vertex) → made (p ++ q) ≡ made p ++ made q)
     → (f : ℕ → List Vertex) (g : ℕ → List A) → ((c : ℕ) → made (f c) ≡ g c) → (m : ℕ) → made (below f m) ≡ below g m
 unfolding below
