@@ -24,7 +24,8 @@ use Rattle.cell.specs.declared.Found.the-variants as found
 use Rattle.cell.specs.Answer.{wordOf, origin, cubeVerdict, CubeAnswered}
 use Rattle.cell.proofs.Answers.{loop-placeable, accepted-found, accepted-loops, said-cube-injective}
 use Rattle.cell.proofs.Found.{the-type}
-use Rattle.mesh_rule.specs.Buffers.{pairs, triples}
+use Rattle.mesh_rule.specs.Buffers.{triples}
+use Rattle.mesh_rule.specs.Layers.{pairs}
 use Rattle.cube_vertices.specs.Cubes.{namesBy, wordsBy, offsetsBy, Stored, CubeWritten}
 use Rattle.cube_vertices.specs.declared.Spot.{Spot}
 use Rattle.notes.specs.Tables.{whichOf}

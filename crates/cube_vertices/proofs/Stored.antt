@@ -10,7 +10,8 @@ use lib.Seq.{sets, take-suc}
 use lib.Ieee.{Float}
 use Rattle.laws.proofs.Stores.{sets-join, sets-length}
 use Rattle.place.specs.declared.Offset.{Offset}
-use Rattle.mesh_rule.specs.Buffers.{pairs, triples}
+use Rattle.mesh_rule.specs.Buffers.{triples}
+use Rattle.mesh_rule.specs.Layers.{pairs}
 use Rattle.cube_vertices.specs.Cubes.{Stored}
 
 -- a vertex takes two words

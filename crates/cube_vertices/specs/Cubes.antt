@@ -14,7 +14,8 @@ use Rattle.cube.specs.Table.{maskTable}
 use Rattle.cube_rule.specs.Edges.{patternOf, crossedMask}
 use Rattle.place.specs.Place.{placeOf}
 use Rattle.cell.specs.Answer.{wordOf}
-use Rattle.mesh_rule.specs.Buffers.{pairs, triples}
+use Rattle.mesh_rule.specs.Buffers.{triples}
+use Rattle.mesh_rule.specs.Layers.{pairs}
 use Rattle.signs.specs.Windows.{windowCorners}
 use Rattle.cube_vertices.specs.declared.Spot.{Spot}
 use Rattle.notes.specs.Tables.{CubeNoted}

@@ -9,7 +9,8 @@ ghost use Prim.Native.Nat.{_+_, _*_, _<_, _≤_};
 ghost use lib.ListN.{length, take};
 ghost use lib.Seq.{sets};
 ghost use Rattle.cube_rule.specs.Decider.{loopsOf};
-ghost use Rattle.mesh_rule.specs.Buffers.{pairs, triples};
+ghost use Rattle.mesh_rule.specs.Buffers.{triples};
+ghost use Rattle.mesh_rule.specs.Layers.{pairs};
 ghost use Rattle.cube_vertices.specs.Cubes.{CubeReady, CubeRoom, CubeWritten};
 
 // Where the vertices of a cube go: its place in its row, its number, and the number of its first vertex.

@@ -14,9 +14,9 @@ use Rattle.block.specs.declared.Size.{Size}
 use Rattle.block.specs.Numbering.{cubeCount}
 use Rattle.block.specs.Size.{Limits}
 use Rattle.cube_rule.specs.Decider.{loopsOf}
-use Rattle.mesh_rule.specs.Buffers.{meshOffsets}
+use Rattle.mesh_rule.specs.Buffers.{meshWords, meshOffsets}
 use Rattle.mesh_rule.specs.Grid.{metal, OffEdges, AtLeastThree}
-use Rattle.mesh_rule.specs.Mesh.{flat, flatVertices, vertices, quads}
+use Rattle.mesh_rule.specs.Mesh.{flat, quads}
 use Rattle.mesh_rule.proofs.Checkerboard.{hollow, hollow-vertices, hollow-length, hollow-at, board, board-vertices, board-length, board-grey}
 use Rattle.mesh.specs.declared.Totals.{Totals}
 use Rattle.mesh.specs.declared.Counted.{Counted}
@@ -58,7 +58,7 @@ module _ {nx ny nz : ℕ} {s : List ℕ} {t : ℕ} (a : MeshCall nx ny nz s t) w
   pub other-quad-count-falls : (a .counts .quads ≡ quadCount size s cut → ⊥) → ⊥
   other-quad-count-falls h = h (quads-are a)
 
-  pub other-word-falls : (k : ℕ) → k < 2 * vertexCount size s cut → (getD (a .words-after) k 0 ≡ getD (flatVertices (vertices loopsOf size s cut)) k 0 → ⊥) → ⊥
+  pub other-word-falls : (k : ℕ) → k < 2 * vertexCount size s cut → (getD (a .words-after) k 0 ≡ getD (meshWords loopsOf size s cut) k 0 → ⊥) → ⊥
   other-word-falls k l h = h (word-at a k (omega (arith, l, mesh-given a .vertex-count)))
 
   pub other-offset-falls : (k : ℕ) → k < 3 * vertexCount size s cut → (getD (a .offsets-after) k nan ≡ getD (meshOffsets loopsOf size s cut) k nan → ⊥) → ⊥
@@ -69,7 +69,7 @@ module _ {nx ny nz : ℕ} {s : List ℕ} {t : ℕ} (a : MeshCall nx ny nz s t) w
 
   -- ---- nothing written, wherever a buffer differs from the mesh
 
-  pub unwritten-words-fall : (k : ℕ) → k < 2 * vertexCount size s cut → (getD (a .words) k 0 ≡ getD (flatVertices (vertices loopsOf size s cut)) k 0 → ⊥)
+  pub unwritten-words-fall : (k : ℕ) → k < 2 * vertexCount size s cut → (getD (a .words) k 0 ≡ getD (meshWords loopsOf size s cut) k 0 → ⊥)
       → a .words-after ≡ a .words → ⊥
   unwritten-words-fall k l h e = other-word-falls k l (λ same. h (ap (λ (x : List ℕ). getD x k 0) (sym e) ∙ same))
 

@@ -1,40 +1,25 @@
 -- Demand 3, from two answers of `mesh`: what the buffers hold of two meshes of one size, the cube of every vertex and the quads, tells the sign of
 -- every sample off the box's twelve edges. Assumes nothing.
-use Prim.Native.Nat.{ℕ, suc, _*_, _<_}
-use mathlib.Core.Path.{_≡_, refl, sym, ap₂, _∙_}
+use Prim.Native.Nat.{ℕ, _*_, _≤_, _<_}
+use mathlib.Core.Path.{_≡_, refl, sym, ap, _∙_}
+use mathlib.Core.Logic.{_⊎_, inl, inr}
 use mathlib.Core.List.{List, [], _∷_}
 use native.Mathlib.Omega.{arith}
-use lib.ListN.{length, getD}
+use lib.ListN.{length, List·getD-eq-default}
 use lib.Seq.{ext-getD}
+use Rattle.laws.proofs.Tests.{lt-or-ge}
 use Rattle.block.specs.declared.Cut.{Cut}
 use Rattle.block.specs.declared.Size.{Size}
-use Rattle.cube_rule.specs.Decider.{loopsOf}
-use Rattle.mesh_rule.specs.Demand.{cubesOf}
+use Rattle.cube_rule.specs.Decider.{joined, loopsOf}
+use Rattle.cube_rule.proofs.Laws.{cube-laws}
 use Rattle.mesh_rule.specs.Grid.{metal, OffEdges, AtLeastThree}
-use Rattle.mesh_rule.specs.Mesh.{Vertex, Quad, flat, vertices, quads, flatVertices}
+use Rattle.mesh_rule.specs.Mesh.{Vertex, Quad, flat, vertices, vertexOf, quads}
 use Rattle.mesh_rule.proofs.StandIn.{demand3, demand3-alike}
+use Rattle.mesh_rule.proofs.Words.{words-at}
 use Rattle.mesh.specs.Answer.{sizeOf}
 use Rattle.mesh.proofs.PlaneQuads.{flat-length}
 use Rattle.demands.specs.Answers.{MeshCall, SameCubes, SameQuads}
 use Rattle.demands.proofs.TheMesh.{mesh-given, quads-are, word-at, number-at}
-
--- ---- lists that agree place by place
-
--- the cube of vertex v stands at place 2v of the words
-same-cubes : (vs vs′ : List Vertex) → length vs ≡ length vs′
-    → ((v : ℕ) → v < length vs → getD (flatVertices vs) (2 * v) 0 ≡ getD (flatVertices vs′) (2 * v) 0) → cubesOf vs ≡ cubesOf vs′
-same-cubes [] [] l h = refl
-same-cubes [] (v ∷ vs) l h = absurd (omega (arith, l))
-same-cubes (v ∷ vs) [] l h = absurd (omega (arith, l))
-same-cubes (v ∷ vs) (v′ ∷ vs′) l h =
-    ap₂ (λ (x : ℕ) (xs : List ℕ). x ∷ xs) (h 0 (omega arith))
-    (same-cubes vs vs′ (omega (arith, l)) (λ k d. next k (h (suc k) (omega arith))))
-  where
-    next : (k : ℕ) → getD (flatVertices (v ∷ vs)) (2 * suc k) 0 ≡ getD (flatVertices (v′ ∷ vs′)) (2 * suc k) 0
-        → getD (flatVertices vs) (2 * k) 0 ≡ getD (flatVertices vs′) (2 * k) 0
-    next k e =
-        let two : 2 * suc k ≡ suc (suc (2 * k)) = omega arith in
-        rw two at e
 
 -- ---- the two sentences of demand 3
 
@@ -48,7 +33,7 @@ module _ {nx ny nz : ℕ} {s : List ℕ} {t : ℕ} (three : AtLeastThree (sizeOf
   -- no quad: the samples off the twelve edges are all alike
   pub no-quad-alike : a .counts .quads ≡ 0 → (i j k i′ j′ k′ : ℕ) → OffEdges size i j k → OffEdges size i′ j′ k′
       → metal size s cut i j k ≡ metal size s cut i′ j′ k′
-  no-quad-alike none = demand3-alike size three s cut (empty (quads loopsOf size s cut) (sym (quads-are a) ∙ none))
+  no-quad-alike none = demand3-alike loopsOf size three s cut (empty (quads loopsOf size s cut) (sym (quads-are a) ∙ none))
     where
       empty : (qs : List Quad) → length qs ≡ 0 → qs ≡ []
       empty [] l = refl
@@ -58,12 +43,8 @@ module _ {nx ny nz : ℕ} {s : List ℕ} {t : ℕ} (three : AtLeastThree (sizeOf
   pub same-mesh-alike : {s′ : List ℕ} {t′ : ℕ} (b : MeshCall nx ny nz s′ t′) → SameCubes a b → SameQuads a b → 0 < a .counts .quads
       → (i j k : ℕ) → OffEdges size i j k → metal size s cut i j k ≡ metal size s′ (record { t = t′ }) i j k
   same-mesh-alike {s′} {t′} b sc sq some =
-      demand3 size three s cut s′ (record { t = t′ })
-      (same-cubes (vertices loopsOf size s cut) (vertices loopsOf size s′ (record { t = t′ }))
-      (sym (mesh-given a .vertex-count) ∙ sc .count ∙ mesh-given b .vertex-count)
-      (λ v h.
-      let l : v < a .counts .vertices = omega (arith, h, mesh-given a .vertex-count) in
-      sym (word-at a (2 * v) (omega arith)) ∙ sc .cubes v l ∙ word-at b (2 * v) (omega (arith, sc .count))))
+      demand3 (cube-laws joined) size three s cut s′ (record { t = t′ })
+      (λ v. cubes v (lt-or-ge v (a .counts .vertices)))
       (ext-getD 0 (flat (quads loopsOf size s cut)) (flat (quads loopsOf size s′ (record { t = t′ })))
       (omega (
         arith,
@@ -77,3 +58,14 @@ module _ {nx ny nz : ℕ} {s : List ℕ} {t : ℕ} (three : AtLeastThree (sizeOf
       let l : k < 4 * a .counts .quads = omega (arith, h, flat-length (quads loopsOf size s cut), quads-are a) in
       sym (number-at a k l) ∙ sq .numbers k l ∙ number-at b k (omega (arith, sq .count))))
       (omega (arith, some, quads-are a))
+    where
+      -- the cube of vertex v stands at place 2v of the words
+      cubes : (v : ℕ) → (v < a .counts .vertices) ⊎ (a .counts .vertices ≤ v)
+          → vertexOf loopsOf size s cut v .cube ≡ vertexOf loopsOf size s′ (record { t = t′ }) v .cube
+      cubes v (inl l) =
+          sym (words-at loopsOf size s cut v (omega (arith, l, mesh-given a .vertex-count)) .0)
+          ∙ sym (word-at a (2 * v) (omega arith)) ∙ sc .cubes v l ∙ word-at b (2 * v) (omega (arith, sc .count))
+          ∙ words-at loopsOf size s′ (record { t = t′ }) v (omega (arith, l, sc .count, mesh-given b .vertex-count)) .0
+      cubes v (inr g) =
+          ap (λ (x : Vertex). x .cube) (List·getD-eq-default (vertices loopsOf size s cut) (record { cube = 0; mask = 0 }) {n = v} (omega (arith, g, mesh-given a .vertex-count)))
+          ∙ sym (ap (λ (x : Vertex). x .cube) (List·getD-eq-default (vertices loopsOf size s′ (record { t = t′ })) (record { cube = 0; mask = 0 }) {n = v} (omega (arith, g, sc .count, mesh-given b .vertex-count))))

@@ -20,11 +20,11 @@ use Rattle.block.proofs.Sizes.{axes-within}
 use Rattle.cube_rule.specs.Decider.{joined, loopsOf}
 use Rattle.cube_rule.proofs.Laws.{cube-laws}
 use Rattle.mesh_rule.specs.Buffers.{meshWords, meshOffsets, meshQuads}
-use Rattle.mesh_rule.specs.Mesh.{Quad, flat, vertices, quads, flatVertices}
+use Rattle.mesh_rule.specs.Mesh.{Quad, flat, vertices, quads}
 use Rattle.mesh_rule.proofs.Counts.{most-vertices, most-quads}
 use Rattle.mesh_rule.proofs.Offsets.{offsets-in-unit, mesh-offsets-length}
-use Rattle.mesh_rule.proofs.Quads.{quad-count, quad-inside, Each, IsVertex}
-use Rattle.mesh_rule.proofs.Words.{words-are-vertices, mesh-words-length}
+use Rattle.mesh_rule.proofs.Quads.{quad-count, quad-inside}
+use Rattle.mesh_rule.proofs.Words.{mesh-words-length}
 use Rattle.mesh.specs.declared.Totals.{Totals}
 use Rattle.mesh.specs.declared.Counted.the-variants as counted
 use Rattle.mesh.specs.Answer.{sizeOf, countsOf, meshVerdict, written}
@@ -51,7 +51,7 @@ over-front xs b k d h = List·getD-append xs _ d k h
 
 -- ---- every number of the quads
 
-flat-each : (P : ℕ → Type 0) (qs : List Quad) → ((q : Quad) → List·Memᴰ q qs → Each P q) → (k : ℕ) → k < length (flat qs) → P (getD (flat qs) k 0)
+flat-each : (P : ℕ → Type 0) (qs : List Quad) → ((q : Quad) → List·Memᴰ q qs → P (q .v0) × P (q .v1) × P (q .v2) × P (q .v3)) → (k : ℕ) → k < length (flat qs) → P (getD (flat qs) k 0)
 flat-each P [] h k l = absurd (not-suc-le-zero l)
 flat-each P (q ∷ qs) h zero l = h q (List·Memᴰ·head refl) .0
 flat-each P (q ∷ qs) h (suc zero) l = h q (List·Memᴰ·head refl) .1
@@ -95,17 +95,16 @@ module _ {nx ny nz : ℕ} {s : List ℕ} {t : ℕ} (a : MeshCall nx ny nz s t) w
   offsets-long : length (meshOffsets loopsOf size s cut) ≡ 3 * a .counts .vertices
   offsets-long = mesh-offsets-length size s cut ∙ omega (arith, vertices-are)
 
-  words-in : a .words-after ≡ over (flatVertices (vertices loopsOf size s cut)) (a .words)
+  words-in : a .words-after ≡ over (meshWords loopsOf size s cut) (a .words)
   words-in =
       written-by verdict (meshWords loopsOf size s cut) (a .words) (a .words-after) (both .0) (a .promise .words)
-      ∙ ap (λ (l : List ℕ). over l (a .words)) (sym (words-are-vertices size s cut))
 
-  words-long : length (flatVertices (vertices loopsOf size s cut)) ≡ 2 * a .counts .vertices
-  words-long = ap length (words-are-vertices size s cut) ∙ mesh-words-length size s cut ∙ omega (arith, vertices-are)
+  words-long : length (meshWords loopsOf size s cut) ≡ 2 * a .counts .vertices
+  words-long = mesh-words-length size s cut ∙ omega (arith, vertices-are)
 
   -- what stands in a place of the words, the offsets and the quads
-  pub word-at : (k : ℕ) → k < 2 * a .counts .vertices → getD (a .words-after) k 0 ≡ getD (flatVertices (vertices loopsOf size s cut)) k 0
-  word-at k h = rw words-in (over-front (flatVertices (vertices loopsOf size s cut)) (a .words) k 0 (rw words-long h))
+  pub word-at : (k : ℕ) → k < 2 * a .counts .vertices → getD (a .words-after) k 0 ≡ getD (meshWords loopsOf size s cut) k 0
+  word-at k h = rw words-in (over-front (meshWords loopsOf size s cut) (a .words) k 0 (rw words-long h))
 
   pub offset-at : (k : ℕ) → k < 3 * a .counts .vertices → getD (a .offsets-after) k nan ≡ getD (meshOffsets loopsOf size s cut) k nan
   offset-at k h = rw offsets-in (over-front (meshOffsets loopsOf size s cut) (a .offsets) k nan (rw offsets-long h))
@@ -123,7 +122,7 @@ module _ {nx ny nz : ℕ} {s : List ℕ} {t : ℕ} (a : MeshCall nx ny nz s t) w
     quad-count = quads-are ∙ quad-count loopsOf size s cut;
     below-count = λ k h.
         rw (number-at k h, vertices-are)
-        (flat-each (IsVertex loopsOf size s cut) (quads loopsOf size s cut) (λ x i. quad-inside loopsOf size s cut (cube-laws joined) i) k (rw flat-long h));
+        (flat-each (λ (v : ℕ). v < length (vertices loopsOf size s cut)) (quads loopsOf size s cut) (λ x i. quad-inside loopsOf size s cut (cube-laws joined) i) k (rw flat-long h));
     most = (
       omega (arith, vertices-are, most-vertices loopsOf size s cut (cube-laws joined) limits),
       omega (arith, quads-are, most-quads loopsOf size s cut limits),

@@ -12,8 +12,8 @@ use Rattle.block.specs.declared.Size.{Size}
 use Rattle.block.specs.Numbering.{X, Y, Z, sampleCount}
 use Rattle.cube_rule.specs.Decider.{loopsOf}
 use Rattle.place.specs.Unit.{InUnit}
-use Rattle.mesh_rule.specs.Buffers.{meshOffsets}
-use Rattle.mesh_rule.specs.Mesh.{flat, vertices, flatVertices}
+use Rattle.mesh_rule.specs.Buffers.{meshWords, meshOffsets}
+use Rattle.mesh_rule.specs.Mesh.{flat, vertices}
 use Rattle.mesh_rule.specs.Mesh.{quads as quadsOf}
 use Rattle.mesh_rule.specs.Grid.{crossedInner}
 use Rattle.mesh.specs.Answer.{sizeOf}
@@ -28,7 +28,7 @@ module _ {nx ny nz : ℕ} {s : List ℕ} {t : ℕ} (a : MeshCall nx ny nz s t) w
 
   pub record MeshGiven : Type 0 where
     -- the vertices in order, one for each loop of each cube: cube number and mask; what stood behind them is kept
-    pub words : a .words-after ≡ over (flatVertices (vertices loopsOf size s cut)) (a .words)
+    pub words : a .words-after ≡ over (meshWords loopsOf size s cut) (a .words)
     pub vertex-count : a .counts .vertices ≡ length (vertices loopsOf size s cut)
     -- the places of the loops, each coordinate from 0 to 1
     pub offsets : a .offsets-after ≡ over (meshOffsets loopsOf size s cut) (a .offsets)

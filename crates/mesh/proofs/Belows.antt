@@ -17,9 +17,8 @@ use Rattle.block.specs.Numbering.{cubeCount}
 use Rattle.cell.specs.Answer.{wordOf}
 use Rattle.cube_rule.specs.Decider.{joined, loopsOf}
 use Rattle.cube_rule.proofs.Laws.{cube-laws}
-use Rattle.mesh_rule.specs.Buffers.{cubeWords}
 use Rattle.mesh_rule.specs.Grid.{cornersOf}
-use Rattle.mesh_rule.specs.Layers.{layerSize, layerWords, layerCount, layerFirst, rowCube, runMasks}
+use Rattle.mesh_rule.specs.Layers.{cubeWords, layerSize, layerWords, layerCount, layerFirst, rowCube, runMasks}
 use Rattle.mesh_rule.specs.Mesh.{cubeLoops, verticesBefore}
 use Rattle.cube_vertices.specs.Cubes.{namesBy}
 use Rattle.notes.specs.Tables.{whichOf, RowOf, RowRead}

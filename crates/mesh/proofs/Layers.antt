@@ -17,8 +17,8 @@ use Rattle.place.specs.Place.{placeOf}
 use Rattle.cell.specs.Answer.{wordOf}
 use Rattle.mesh_rule.specs.Grid.{cornersOf}
 use Rattle.mesh_rule.specs.Mesh.{verticesOf, verticesBefore, cubeLoops}
-use Rattle.mesh_rule.specs.Buffers.{pairs, triples, cubeWords, cubeOffsets}
-use Rattle.mesh_rule.specs.Layers.{layerSize, layerWords, layerCount, layerFirst}
+use Rattle.mesh_rule.specs.Buffers.{triples}
+use Rattle.mesh_rule.specs.Layers.{pairs, cubeWords, cubeOffsets, layerSize, layerWords, layerCount, layerFirst}
 use Rattle.mesh_rule.proofs.Numbers.{one-for-each-loop}
 
 -- one layer of l more

@@ -9,7 +9,7 @@ use lib.ListN.{length, getD, length-append}
 use Rattle.laws.specs.Below.{below}
 use Rattle.laws.proofs.Below.{below-add, getD-below, length-below, split}
 use Rattle.laws.proofs.Tests.{lt-or-ge}
-use Rattle.mesh_rule.specs.Buffers.{pairs}
+use Rattle.mesh_rule.specs.Layers.{pairs}
 use Rattle.notes.specs.Tables.{RowOf}
 use Rattle.cube_vertices.proofs.Stored.{pairs-length}
 use Rattle.mesh.proofs.Layers.{length-scaled}

@@ -7,15 +7,16 @@ use native.Mathlib.Omega.{arith}
 use lib.ListN.{length}
 use lib.Seq.{sets, length-sets}
 use lib.Ieee.{Float}
-use Rattle.laws.specs.Below.{below}
+use Rattle.laws.specs.Below.{below, over}
 use Rattle.laws.proofs.Below.{below-add}
 use Rattle.laws.proofs.Stores.{sets-append, sets-over}
 use Rattle.block.specs.declared.Cut.{Cut}
 use Rattle.block.specs.declared.Size.{Size}
 use Rattle.block.specs.Numbering.{X, Y, Z, sampleCount, cubeCount}
 use Rattle.cube_rule.specs.Decider.{loopsOf}
-use Rattle.mesh_rule.specs.Buffers.{cubeWords, cubeOffsets, meshWords, meshOffsets, meshQuads}
-use Rattle.mesh_rule.specs.Layers.{rowCube, rowSample, runWords, runOffsets}
+use Rattle.mesh_rule.specs.Buffers.{meshQuads}
+use Rattle.mesh_rule.specs.Layers.{cubeWords, cubeOffsets, rowCube, rowSample, runWords, runOffsets}
+use Rattle.mesh_rule.proofs.Words.{words-by-cube, offsets-by-cube}
 use Rattle.quads.specs.Writing.{rowQuads}
 use Rattle.layers.specs.declared.Marks.{Marks}
 use Rattle.mesh.specs.Answer.{vertexCount}
@@ -137,10 +138,11 @@ module _ (n : Size) (s : List ℕ) (cut : Cut) where
   -- ---- the whole mesh
 
   pub block-written : (k : ℕ) {m : Marks} {w₀ w : List ℕ} {o₀ o : List Float} {q₀ q : List ℕ} → Writing loopsOf n s cut 0 k m w₀ w o₀ o q₀ q → k + 1 ≡ n .nz → Roomy loopsOf n s cut w₀ o₀ q₀ → BlockWritten loopsOf n s cut w₀ w o₀ o q₀ q
-  unfolding meshWords meshOffsets
   block-written k {m} {w₀} {w} {o₀} {o} {q₀} {q} r e room = record {
-    words = r .words ∙ ap (λ (c : ℕ). sets w₀ 0 (below (cubeWords loopsOf n s cut) c)) (all-cubes n s cut k e) ∙ sets-over w₀ (below (cubeWords loopsOf n s cut) (cubeCount n)) (omega (arith, words-all, room .words));
-    offsets = r .offsets ∙ ap (λ (c : ℕ). sets o₀ 0 (below (cubeOffsets loopsOf n s cut) c)) (all-cubes n s cut k e) ∙ sets-over o₀ (below (cubeOffsets loopsOf n s cut) (cubeCount n)) (omega (arith, offsets-all, room .offsets));
+    words = r .words ∙ ap (λ (c : ℕ). sets w₀ 0 (below (cubeWords loopsOf n s cut) c)) (all-cubes n s cut k e) ∙ sets-over w₀ (below (cubeWords loopsOf n s cut) (cubeCount n)) (omega (arith, words-all, room .words))
+        ∙ ap (λ (l : List ℕ). over l w₀) (sym (words-by-cube loopsOf n s cut));
+    offsets = r .offsets ∙ ap (λ (c : ℕ). sets o₀ 0 (below (cubeOffsets loopsOf n s cut) c)) (all-cubes n s cut k e) ∙ sets-over o₀ (below (cubeOffsets loopsOf n s cut) (cubeCount n)) (omega (arith, offsets-all, room .offsets))
+        ∙ ap (λ (l : List Float). over l o₀) (sym (offsets-by-cube loopsOf n s cut));
     quads =
         r .quads
         ∙ all-same q₀ (all-planes n s cut X k e) (all-planes n s cut Y k e) (all-planes n s cut Z k e)

@@ -13,8 +13,8 @@ use Rattle.block.specs.declared.Size.{Size}
 use Rattle.block.specs.Numbering.{X, Y, Z, sampleCount}
 use Rattle.block.specs.Size.{Limits}
 use Rattle.mesh_rule.specs.Mesh.{vertices, quads}
-use Rattle.mesh_rule.specs.Buffers.{cubeWords, cubeOffsets, meshWords, meshOffsets, meshQuads}
-use Rattle.mesh_rule.specs.Layers.{layerSize, layerWords, layerFirst, rowCube, rowSample, runMasks, runWords, runOffsets}
+use Rattle.mesh_rule.specs.Buffers.{meshWords, meshOffsets, meshQuads}
+use Rattle.mesh_rule.specs.Layers.{cubeWords, cubeOffsets, layerSize, layerWords, layerFirst, rowCube, rowSample, runMasks, runWords, runOffsets}
 use Rattle.quads.specs.Writing.{RowTable, rowQuads}
 use Rattle.layers.specs.declared.Marks.{Marks}
 use Rattle.layers.specs.Steps.{half}

@@ -31,9 +31,9 @@ use Rattle.block.proofs.Lowest.{lowest-there, row-passes}
 use Rattle.cube_rule.specs.Edges.{patternOf, crossedMask}
 use Rattle.cube_rule.specs.Loops.{grow, loopFrom, loopsFrom, loopsBy}
 use Rattle.cube_rule.specs.Decider.{joined, loopsOf}
-use Rattle.mesh_rule.specs.Grid.{sampleAt, cornersAt, cornersOf, inner, crossedFrom, innerFrom, crossedInner}
+use Rattle.mesh_rule.specs.Grid.{sampleAt, cornersAt, cornersOf, inner, crossedFrom, crossedInner}
 use Rattle.mesh_rule.specs.Mesh.{verticesOf, verticesBefore, vertices, quads}
-use Rattle.mesh_rule.proofs.Counts.{innerCount, inner-count}
+use Rattle.mesh_rule.proofs.Counts.{innerFrom, innerCount, inner-count}
 use Rattle.mesh_rule.proofs.Inner.{Inner, inner-facts}
 use Rattle.mesh_rule.proofs.Numbers.{one-for-each-loop}
 use Rattle.mesh_rule.proofs.Quads.{quad-count}

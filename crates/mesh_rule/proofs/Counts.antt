@@ -19,7 +19,7 @@ use Rattle.block.specs.Size.{Limits}
 use Rattle.block.proofs.Products.{product-le}
 use Rattle.cube_rule.specs.Laws.{CubeLaws}
 use Rattle.cube_rule.specs.Links.{Decider}
-use Rattle.mesh_rule.specs.Grid.{cornersOf, between, crossedInner, innerFrom}
+use Rattle.mesh_rule.specs.Grid.{atSample, cornersOf, between, inner, crossedInner}
 use Rattle.mesh_rule.specs.Mesh.{verticesOf, verticesBefore, vertices, quads}
 use Rattle.mesh_rule.proofs.Inner.{mid-between}
 use Rattle.mesh_rule.proofs.Numbers.{one-for-each-loop}
@@ -51,6 +51,10 @@ count-between (suc n) =
   where
     last-not : (n : ℕ) → between (suc n) n ≡ false
     last-not n = rw (le-ltb (n + 1) (suc n) (omega arith)) (and-false (ltb 0 n))
+
+-- the edge along the axis from the sample with the index p is inner
+abbrev pub innerFrom : Size → Axis → ℕ → Bool
+innerFrom n a p = atSample n (inner n a) p
 
 -- how many inner edges run along each axis
 abbrev pub innerCount : Size → Axis → ℕ

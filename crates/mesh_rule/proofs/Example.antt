@@ -16,17 +16,17 @@ use Rattle.cube_rule.specs.Decider.{joined, loopsOf}
 use Rattle.mesh_rule.specs.Grid.{cornersOf}
 use Rattle.mesh_rule.specs.Mesh.{Vertex, flat, verticesOf, verticesBefore, vertices, vertexNumber, quadAt, quadsBefore, quads}
 
-abbrev size : ℕ → Size
+abbrev pub size : ℕ → Size
 size n = record { nx = n; ny = n; nz = n }
 
-abbrev cut : Cut
+abbrev pub cut : Cut
 cut = record { t = 100 }
 
 abbrev vertex : ℕ → ℕ → Vertex
 vertex c m = record { cube = c; mask = m }
 
 -- three samples along each axis, 400 in the middle and 0 elsewhere, t = 100
-abbrev samples : List ℕ
+abbrev pub samples : List ℕ
 samples = replicate 13 0 ++ 400 ∷ replicate 13 0
 
 pub the-vertices : vertices loopsOf (size 3) samples cut

@@ -1,9 +1,8 @@
--- "An inner edge lies in four cubes": the test `inner` holds exactly if the four cubes of 01's table are cubes of the block, and then the
--- edge, if it is crossed, is crossed in each of them by the number that the table gives it there.
+-- The four cubes of 01's table round an inner edge are cubes of the block, and the edge, if it is crossed, is crossed in each of them by the
+-- number that the table gives it there.
 -- Assumes nothing.
 use Prim.Native.Nat.{ℕ, _+_, _-_, _<_}
 use mathlib.Core.Path.{_≡_, refl}
-use mathlib.Core.Logic.{_↔_}
 use mathlib.Core.Bool.{Bool, true, false, _&&_, false≢true}
 use mathlib.Core.List.{List}
 use native.Mathlib.Omega.{arith}
@@ -12,8 +11,9 @@ use borrow.Author.Tests.{ltb-true, lt-ltb}
 use Rattle.block.specs.declared.Cut.{Cut}
 use Rattle.block.specs.declared.Size.{Size}
 use Rattle.block.specs.Numbering.{Axis, X, Y, Z}
-use Rattle.cube_rule.specs.Edges.{crossedAt}
-use Rattle.mesh_rule.specs.Grid.{cornersAt, between, inner, crossedFrom}
+use Rattle.cube_rule.specs.Edges.{lower, upper, cornerSample, crossedAt}
+use Rattle.mesh_rule.specs.Grid.{sampleAt, cornersAt, between, inner, ahead, crossedFrom}
+use Rattle.mesh_rule.specs.Mesh.{table}
 
 pub both : (a b : Bool) → (a && b) ≡ true → (a ≡ true) × (b ≡ true)
 both true b h = (refl, h)
@@ -58,11 +58,9 @@ inner-sample n X i j k h = omega arith
 inner-sample n Y i j k h = omega arith
 inner-sample n Z i j k h = omega arith
 
--- ---- 01's table: what holds of each of the four cubes and of the edge's number there, in the order of the table
+-- ---- 01's table: what holds of each of the four cubes and of the edge's number there
 abbrev pub Round : (ℕ → ℕ → ℕ → ℕ → Type 0) → Axis → ℕ → ℕ → ℕ → Type 0
-Round P X i j k = P i (j - 1) (k - 1) 3 × P i j (k - 1) 2 × P i j k 0 × P i (j - 1) k 1
-Round P Y i j k = P (i - 1) j (k - 1) 7 × P (i - 1) j k 5 × P i j k 4 × P i j (k - 1) 6
-Round P Z i j k = P (i - 1) (j - 1) k 11 × P i (j - 1) k 10 × P i j k 8 × P (i - 1) j k 9
+Round P a i j k = table (λ p₀ p₁ p₂ p₃. p₀ × p₁ × p₂ × p₃) P a i j k
 
 pub map-round : {P Q : ℕ → ℕ → ℕ → ℕ → Type 0} → ((x y z e : ℕ) → P x y z e → Q x y z e)
     → (a : Axis) (i j k : ℕ) → Round P a i j k → Round Q a i j k
@@ -89,15 +87,6 @@ four-cubes n X i j k h = omega arith
 four-cubes n Y i j k h = omega arith
 four-cubes n Z i j k h = omega arith
 
-four-inner : (n : Size) (a : Axis) (i j k : ℕ) → FourCubes n a i j k → Inner n a i j k
-four-inner n X i j k h = omega arith
-four-inner n Y i j k h = omega arith
-four-inner n Z i j k h = omega arith
-
-pub inner-is-in-four-cubes : (n : Size) (a : Axis) (i j k : ℕ) → (inner n a i j k ≡ true) ↔ FourCubes n a i j k
-inner-is-in-four-cubes n a i j k =
-    (λ h. four-cubes n a i j k (inner-facts n a i j k h), λ h. inner-test n a i j k (four-inner n a i j k h))
-
 -- ---- crossed in each of the four
 
 -- (x,y,z) is a cube of the block, and its edge e is crossed
@@ -110,6 +99,26 @@ back : (a : ℕ) → 0 < a → a - 1 + 1 ≡ a
 back a h = omega arith
 
 -- the edge's two samples are the corners of the edge's number in each of the four cubes
+pub table-ends : (n : Size) (a : Axis) (i j k : ℕ) → inner n a i j k ≡ true → (s : List ℕ)
+    → table (λ p₀ p₁ p₂ p₃. p₀ × p₁ × p₂ × p₃)
+    (λ x y z e. (cornerSample (cornersAt n s x y z) (lower e) ≡ sampleAt n s i j k) × (cornerSample (cornersAt n s x y z) (upper e) ≡ ahead (sampleAt n s) a i j k)) a i j k
+table-ends n X i j k h s =
+    let f = inner-facts n X i j k h in
+    let bj = back j (f .1 .0) in
+    let bk = back k (f .2 .0) in
+    ((rw (bj, bk), rw (bj, bk)), (rw bk, rw bk), (refl, refl), (rw bj, rw bj))
+table-ends n Y i j k h s =
+    let f = inner-facts n Y i j k h in
+    let bi = back i (f .0 .0) in
+    let bk = back k (f .2 .0) in
+    ((rw (bi, bk), rw (bi, bk)), (rw bi, rw bi), (refl, refl), (rw bk, rw bk))
+table-ends n Z i j k h s =
+    let f = inner-facts n Z i j k h in
+    let bi = back i (f .0 .0) in
+    let bj = back j (f .1 .0) in
+    ((rw (bi, bj), rw (bi, bj)), (rw bj, rw bj), (refl, refl), (rw bi, rw bi))
+
+-- so it is crossed in each of them if it is crossed
 pub crossed-round : (n : Size) (s : List ℕ) (cut : Cut) (a : Axis) (i j k : ℕ) → Inner n a i j k → crossedFrom n s cut a i j k ≡ true
     → Round (CrossedIn n s cut) a i j k
 crossed-round n s cut X i j k h x =

@@ -11,7 +11,7 @@ use borrow.Author.Tests.{eqb-false}
 use lib.Dec.{eqb}
 use Rattle.block.specs.declared.Size.{Size}
 use Rattle.block.specs.Numbering.{Axis, X, Y, Z}
-use Rattle.mesh_rule.specs.Grid.{atEnd, OffEdges, AtLeastThree}
+use Rattle.mesh_rule.specs.Grid.{ahead, atEnd, OffEdges, AtLeastThree}
 use Rattle.mesh_rule.proofs.Inner.{Mid, Inner}
 
 -- what goes both ways along each step of a line goes from anywhere on it to anywhere
@@ -47,16 +47,16 @@ abbrev TwoMid : Size → ℕ → ℕ → ℕ → Type 0
 TwoMid n i j k = (Mid (n .ny) j × Mid (n .nz) k) ⊎ (Mid (n .nx) i × Mid (n .nz) k) ⊎ (Mid (n .nx) i × Mid (n .ny) j)
 
 two-mid : (n : Size) (i j k : ℕ) → OffEdges n i j k → TwoMid n i j k
-two-mid n i j k o = go (two-false (atEnd (n .nx) i) (atEnd (n .ny) j) (atEnd (n .nz) k) (o .off))
+two-mid n i j k o = go (two-false (atEnd (n .nx) i) (atEnd (n .ny) j) (atEnd (n .nz) k) (o .3))
   where
     x : atEnd (n .nx) i ≡ false → Mid (n .nx) i
-    x = mid (n .nx) i (o .x-in)
+    x = mid (n .nx) i (o .0)
 
     y : atEnd (n .ny) j ≡ false → Mid (n .ny) j
-    y = mid (n .ny) j (o .y-in)
+    y = mid (n .ny) j (o .1)
 
     z : atEnd (n .nz) k ≡ false → Mid (n .nz) k
-    z = mid (n .nz) k (o .z-in)
+    z = mid (n .nz) k (o .2)
 
     go : ((atEnd (n .ny) j ≡ false) × (atEnd (n .nz) k ≡ false)) ⊎ ((atEnd (n .nx) i ≡ false) × (atEnd (n .nz) k ≡ false)) ⊎ ((atEnd (n .nx) i ≡ false) × (atEnd (n .ny) j ≡ false))
         → TwoMid n i j k
@@ -64,13 +64,7 @@ two-mid n i j k o = go (two-false (atEnd (n .nx) i) (atEnd (n .ny) j) (atEnd (n 
     go (inr (inl m)) = inr (inl (x (m .0), z (m .1)))
     go (inr (inr m)) = inr (inr (x (m .0), y (m .1)))
 
--- what holds of the next sample along the axis
-abbrev pub Ahead : (ℕ → ℕ → ℕ → Type 0) → Axis → ℕ → ℕ → ℕ → Type 0
-Ahead P X i j k = P (i + 1) j k
-Ahead P Y i j k = P i (j + 1) k
-Ahead P Z i j k = P i j (k + 1)
-
-module _ (n : Size) (three : AtLeastThree n) (P : ℕ → ℕ → ℕ → Type 0) (step : (a : Axis) (i j k : ℕ) → Inner n a i j k → P i j k ↔ Ahead P a i j k) where
+module _ (n : Size) (three : AtLeastThree n) (P : ℕ → ℕ → ℕ → Type 0) (step : (a : Axis) (i j k : ℕ) → Inner n a i j k → P i j k ↔ ahead P a i j k) where
   along-x : (i i′ j k : ℕ) → i < n .nx → i′ < n .nx → Mid (n .ny) j → Mid (n .nz) k → P i j k ↔ P i′ j k
   along-x i i′ j k hi hi′ hj hk = line (λ i. P i j k) (n .nx) (λ i h. step X i j k (h, hj, hk)) i i′ hi hi′
 
@@ -93,7 +87,7 @@ module _ (n : Size) (three : AtLeastThree n) (P : ℕ → ℕ → ℕ → Type 0
 
   -- a sample off the twelve edges, and the lower end of an inner edge
   pub off-edges-joined : (i j k : ℕ) → OffEdges n i j k → P i j k ↔ P 1 1 1
-  off-edges-joined i j k o = to-centre i j k (o .x-in) (o .y-in) (o .z-in) (two-mid n i j k o)
+  off-edges-joined i j k o = to-centre i j k (o .0) (o .1) (o .2) (two-mid n i j k o)
 
   pub inner-joined : (a : Axis) (i j k : ℕ) → Inner n a i j k → P i j k ↔ P 1 1 1
   inner-joined X i j k h = to-centre i j k (omega arith) (omega arith) (omega arith) (inl (h .1, h .2))

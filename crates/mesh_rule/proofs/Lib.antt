@@ -1,5 +1,6 @@
 pub mod Inner
 pub mod Neighbours
+pub mod InFour
 pub mod Holders
 pub mod Numbers
 pub mod Quads

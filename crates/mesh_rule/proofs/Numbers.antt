@@ -5,7 +5,7 @@ use Prim.Native.Nat.{ℕ, zero, suc, _+_, _-_, _≤_, _<_}
 use mathlib.Core.Path.{_≡_, refl, ap, sym, _∙_}
 use mathlib.Core.Logic.{_⊎_, inl, inr}
 use mathlib.Core.Bool.{true}
-use mathlib.Core.List.{List, [], _∷_, map}
+use mathlib.Core.List.{List, [], _∷_, map, List·Memᴰ, List·Memᴰ·head, List·Memᴰ·tail}
 use native.Mathlib.Nat.{not-suc-le-zero, le-of-suc-le-suc}
 use native.Mathlib.Omega.{arith}
 use lib.ListN.{length, getD, length-map}
@@ -22,19 +22,21 @@ use Rattle.cube_rule.specs.Laws.{CubeLaws}
 use Rattle.cube_rule.specs.Links.{Decider}
 use Rattle.cube_rule.specs.Rule.{holders, firstHolder}
 use Rattle.mesh_rule.specs.Grid.{cornersAt, cornersOf}
-use Rattle.mesh_rule.specs.Mesh.{Vertex, cubeLoops, verticesOf, verticesBefore, vertices, vertexNumber, vertexAt}
+use Rattle.mesh_rule.specs.Mesh.{Vertex, cubeLoops, verticesOf, verticesBefore, vertices, vertexOf, Holder, vertexNumber}
+use Rattle.mesh_rule.specs.Layers.{vertexAt}
 use Rattle.mesh_rule.proofs.Holders.{first-lt, first-holds, only-first}
 use Rattle.mesh_rule.proofs.Inner.{CrossedIn}
-
--- what is read past the last vertex
-abbrev pub noVertex : Vertex
-noVertex = record { cube = 0; mask = 0 }
 
 mapped : (c : ℕ) (ms : List ℕ) (p : ℕ) (d : Vertex) → p < length ms
     → getD (map (λ (m : ℕ). record { cube = c; mask = m }) ms) p d ≡ record { cube = c; mask = getD ms p 0 }
 mapped c [] p d h = absurd (not-suc-le-zero h)
 mapped c (m ∷ ms) zero d h = refl
 mapped c (m ∷ ms) (suc p) d h = mapped c ms p d (le-of-suc-le-suc h)
+
+mem-at : (ms : List ℕ) (p : ℕ) → p < length ms → List·Memᴰ (getD ms p 0) ms
+mem-at [] p h = absurd (not-suc-le-zero h)
+mem-at (m ∷ ms) zero h = List·Memᴰ·head refl
+mem-at (m ∷ ms) (suc p) h = List·Memᴰ·tail (mem-at ms p (le-of-suc-le-suc h))
 
 -- the cube (i,j,k) has the corners (i,j,k) to (i+1,j+1,k+1)
 pub corners-of-number : (n : Size) (s : List ℕ) (i j k : ℕ) → i < n .nx - 1 → j < n .ny - 1 → cornersOf n s (cubeNumber n i j k) ≡ cornersAt n s i j k
@@ -43,10 +45,6 @@ corners-of-number n s i j k hi hj =
     rw (index-x (n .nx - 1) (n .ny - 1) i j k hi hj, index-y (n .nx - 1) (n .ny - 1) i j k hi hj, index-z (n .nx - 1) (n .ny - 1) i j k hi hj)
 
 module _ (loopsOf : Cut → List ℕ → List ℕ) (n : Size) (s : List ℕ) (cut : Cut) where
-  -- the vertex v
-  abbrev pub vertexOf : ℕ → Vertex
-  vertexOf v = getD (vertices loopsOf n s cut) v noVertex
-
   -- a cube has one vertex for each loop
   pub one-for-each-loop : (c : ℕ) → length (verticesOf loopsOf n s cut c) ≡ length (cubeLoops loopsOf n s cut c)
   unfolding verticesOf
@@ -54,11 +52,11 @@ module _ (loopsOf : Cut → List ℕ → List ℕ) (n : Size) (s : List ℕ) (cu
 
   -- each loop of a cube is a vertex: loop p of the cube c stands behind the vertices of the cubes before c
   pub loop-stands : (c p : ℕ) → c < cubeCount n → p < length (cubeLoops loopsOf n s cut c)
-      → vertexOf (length (verticesBefore loopsOf n s cut c) + p) ≡ record { cube = c; mask = getD (cubeLoops loopsOf n s cut c) p 0 }
+      → vertexOf loopsOf n s cut (length (verticesBefore loopsOf n s cut c) + p) ≡ record { cube = c; mask = getD (cubeLoops loopsOf n s cut c) p 0 }
   unfolding vertices verticesBefore verticesOf
   loop-stands c p hc hp =
-      getD-below (verticesOf loopsOf n s cut) noVertex (cubeCount n) c p hc (rw (one-for-each-loop c) hp)
-      ∙ mapped c (cubeLoops loopsOf n s cut c) p noVertex hp
+      getD-below (verticesOf loopsOf n s cut) (record { cube = 0; mask = 0 }) (cubeCount n) c p hc (rw (one-for-each-loop c) hp)
+      ∙ mapped c (cubeLoops loopsOf n s cut c) p (record { cube = 0; mask = 0 }) hp
 
   -- the vertices of a cube before another stand before that one's
   before : (b c : ℕ) → b < c → length (verticesBefore loopsOf n s cut b) + length (cubeLoops loopsOf n s cut b) ≤ length (verticesBefore loopsOf n s cut c)
@@ -71,15 +69,15 @@ module _ (loopsOf : Cut → List ℕ → List ℕ) (n : Size) (s : List ℕ) (cu
   loop-lt c p hc hp = omega (arith, before c (cubeCount n) hc)
 
   -- and each vertex is a loop of a cube
-  pub record Stands (v : ℕ) : Type 0 where
+  record Stands (v : ℕ) : Type 0 where
     pub cube : ℕ
     pub nth : ℕ
     pub cube-lt : cube < cubeCount n
     pub nth-lt : nth < length (cubeLoops loopsOf n s cut cube)
     pub number : v ≡ length (verticesBefore loopsOf n s cut cube) + nth
-    pub is : vertexOf v ≡ record { cube = cube; mask = getD (cubeLoops loopsOf n s cut cube) nth 0 }
+    pub is : vertexOf loopsOf n s cut v ≡ record { cube = cube; mask = getD (cubeLoops loopsOf n s cut cube) nth 0 }
 
-  pub stands : (v : ℕ) → v < length (vertices loopsOf n s cut) → Stands v
+  stands : (v : ℕ) → v < length (vertices loopsOf n s cut) → Stands v
   unfolding vertices verticesBefore
   stands v h =
       let r = split (verticesOf loopsOf n s cut) (cubeCount n) v h in
@@ -90,11 +88,18 @@ module _ (loopsOf : Cut → List ℕ → List ℕ) (n : Size) (s : List ℕ) (cu
         cube-lt = r .2;
         nth-lt = l;
         number = r .4;
-        is = ap vertexOf (r .4) ∙ loop-stands (r .0) (r .1) (r .2) l;
+        is = ap (vertexOf loopsOf n s cut) (r .4) ∙ loop-stands (r .0) (r .1) (r .2) l;
       }
 
+  -- its cube is one of the block's, and its mask is one of that cube's loops
+  pub vertex-is-loop : (v : ℕ) → v < length (vertices loopsOf n s cut)
+      → (vertexOf loopsOf n s cut v .cube < cubeCount n) × List·Memᴰ (vertexOf loopsOf n s cut v .mask) (cubeLoops loopsOf n s cut (vertexOf loopsOf n s cut v .cube))
+  vertex-is-loop v h =
+      let a = stands v h in
+      rw (a .is) (a .cube-lt, mem-at (cubeLoops loopsOf n s cut (a .cube)) (a .nth) (a .nth-lt))
+
   -- the vertices stand by their cubes
-  pub by-cube : (u v : ℕ) → u ≤ v → v < length (vertices loopsOf n s cut) → vertexOf u .cube ≤ vertexOf v .cube
+  pub by-cube : (u v : ℕ) → u ≤ v → v < length (vertices loopsOf n s cut) → vertexOf loopsOf n s cut u .cube ≤ vertexOf loopsOf n s cut v .cube
   by-cube u v h hv =
       let a = stands u (omega arith) in
       let b = stands v hv in
@@ -104,15 +109,9 @@ module _ (loopsOf : Cut → List ℕ → List ℕ) (n : Size) (s : List ℕ) (cu
       go a b (inl l) = absurd (omega (arith, a .number, b .number, b .nth-lt, before (b .cube) (a .cube) l))
       go a b (inr g) = g
 
-  -- v is a vertex of the cube c, and its mask holds the edge e
-  pub record Holder (v c e : ℕ) : Type 0 where
-    pub is-vertex : v < length (vertices loopsOf n s cut)
-    pub in-cube : vertexOf v .cube ≡ c
-    pub holds-edge : holds (vertexOf v .mask) e ≡ true
-
   module _ {D : Decider} (laws : CubeLaws D loopsOf) where
     -- there is one wherever the edge is crossed, and it has the number that `vertexNumber` gives
-    pub vertex-there : (c e : ℕ) → c < cubeCount n → e < 12 → crossedAt cut (cornersOf n s c) e ≡ true → Holder (vertexNumber loopsOf n s cut c e) c e
+    pub vertex-there : (c e : ℕ) → c < cubeCount n → e < 12 → crossedAt cut (cornersOf n s c) e ≡ true → Holder loopsOf n s cut (vertexNumber loopsOf n s cut c e) c e
     unfolding vertexNumber
     vertex-there c e hc he x =
         let some : 0 < holders e (cubeLoops loopsOf n s cut c) = rw (laws .each cut (cornersOf n s c) e he, x) (omega arith) in
@@ -125,7 +124,7 @@ module _ (loopsOf : Cut → List ℕ → List ℕ) (n : Size) (s : List ℕ) (cu
         }
 
     -- and there is no other
-    pub the-vertex : (v c e : ℕ) → e < 12 → Holder v c e → v ≡ vertexNumber loopsOf n s cut c e
+    pub the-vertex : (v c e : ℕ) → e < 12 → Holder loopsOf n s cut v c e → v ≡ vertexNumber loopsOf n s cut c e
     unfolding vertexNumber
     the-vertex v c e he h = go (stands v (h .is-vertex))
       where
@@ -140,7 +139,7 @@ module _ (loopsOf : Cut → List ℕ → List ℕ) (n : Size) (s : List ℕ) (cu
             ∙ ap (λ (d : ℕ). length (verticesBefore loopsOf n s cut d) + firstHolder e (cubeLoops loopsOf n s cut d)) same
 
     -- the same of a cube by its coordinates
-    pub vertex-at : (x y z e : ℕ) → CrossedIn n s cut x y z e → Holder (vertexAt loopsOf n s cut x y z e) (cubeNumber n x y z) e
+    pub vertex-at : (x y z e : ℕ) → CrossedIn n s cut x y z e → Holder loopsOf n s cut (vertexAt loopsOf n s cut x y z e) (cubeNumber n x y z) e
     vertex-at x y z e h =
         vertex-there (cubeNumber n x y z) e
         (index-lt (n .nx - 1) (n .ny - 1) x y z (h .cube-in .0) (h .cube-in .1) (n .nz - 1) (h .cube-in .2))

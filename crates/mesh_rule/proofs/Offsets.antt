@@ -9,7 +9,7 @@ use native.Mathlib.Nat.{not-suc-le-zero}
 use native.Mathlib.Omega.{arith}
 use lib.Dec.{T}
 use lib.Ieee.{nan, isNan}
-use lib.ListN.{length, getD, length-append, length-map}
+use lib.ListN.{length, getD, length-map}
 use Rattle.laws.specs.Below.{below}
 use Rattle.laws.proofs.Below.{split, getD-below}
 use Rattle.block.specs.declared.Cut.{Cut}
@@ -23,9 +23,10 @@ use Rattle.block.specs.Grey.{SixteenBit}
 use Rattle.place.proofs.Bounds.{unit-number, place-in-unit}
 use Rattle.cell.proofs.Answers.{loop-crossed}
 use Rattle.mesh_rule.specs.Grid.{cornersAt, cornersOf}
-use Rattle.mesh_rule.specs.Mesh.{verticesOf, verticesBefore, vertices, cubeLoops}
-use Rattle.mesh_rule.specs.Buffers.{triples, cubeOffsets, meshOffsets}
-use Rattle.mesh_rule.proofs.Numbers.{one-for-each-loop}
+use Rattle.mesh_rule.specs.Mesh.{Vertex, vertices, cubeLoops}
+use Rattle.mesh_rule.specs.Buffers.{triples, meshOffsets}
+use Rattle.mesh_rule.specs.Layers.{cubeOffsets}
+use Rattle.mesh_rule.proofs.Words.{offsets-by-cube}
 
 -- ---- the corners of a cube are samples
 
@@ -65,11 +66,11 @@ module _ (n : Size) (s : List ℕ) (cut : Cut) where
 
   -- of the whole mesh
   pub offsets-in-unit : SixteenBit s → (k : ℕ) → k < length (meshOffsets loopsOf n s cut) → InUnit (getD (meshOffsets loopsOf n s cut) k nan)
-  unfolding meshOffsets
   offsets-in-unit g k h =
-      let r = split (cubeOffsets loopsOf n s cut) (cubeCount n) k h in
+      let e = offsets-by-cube loopsOf n s cut in
+      let r = split (cubeOffsets loopsOf n s cut) (cubeCount n) k (rw e at h) in
       subst InUnit
-      (sym (ap (λ (j : ℕ). getD (meshOffsets loopsOf n s cut) j nan) (r .4) ∙ getD-below (cubeOffsets loopsOf n s cut) nan (cubeCount n) (r .0) (r .1) (r .2) (r .3)))
+      (sym (rw e (ap (λ (j : ℕ). getD (below (cubeOffsets loopsOf n s cut) (cubeCount n)) j nan) (r .4)) ∙ getD-below (cubeOffsets loopsOf n s cut) nan (cubeCount n) (r .0) (r .1) (r .2) (r .3)))
       (cube-in-unit g (r .0) (r .1) (r .3))
 
   -- none is a NaN
@@ -82,31 +83,9 @@ triples-length : (os : List Offset) → length (triples os) ≡ 3 * length os
 triples-length [] = refl
 triples-length (o ∷ os) = omega (arith, triples-length os)
 
-module _ (n : Size) (s : List ℕ) (cut : Cut) where
-  -- three for each vertex of a cube
-  cube-three : (c : ℕ) → length (cubeOffsets loopsOf n s cut c) ≡ 3 * length (verticesOf loopsOf n s cut c)
-  unfolding cubeOffsets
-  cube-three c =
-      omega (
-        arith,
-        triples-length (map (placeOf cut (cornersOf n s c)) (cubeLoops loopsOf n s cut c)),
-        length-map (cubeLoops loopsOf n s cut c) (placeOf cut (cornersOf n s c)),
-        one-for-each-loop loopsOf n s cut c,
-      )
-
-  before-three : (c : ℕ) → length (below (cubeOffsets loopsOf n s cut) c) ≡ 3 * length (verticesBefore loopsOf n s cut c)
-  unfolding below verticesBefore
-  before-three zero = refl
-  before-three (suc c) =
-      omega (
-        arith,
-        length-append (below (cubeOffsets loopsOf n s cut) c) (cubeOffsets loopsOf n s cut c),
-        length-append (below (verticesOf loopsOf n s cut) c) (verticesOf loopsOf n s cut c),
-        before-three c,
-        cube-three c,
-      )
-
-  -- and for each of the mesh
-  pub mesh-offsets-length : length (meshOffsets loopsOf n s cut) ≡ 3 * length (vertices loopsOf n s cut)
-  unfolding meshOffsets vertices
-  mesh-offsets-length = before-three (cubeCount n)
+-- three for each vertex
+pub mesh-offsets-length : (n : Size) (s : List ℕ) (cut : Cut) → length (meshOffsets loopsOf n s cut) ≡ 3 * length (vertices loopsOf n s cut)
+unfolding meshOffsets
+mesh-offsets-length n s cut =
+    triples-length (map (λ (v : Vertex). placeOf cut (cornersOf n s (v .cube)) (v .mask)) (vertices loopsOf n s cut))
+    ∙ ap (λ (x : ℕ). 3 * x) (length-map (vertices loopsOf n s cut) (λ (v : Vertex). placeOf cut (cornersOf n s (v .cube)) (v .mask)))

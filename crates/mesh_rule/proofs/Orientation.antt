@@ -1,13 +1,15 @@
--- A quad faces from metal to hollow, wherever in their closed cubes its vertices stand. Of two cubes one apart along an axis, all of one is
--- at most all of the other along it, so both terms of the cross product of the diagonals are at least 0 where the lower sample is metal.
--- Where it is hollow, second and fourth have changed places, and that turns the area's sign. Assumes nothing.
-use Prim.Native.Nat.{ℕ, zero, suc, _+_, _*_, _-_, _/_, _%_, _≤_, _<_}
+-- Each quad of the mesh is that of a crossed inner edge, and faces from metal to hollow, wherever in their closed cubes its vertices stand. Of
+-- two cubes one apart along an axis, all of one is at most all of the other along it, so both terms of the cross product of the diagonals are
+-- at least 0 where the lower sample is metal. Where it is hollow, second and fourth have changed places, and that turns the area's sign.
+-- Assumes nothing.
+use Prim.Native.Nat.{ℕ, zero, suc, _+_, _*_, _-_, _≤_, _<_}
 use mathlib.Core.Path.{_≡_, refl, ap, ap₂, sym, _∙_, subst⁻¹}
 use mathlib.Core.Bool.{Bool, true, false, cond}
-use mathlib.Core.List.{List}
+use mathlib.Core.List.{List, List·Memᴰ}
 use native.Mathlib.Nat.{mul-suc}
 use native.Mathlib.Omega.{arith}
 use lib.Dec.{ltb, le→leb}
+use lib.ListN.{length, getD}
 use lib.IntN.{ℤ, pos, negsuc, negℤ, _+ℤ_, _-ℤ_, _*ℤ_, negℤ-negℤ, negℤ-+ℤ, +ℤ-comm, *ℤ-zero, *ℤ-negsuc}
 use lib.Signed.{_≤ℤ_, leZ-yes}
 use borrow.Author.Tests.{le-ltb}
@@ -18,26 +20,28 @@ use Rattle.cube_rule.specs.Decider.{joined, loopsOf}
 use Rattle.cube_rule.specs.Laws.{CubeLaws}
 use Rattle.cube_rule.specs.Links.{Decider}
 use Rattle.cube_rule.proofs.Laws.{cube-laws}
-use Rattle.mesh_rule.specs.Grid.{metal}
-use Rattle.mesh_rule.specs.Mesh.{Quad, quad, turned, vertices, vertexAt, around}
-use Rattle.mesh_rule.specs.Demand.{cubesOf}
-use Rattle.mesh_rule.specs.Orientation.{Place, Step, InCube, first, second, cross, areaOf, toHollow, InOwnCube, Placed, FacesHollow, EdgesFaceHollow, QuadsFaceHollow}
+use Rattle.mesh_rule.specs.Grid.{metal, inner, crossedFrom}
+use Rattle.mesh_rule.specs.Mesh.{Quad, quad, turned, flat, around, quads}
+use Rattle.mesh_rule.specs.Layers.{vertexAt}
+use Rattle.mesh_rule.specs.Orientation.{next, place, twiceArea, FacesHollow, QuadOf}
+use Rattle.mesh_rule.proofs.Example.{size, samples, the-vertices}
+use Rattle.mesh_rule.proofs.Example.{cut as cutAt100}
 use Rattle.mesh_rule.proofs.Inner.{OneLower, Round, map-round, four-cubes, inner-facts, crossed-round}
 use Rattle.mesh_rule.proofs.Numbers.{vertex-at}
-use Rattle.mesh_rule.proofs.Reading.{In, in-cube}
-use Rattle.mesh_rule.proofs.Quads.{edge-of-quad}
+use Rattle.mesh_rule.proofs.Reading.{In, cubes, in-cube}
+use Rattle.mesh_rule.proofs.Quads.{quad-numbers, edge-of-quad, quad-holds}
 
--- ---- 01's block, where vertex c is that of cube c, with each vertex in the middle of its cube: each of the six quads has the area of one
--- square of the grid, and twice that is 8 in squares of half a step
+-- ---- 01's block with each vertex in the middle of its cube: each of the six quads has the area of one square of the grid, and twice that is
+-- 8 in squares of half a step
 
-abbrev middle : ℕ → Place
-middle c = record { x = 2 * (c % 2) + 1; y = 2 * (c / 2 % 2) + 1; z = 2 * (c / 2 / 2) + 1 }
+abbrev area : Axis → Quad → ℤ
+area a q = twiceArea loopsOf (size 3) samples cutAt100 2 (λ v b. 1) a q
 
 pub one-square-each :
-    (toHollow false (areaOf X middle (quad 0 4 6 2)) ≡ pos 8) × (toHollow true (areaOf X middle (quad 1 3 7 5)) ≡ pos 8)
-    × (toHollow false (areaOf Y middle (quad 0 1 5 4)) ≡ pos 8) × (toHollow true (areaOf Y middle (quad 2 6 7 3)) ≡ pos 8)
-    × (toHollow false (areaOf Z middle (quad 0 2 3 1)) ≡ pos 8) × (toHollow true (areaOf Z middle (quad 4 5 7 6)) ≡ pos 8)
-one-square-each = (refl, refl, refl, refl, refl, refl)
+    (negℤ (area X (quad 0 4 6 2)) ≡ pos 8) × (area X (quad 1 3 7 5) ≡ pos 8)
+    × (negℤ (area Y (quad 0 1 5 4)) ≡ pos 8) × (area Y (quad 2 6 7 3) ≡ pos 8)
+    × (negℤ (area Z (quad 0 2 3 1)) ≡ pos 8) × (area Z (quad 4 5 7 6) ≡ pos 8)
+one-square-each = rw the-vertices (refl, refl, refl, refl, refl, refl)
 
 -- ---- second and fourth change places: the area's sign turns
 
@@ -53,15 +57,13 @@ difference-neg m k = negℤ-+ℤ m (negℤ k) ∙ ap (λ (z : ℤ). negℤ m +�
 turned-term : (m k l : ℤ) → negℤ (m *ℤ (k -ℤ l)) ≡ m *ℤ (l -ℤ k)
 turned-term m k l = sym (product-neg m (k -ℤ l)) ∙ ap (λ (z : ℤ). m *ℤ z) (difference-neg k l)
 
+-- the cross product of (u,v) and (u′,v′)
+abbrev cross : ℤ → ℤ → ℤ → ℤ → ℤ
+cross u v u′ v′ = u *ℤ v′ -ℤ v *ℤ u′
+
 exchange : (a b u u′ v v′ : ℤ) → negℤ (cross a b (u -ℤ u′) (v -ℤ v′)) ≡ cross a b (u′ -ℤ u) (v′ -ℤ v)
 exchange a b u u′ v v′ =
     negℤ-+ℤ (a *ℤ (v -ℤ v′)) (negℤ (b *ℤ (u -ℤ u′))) ∙ ap₂ (λ (x y : ℤ). x -ℤ y) (turned-term a v v′) (turned-term b u u′)
-
-turned-area : (a : Axis) (place : ℕ → Place) (b : Bool) (q : Quad) → toHollow b (areaOf a place (turned b q)) ≡ areaOf a place q
-turned-area a place true q = refl
-turned-area a place false q =
-    exchange (first a (place (q .v2)) -ℤ first a (place (q .v0))) (second a (place (q .v2)) -ℤ second a (place (q .v0)))
-    (first a (place (q .v1))) (first a (place (q .v3))) (second a (place (q .v1))) (second a (place (q .v3)))
 
 -- ---- the one inequality, over the two coordinates u and v across the edge
 
@@ -96,79 +98,74 @@ inequality {u0} {u1} {u2} {u3} {v0} {v1} {v2} {v3} hu hv hu′ hv′ =
 -- ---- the three axes
 
 -- cubes one apart share a plane
-apart : (d c p q : ℕ) → 0 < c → Step d (c - 1) p → Step d c q → p ≤ q
-apart d c p q h low high = omega (arith, low .1, high .0, sym (mul-suc d (c - 1)) ∙ ap (λ (x : ℕ). d * x) (back c h))
+apart : (d c x y o o′ : ℕ) → 0 < c → x ≡ c - 1 → y ≡ c → o ≤ d → d * x + o ≤ d * y + o′
+apart d c x y o o′ h hx hy ho =
+    omega (arith, ap (λ (x : ℕ). d * x) hx, ap (λ (y : ℕ). d * y) hy, sym (mul-suc d (c - 1)) ∙ ap (λ (x : ℕ). d * x) (back c h))
   where
     back : (c : ℕ) → 0 < c → suc (c - 1) ≡ c
     back c h = omega arith
 
-module _ (loopsOf : Cut → List ℕ → List ℕ) (n : Size) (s : List ℕ) (cut : Cut) (d : ℕ) (place : ℕ → Place) where
-  -- the four places lie in the cubes of 01's table
+module _ (loopsOf : Cut → List ℕ → List ℕ) (n : Size) (s : List ℕ) (cut : Cut) (d : ℕ) (offset : ℕ → Axis → ℕ) where
+  abbrev at : ℕ → Axis → ℤ
+  at v b = place loopsOf n s cut d offset v b
+
+  turned-area : (a : Axis) (b : Bool) (q : Quad)
+      → cond b (twiceArea loopsOf n s cut d offset a (turned b q)) (negℤ (twiceArea loopsOf n s cut d offset a (turned b q))) ≡ twiceArea loopsOf n s cut d offset a q
+  turned-area a true q = refl
+  turned-area a false q =
+      exchange (at (q .v2) (next a) -ℤ at (q .v0) (next a)) (at (q .v2) (next (next a)) -ℤ at (q .v0) (next (next a)))
+      (at (q .v1) (next a)) (at (q .v3) (next a)) (at (q .v1) (next (next a))) (at (q .v3) (next (next a)))
+
+  -- the four vertices are in the cubes of 01's table
   abbrev Around : Axis → ℕ → ℕ → ℕ → Type 0
-  Around a i j k = Round (λ x y z e. InCube d x y z (place (vertexAt loopsOf n s cut x y z e))) a i j k
+  Around a i j k = Round (λ x y z e. In n (cubes loopsOf n s cut) (vertexAt loopsOf n s cut x y z e) x y z) a i j k
 
-  around-area : (a : Axis) (i j k : ℕ) → OneLower a i j k → Around a i j k → pos 0 ≤ℤ areaOf a place (around loopsOf n s cut a i j k)
-  around-area X i j k h r =
-      inequality (apart d j _ _ (h .0) (r .0 .y-in) (r .2 .y-in)) (apart d k _ _ (h .1) (r .0 .z-in) (r .2 .z-in))
-      (apart d j _ _ (h .0) (r .3 .y-in) (r .1 .y-in)) (apart d k _ _ (h .1) (r .1 .z-in) (r .3 .z-in))
-  around-area Y i j k h r =
-      inequality (apart d k _ _ (h .1) (r .0 .z-in) (r .2 .z-in)) (apart d i _ _ (h .0) (r .0 .x-in) (r .2 .x-in))
-      (apart d k _ _ (h .1) (r .3 .z-in) (r .1 .z-in)) (apart d i _ _ (h .0) (r .1 .x-in) (r .3 .x-in))
-  around-area Z i j k h r =
-      inequality (apart d i _ _ (h .0) (r .0 .x-in) (r .2 .x-in)) (apart d j _ _ (h .1) (r .0 .y-in) (r .2 .y-in))
-      (apart d i _ _ (h .0) (r .3 .x-in) (r .1 .x-in)) (apart d j _ _ (h .1) (r .1 .y-in) (r .3 .y-in))
-
-  -- ---- each vertex of the quad of an edge stands in the cube that 01's table gives it
-
-  abbrev Own : ℕ → Type 0
-  Own v = InOwnCube loopsOf n s cut d place v
-
-  -- before the turn
-  unturned : (b : Bool) (q : Quad) → Placed loopsOf n s cut d place (turned b q) → Placed loopsOf n s cut d place q
-  unturned true q p = p
-  unturned false q p = (p .0, p .3, p .2, p .1)
-
-  own-cube : (v x y z : ℕ) → In n (cubesOf (vertices loopsOf n s cut)) v x y z → Own v → InCube d x y z (place v)
-  own-cube v x y z at p =
-      record { x-in = rw (at .at-x) at (p .x-in); y-in = rw (at .at-y) at (p .y-in); z-in = rw (at .at-z) at (p .z-in) }
-
-  by-table : (a : Axis) (i j k : ℕ) → Round (λ x y z e. In n (cubesOf (vertices loopsOf n s cut)) (vertexAt loopsOf n s cut x y z e) x y z) a i j k
-      → Placed loopsOf n s cut d place (around loopsOf n s cut a i j k) → Around a i j k
-  by-table X i j k r p = (own-cube _ _ _ _ (r .0) (p .0), own-cube _ _ _ _ (r .1) (p .1), own-cube _ _ _ _ (r .2) (p .2), own-cube _ _ _ _ (r .3) (p .3))
-  by-table Y i j k r p = (own-cube _ _ _ _ (r .0) (p .0), own-cube _ _ _ _ (r .1) (p .1), own-cube _ _ _ _ (r .2) (p .2), own-cube _ _ _ _ (r .3) (p .3))
-  by-table Z i j k r p = (own-cube _ _ _ _ (r .0) (p .0), own-cube _ _ _ _ (r .1) (p .1), own-cube _ _ _ _ (r .2) (p .2), own-cube _ _ _ _ (r .3) (p .3))
+  around-area : ((v : ℕ) (b : Axis) → offset v b ≤ d) → (a : Axis) (i j k : ℕ) → OneLower a i j k → Around a i j k
+      → pos 0 ≤ℤ twiceArea loopsOf n s cut d offset a (around loopsOf n s cut a i j k)
+  around-area w X i j k h r =
+      inequality (apart d j _ _ _ _ (h .0) (r .0 .at-y) (r .2 .at-y) (w _ Y)) (apart d k _ _ _ _ (h .1) (r .0 .at-z) (r .2 .at-z) (w _ Z))
+      (apart d j _ _ _ _ (h .0) (r .3 .at-y) (r .1 .at-y) (w _ Y)) (apart d k _ _ _ _ (h .1) (r .1 .at-z) (r .3 .at-z) (w _ Z))
+  around-area w Y i j k h r =
+      inequality (apart d k _ _ _ _ (h .1) (r .0 .at-z) (r .2 .at-z) (w _ Z)) (apart d i _ _ _ _ (h .0) (r .0 .at-x) (r .2 .at-x) (w _ X))
+      (apart d k _ _ _ _ (h .1) (r .3 .at-z) (r .1 .at-z) (w _ Z)) (apart d i _ _ _ _ (h .0) (r .1 .at-x) (r .3 .at-x) (w _ X))
+  around-area w Z i j k h r =
+      inequality (apart d i _ _ _ _ (h .0) (r .0 .at-x) (r .2 .at-x) (w _ X)) (apart d j _ _ _ _ (h .1) (r .0 .at-y) (r .2 .at-y) (w _ Y))
+      (apart d i _ _ _ _ (h .0) (r .3 .at-x) (r .1 .at-x) (w _ X)) (apart d j _ _ _ _ (h .1) (r .1 .at-y) (r .3 .at-y) (w _ Y))
 
 -- ---- of any loops that keep the cube's laws
 
-pub faces-hollow : (D : Decider) {loopsOf : Cut → List ℕ → List ℕ} (laws : CubeLaws D loopsOf) → EdgesFaceHollow loopsOf
-faces-hollow D {loopsOf} laws n s cut a i j k h x d place p =
-    let f = inner-facts n a i j k h in
-    let q = around loopsOf n s cut a i j k in
-    let there = map-round (λ x y z e c. in-cube loopsOf n s cut (vertexAt loopsOf n s cut x y z e) x y z e (c .cube-in) (vertex-at loopsOf n s cut laws x y z e c)) a i j k
-    (crossed-round n s cut a i j k f x) in
-    let placed = by-table loopsOf n s cut d place a i j k there (unturned loopsOf n s cut d place (metal n s cut i j k) q p) in
-    subst⁻¹ (λ (z : ℤ). pos 0 ≤ℤ z) (turned-area a place (metal n s cut i j k) q)
-    (around-area loopsOf n s cut d place a i j k (four-cubes n a i j k f .0) placed)
+module _ {D : Decider} {loopsOf : Cut → List ℕ → List ℕ} (laws : CubeLaws D loopsOf) (n : Size) (s : List ℕ) (cut : Cut) where
+  -- the quad of each crossed inner edge
+  pub faces-hollow : (a : Axis) (i j k : ℕ) → inner n a i j k ≡ true → crossedFrom n s cut a i j k ≡ true
+      → FacesHollow loopsOf n s cut a i j k (turned (metal n s cut i j k) (around loopsOf n s cut a i j k))
+  faces-hollow a i j k h x d offset w =
+      let f = inner-facts n a i j k h in
+      let there = map-round (λ x y z e c. in-cube loopsOf n s cut (vertexAt loopsOf n s cut x y z e) x y z e (c .cube-in) (vertex-at loopsOf n s cut laws x y z e c)) a i j k
+      (crossed-round n s cut a i j k f x) in
+      subst⁻¹ (λ (z : ℤ). pos 0 ≤ℤ z) (turned-area loopsOf n s cut d offset a (metal n s cut i j k) (around loopsOf n s cut a i j k))
+      (around-area loopsOf n s cut d offset w a i j k (four-cubes n a i j k f .0) there)
 
-pub all-face-hollow : (D : Decider) {loopsOf : Cut → List ℕ → List ℕ} (laws : CubeLaws D loopsOf) → QuadsFaceHollow loopsOf
-all-face-hollow D {loopsOf} laws n s cut q m =
-    let e = edge-of-quad loopsOf n s cut m in
-    record {
-      axis = e .axis;
-      i = e .i;
-      j = e .j;
-      k = e .k;
-      is-inner = e .is-inner;
-      is-crossed = e .is-crossed;
-      is = e .is;
-      faces = subst⁻¹ (λ (q : Quad). FacesHollow loopsOf n s cut (e .axis) (e .i) (e .j) (e .k) q) (e .is)
-          (faces-hollow D laws n s cut (e .axis) (e .i) (e .j) (e .k) (e .is-inner) (e .is-crossed));
-    }
+  -- and so each quad of the mesh
+  pub quad-of : {q : Quad} → List·Memᴰ q (quads loopsOf n s cut) → QuadOf loopsOf n s cut q
+  quad-of {q} m =
+      let e = edge-of-quad loopsOf n s cut m in
+      record {
+        axis = e .axis;
+        i = e .i;
+        j = e .j;
+        k = e .k;
+        is-inner = e .is-inner;
+        is-crossed = e .is-crossed;
+        all-hold = quad-holds loopsOf n s cut laws e;
+        faces = subst⁻¹ (λ (q : Quad). FacesHollow loopsOf n s cut (e .axis) (e .i) (e .j) (e .k) q) (e .is)
+            (faces-hollow (e .axis) (e .i) (e .j) (e .k) (e .is-inner) (e .is-crossed));
+      }
 
 -- ---- of 01's loops
 
-pub edges-face-hollow : EdgesFaceHollow loopsOf
-edges-face-hollow = faces-hollow joined (cube-laws joined)
-
-pub quads-face-hollow : QuadsFaceHollow loopsOf
-quads-face-hollow = all-face-hollow joined (cube-laws joined)
+-- the quad m, by the four numbers that the buffer holds of it
+pub each-quad : (n : Size) (s : List ℕ) (cut : Cut) (m : ℕ) → m < length (quads loopsOf n s cut)
+    → QuadOf loopsOf n s cut
+    (quad (getD (flat (quads loopsOf n s cut)) (4 * m) 0) (getD (flat (quads loopsOf n s cut)) (4 * m + 1) 0)
+    (getD (flat (quads loopsOf n s cut)) (4 * m + 2) 0) (getD (flat (quads loopsOf n s cut)) (4 * m + 3) 0))
+each-quad n s cut m h = quad-of (cube-laws joined) n s cut (quad-numbers (quads loopsOf n s cut) m h)

@@ -1,13 +1,14 @@
 -- "Each crossed inner edge gives one quad": the quads are those of the crossed inner edges and no others, as many as there are such edges,
 -- and each of their four numbers is that of the one vertex of its cube whose mask holds the edge.
 -- Assumes nothing.
-use Prim.Native.Nat.{ℕ, _+_, _<_}
-use mathlib.Core.Path.{_≡_, refl}
+use Prim.Native.Nat.{ℕ, zero, suc, _+_, _*_, _<_}
+use mathlib.Core.Path.{_≡_, refl, ap, _∙_, subst⁻¹}
 use mathlib.Core.Logic.{⊎-elim}
 use mathlib.Core.Bool.{Bool, true, false, cond, _&&_}
-use mathlib.Core.List.{List, [], _∷_, _++_, List·Memᴰ, List·Memᴰ·head, List·Memᴰ·not-nil, List·Memᴰ·append-cases, List·Memᴰ·eq-of-singleton, Memᴰ·append-left, Memᴰ·append-right}
+use mathlib.Core.List.{List, [], _∷_, _++_, List·Memᴰ, List·Memᴰ·head, List·Memᴰ·tail, List·Memᴰ·not-nil, List·Memᴰ·append-cases, List·Memᴰ·eq-of-singleton, Memᴰ·append-left, Memᴰ·append-right}
+use native.Mathlib.Nat.{not-suc-le-zero, le-of-suc-le-suc}
 use native.Mathlib.Omega.{arith}
-use lib.ListN.{length, length-append}
+use lib.ListN.{length, getD, length-append}
 use Rattle.laws.specs.Bits.{bit}
 use Rattle.laws.proofs.Below.{mem-below, mem-of-below}
 use Rattle.laws.specs.Counting.{count}
@@ -19,9 +20,10 @@ use Rattle.block.specs.Numbering.{Axis, X, Y, Z, sampleIndex, sampleCount, cube
 use Rattle.cube_rule.specs.Laws.{CubeLaws}
 use Rattle.cube_rule.specs.Links.{Decider}
 use Rattle.mesh_rule.specs.Grid.{crossedInner, metal, inner, crossedFrom}
-use Rattle.mesh_rule.specs.Mesh.{Quad, turned, flat, vertices, vertexAt, around, quadAt, quadsBefore, quads}
+use Rattle.mesh_rule.specs.Mesh.{Quad, quad, turned, flat, vertices, Holder, AllHold, around, quadAt, quadsBefore, quads}
+use Rattle.mesh_rule.specs.Layers.{vertexAt}
 use Rattle.mesh_rule.proofs.Inner.{both, inner-facts, inner-sample, Round, map-round, crossed-round}
-use Rattle.mesh_rule.proofs.Numbers.{Holder, vertex-at}
+use Rattle.mesh_rule.proofs.Numbers.{vertex-at}
 
 -- equal buffers hold equal quads
 pub flat-injective : (p q : List Quad) → flat p ≡ flat q → p ≡ q
@@ -36,14 +38,20 @@ flat-injective (a ∷ p) (b ∷ q) h =
     let e3 : a .v3 ≡ b .v3 = cc in
     λ i. record { v0 = e0 i; v1 = e1 i; v2 = e2 i; v3 = e3 i } ∷ flat-injective p q e i
 
--- what holds of each of the four numbers
-abbrev pub Each : (ℕ → Type 0) → Quad → Type 0
-Each P q = P (q .v0) × P (q .v1) × P (q .v2) × P (q .v3)
+-- the quad m by the four numbers that the buffer holds of it
+pub quad-numbers : (qs : List Quad) (m : ℕ) → m < length qs
+    → List·Memᴰ (quad (getD (flat qs) (4 * m) 0) (getD (flat qs) (4 * m + 1) 0) (getD (flat qs) (4 * m + 2) 0) (getD (flat qs) (4 * m + 3) 0)) qs
+quad-numbers [] m h = absurd (not-suc-le-zero h)
+quad-numbers (q ∷ qs) zero h = List·Memᴰ·head refl
+quad-numbers (q ∷ qs) (suc m) h =
+    let four : (r : ℕ) → 4 * suc m + r ≡ suc (suc (suc (suc (4 * m + r)))) = λ r. omega arith in
+    let none : 4 * suc m ≡ suc (suc (suc (suc (4 * m)))) = omega arith in
+    rw (four 1, four 2, four 3, none) (List·Memᴰ·tail (quad-numbers qs m (le-of-suc-le-suc h)))
 
--- the order does not matter for all being below v
-below-turned : (v : ℕ) (b : Bool) (q : Quad) → Each (λ x. x < v) q → Each (λ x. x < v) (turned b q)
-below-turned v true q h = h
-below-turned v false q h = omega arith
+-- turned twice
+turned-back : (b : Bool) (q : Quad) → turned b (turned b q) ≡ q
+turned-back true q = refl
+turned-back false q = refl
 
 one-or-none : {A : Type 0} (b : Bool) (x : A) → length (cond b (x ∷ []) []) ≡ bit b
 one-or-none true x = refl
@@ -124,29 +132,36 @@ module _ (loopsOf : Cut → List ℕ → List ℕ) (n : Size) (s : List ℕ) (cu
 
   -- ---- of which vertices
 
-  -- the quad round an edge is made by 01's table
-  each-around : (P : ℕ → Type 0) (a : Axis) (i j k : ℕ) → Round (λ x y z e. P (vertexAt loopsOf n s cut x y z e)) a i j k
-      → Each P (around loopsOf n s cut a i j k)
-  each-around P X i j k r = r
-  each-around P Y i j k r = r
-  each-around P Z i j k r = r
-
-  -- v is the number of a vertex
-  abbrev pub IsVertex : ℕ → Type 0
-  IsVertex v = v < length (vertices loopsOf n s cut)
-
   module _ {D : Decider} (laws : CubeLaws D loopsOf) where
-    -- the four numbers, by 01's table: each is that of a vertex of its cube, and the mask of that vertex holds the edge
+    -- by 01's table: each is that of a vertex of its cube, and the mask of that vertex holds the edge
     pub round-holds : (a : Axis) (i j k : ℕ) → inner n a i j k ≡ true → crossedFrom n s cut a i j k ≡ true
-        → Round (λ x y z e. Holder loopsOf n s cut (vertexAt loopsOf n s cut x y z e) (cubeNumber n x y z) e) a i j k
-    round-holds a i j k h x =
-        map-round (vertex-at loopsOf n s cut laws) a i j k (crossed-round n s cut a i j k (inner-facts n a i j k h) x)
+        → AllHold loopsOf n s cut a i j k (around loopsOf n s cut a i j k)
+    round-holds a i j k h x = all-hold a i j k (map-round (vertex-at loopsOf n s cut laws) a i j k (crossed-round n s cut a i j k (inner-facts n a i j k h) x))
+      where
+        all-hold : (a : Axis) (i j k : ℕ) → Round (λ x y z e. Holder loopsOf n s cut (vertexAt loopsOf n s cut x y z e) (cubeNumber n x y z) e) a i j k
+            → AllHold loopsOf n s cut a i j k (around loopsOf n s cut a i j k)
+        all-hold X i j k r = r
+        all-hold Y i j k r = r
+        all-hold Z i j k r = r
 
-    edge-inside : (a : Axis) (i j k : ℕ) → inner n a i j k ≡ true → crossedFrom n s cut a i j k ≡ true → Each IsVertex (quadOf a i j k)
-    edge-inside a i j k h x =
-        below-turned (length (vertices loopsOf n s cut)) (metal n s cut i j k) (around loopsOf n s cut a i j k)
-        (each-around IsVertex a i j k (map-round (λ x y z e v. v .is-vertex) a i j k (round-holds a i j k h x)))
+    pub quad-holds : {q : Quad} (e : FromEdge q) → AllHold loopsOf n s cut (e .axis) (e .i) (e .j) (e .k) (turned (metal n s cut (e .i) (e .j) (e .k)) q)
+    quad-holds {q} e =
+        subst⁻¹ (AllHold loopsOf n s cut (e .axis) (e .i) (e .j) (e .k))
+        (ap (turned (metal n s cut (e .i) (e .j) (e .k))) (e .is) ∙ turned-back (metal n s cut (e .i) (e .j) (e .k)) (around loopsOf n s cut (e .axis) (e .i) (e .j) (e .k)))
+        (round-holds (e .axis) (e .i) (e .j) (e .k) (e .is-inner) (e .is-crossed))
 
     -- so every number of every quad is below the vertex count
-    pub quad-inside : {q : Quad} → List·Memᴰ q (quads loopsOf n s cut) → Each IsVertex q
-    quad-inside m = let o = edge-of-quad m in rw (o .is) (edge-inside (o .axis) (o .i) (o .j) (o .k) (o .is-inner) (o .is-crossed))
+    pub quad-inside : {q : Quad} → List·Memᴰ q (quads loopsOf n s cut)
+        → (q .v0 < length (vertices loopsOf n s cut)) × (q .v1 < length (vertices loopsOf n s cut)) × (q .v2 < length (vertices loopsOf n s cut)) × (q .v3 < length (vertices loopsOf n s cut))
+    quad-inside {q} m = let e = edge-of-quad m in back (metal n s cut (e .i) (e .j) (e .k)) (inside (e .axis) (e .i) (e .j) (e .k) _ (quad-holds e))
+      where
+        inside : (a : Axis) (i j k : ℕ) (q : Quad) → AllHold loopsOf n s cut a i j k q
+            → (q .v0 < length (vertices loopsOf n s cut)) × (q .v1 < length (vertices loopsOf n s cut)) × (q .v2 < length (vertices loopsOf n s cut)) × (q .v3 < length (vertices loopsOf n s cut))
+        inside X i j k q r = (r .0 .is-vertex, r .1 .is-vertex, r .2 .is-vertex, r .3 .is-vertex)
+        inside Y i j k q r = (r .0 .is-vertex, r .1 .is-vertex, r .2 .is-vertex, r .3 .is-vertex)
+        inside Z i j k q r = (r .0 .is-vertex, r .1 .is-vertex, r .2 .is-vertex, r .3 .is-vertex)
+
+        back : (b : Bool) → (turned b q .v0 < length (vertices loopsOf n s cut)) × (turned b q .v1 < length (vertices loopsOf n s cut)) × (turned b q .v2 < length (vertices loopsOf n s cut)) × (turned b q .v3 < length (vertices loopsOf n s cut))
+            → (q .v0 < length (vertices loopsOf n s cut)) × (q .v1 < length (vertices loopsOf n s cut)) × (q .v2 < length (vertices loopsOf n s cut)) × (q .v3 < length (vertices loopsOf n s cut))
+        back true r = r
+        back false r = omega arith

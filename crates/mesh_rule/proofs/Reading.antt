@@ -1,12 +1,11 @@
 -- From the cube of each vertex, a quad tells its edge and the sign of the edge's lower sample: `read` of the quad of an edge is the edge.
 -- Assumes nothing.
-use Prim.Native.Nat.{ℕ, _-_, _/_, _%_, _<_}
-use mathlib.Core.Path.{_≡_, refl, _∙_}
+use Prim.Native.Nat.{ℕ, _-_, _<_}
+use mathlib.Core.Path.{_≡_, refl}
 use mathlib.Core.Bool.{Bool, true, false, cond}
 use mathlib.Core.List.{List}
 use native.Mathlib.Omega.{arith}
 use lib.Dec.{eqb}
-use lib.ListN.{getD, List·getD-map}
 use borrow.Author.Tests.{eq-eqb, ne-eqb}
 use Rattle.laws.proofs.Index.{index-x, index-y, index-z}
 use Rattle.block.specs.declared.Cut.{Cut}
@@ -15,10 +14,11 @@ use Rattle.block.specs.Numbering.{Axis, X, Y, Z, cubeNumber}
 use Rattle.cube_rule.specs.Laws.{CubeLaws}
 use Rattle.cube_rule.specs.Links.{Decider}
 use Rattle.mesh_rule.specs.Grid.{crossedFrom}
-use Rattle.mesh_rule.specs.Mesh.{Vertex, Quad, turned, vertices, vertexAt, around}
-use Rattle.mesh_rule.specs.Demand.{cubesOf}
+use Rattle.mesh_rule.specs.Mesh.{Quad, turned, vertexOf, Holder, around}
+use Rattle.mesh_rule.specs.Layers.{vertexAt}
+use Rattle.mesh_rule.specs.Orientation.{coordinate}
 use Rattle.mesh_rule.proofs.Inner.{Inner, CubeIn, OneLower, four-cubes, Round, map-round, crossed-round}
-use Rattle.mesh_rule.proofs.Numbers.{noVertex, Holder, vertex-at}
+use Rattle.mesh_rule.proofs.Numbers.{vertex-at}
 
 -- what a quad tells: an edge along an axis by its lower sample, and a sign for that sample
 pub record Told : Type 0 where
@@ -31,16 +31,16 @@ pub record Told : Type 0 where
 abbrev pub told : Axis → ℕ → ℕ → ℕ → Bool → Told
 told a i j k b = record { axis = a; i = i; j = j; k = k; sign = b }
 
-module _ (n : Size) (cs : List ℕ) where
+module _ (n : Size) (cube : ℕ → ℕ) where
   -- the coordinates of the cube of vertex v
   abbrev cx : ℕ → ℕ
-  cx v = getD cs v 0 % (n .nx - 1)
+  cx v = coordinate n X (cube v)
 
   abbrev cy : ℕ → ℕ
-  cy v = getD cs v 0 / (n .nx - 1) % (n .ny - 1)
+  cy v = coordinate n Y (cube v)
 
   abbrev cz : ℕ → ℕ
-  cz v = getD cs v 0 / (n .nx - 1) / (n .ny - 1)
+  cz v = coordinate n Z (cube v)
 
   -- First and third cube agree in the axis' coordinate alone. Second and third agree in the coordinate of the next axis, x after z, if the
   -- lower sample is positive.
@@ -68,8 +68,9 @@ less : (a : ℕ) → 0 < a → eqb (a - 1) a ≡ false
 less a h = ne-eqb (a - 1) a (omega arith)
 
 module _ (loopsOf : Cut → List ℕ → List ℕ) (n : Size) (s : List ℕ) (cut : Cut) where
-  abbrev cubes : List ℕ
-  cubes = cubesOf (vertices loopsOf n s cut)
+  -- the cube of each vertex
+  abbrev pub cubes : ℕ → ℕ
+  cubes v = vertexOf loopsOf n s cut v .cube
 
   -- a quad whose vertices are in the cubes of 01's table tells its edge
   read-turned : (a : Axis) (i j k : ℕ) (b : Bool) → OneLower a i j k → Round (λ x y z e. In n cubes (vertexAt loopsOf n s cut x y z e) x y z) a i j k
@@ -83,7 +84,7 @@ module _ (loopsOf : Cut → List ℕ → List ℕ) (n : Size) (s : List ℕ) (cu
 
   pub in-cube : (v x y z e : ℕ) → CubeIn n x y z → Holder loopsOf n s cut v (cubeNumber n x y z) e → In n cubes v x y z
   in-cube v x y z e c h =
-      let is : getD cubes v 0 ≡ cubeNumber n x y z = List·getD-map (λ (v : Vertex). v .cube) (vertices loopsOf n s cut) v noVertex ∙ h .in-cube in
+      let is = h .in-cube in
       record {
         at-x = rw is (index-x (n .nx - 1) (n .ny - 1) x y z (c .0) (c .1));
         at-y = rw is (index-y (n .nx - 1) (n .ny - 1) x y z (c .0) (c .1));

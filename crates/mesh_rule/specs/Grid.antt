@@ -1,5 +1,5 @@
 -- A block of samples: signs, the corners of its cubes, its edges and which of them are inner and crossed (document 01, "The block and
--- its numbering" and "The mesh"). `n` is the size, `s` the samples. Assumes nothing.
+-- its numbering" and "The mesh"). `n` is the size, `s` the samples.
 use Prim.Native.Nat.{ℕ, _+_, _-_, _/_, _%_, _≤_, _<_}
 use mathlib.Core.Path.{_≡_}
 use mathlib.Core.Bool.{Bool, false, _&&_, _||_}
@@ -25,9 +25,16 @@ cornersAt n s i j k =
     sampleAt n s i j k ∷ sampleAt n s (i + 1) j k ∷ sampleAt n s i (j + 1) k ∷ sampleAt n s (i + 1) (j + 1) k
     ∷ sampleAt n s i j (k + 1) ∷ sampleAt n s (i + 1) j (k + 1) ∷ sampleAt n s i (j + 1) (k + 1) ∷ sampleAt n s (i + 1) (j + 1) (k + 1) ∷ []
 
+-- f of the coordinates of the sample with index p, and of the cube with number c
+abbrev pub atSample : {A : Type 0} → Size → (ℕ → ℕ → ℕ → A) → ℕ → A
+atSample n f p = f (p % n .nx) (p / n .nx % n .ny) (p / n .nx / n .ny)
+
+abbrev pub atCube : {A : Type 0} → Size → (ℕ → ℕ → ℕ → A) → ℕ → A
+atCube n f c = f (c % (n .nx - 1)) (c / (n .nx - 1) % (n .ny - 1)) (c / (n .nx - 1) / (n .ny - 1))
+
 -- the corners of the cube with number c
 unfoldable pub cornersOf : Size → List ℕ → ℕ → List ℕ
-cornersOf n s c = cornersAt n s (c % (n .nx - 1)) (c / (n .nx - 1) % (n .ny - 1)) (c / (n .nx - 1) / (n .ny - 1))
+cornersOf n s c = atCube n (cornersAt n s) c
 
 -- c is neither the first nor the last of n
 abbrev pub between : ℕ → ℕ → Bool
@@ -39,18 +46,27 @@ inner n X i j k = ltb (i + 1) (n .nx) && between (n .ny) j && between (n .nz) k
 inner n Y i j k = between (n .nx) i && ltb (j + 1) (n .ny) && between (n .nz) k
 inner n Z i j k = between (n .nx) i && between (n .ny) j && ltb (k + 1) (n .nz)
 
--- its ends differ in sign
+-- f at the next sample along the axis
+abbrev pub ahead {ℓ} : {A : Type ℓ} → (ℕ → ℕ → ℕ → A) → Axis → ℕ → ℕ → ℕ → A
+ahead f X i j k = f (i + 1) j k
+ahead f Y i j k = f i (j + 1) k
+ahead f Z i j k = f i j (k + 1)
+
+-- the edge's ends differ in sign
 abbrev pub crossedFrom : Size → List ℕ → Cut → Axis → ℕ → ℕ → ℕ → Bool
-crossedFrom n s cut X i j k = differ (metal n s cut i j k) (metal n s cut (i + 1) j k)
-crossedFrom n s cut Y i j k = differ (metal n s cut i j k) (metal n s cut i (j + 1) k)
-crossedFrom n s cut Z i j k = differ (metal n s cut i j k) (metal n s cut i j (k + 1))
+crossedFrom n s cut a i j k = differ (metal n s cut i j k) (ahead (metal n s cut) a i j k)
+
+-- the sample (i,j,k) is a corner of the cube (x,y,z)
+abbrev pub isCorner : ℕ → ℕ → ℕ → ℕ → ℕ → ℕ → Bool
+isCorner x y z i j k = (eqb i x || eqb i (x + 1)) && (eqb j y || eqb j (y + 1)) && (eqb k z || eqb k (z + 1))
+
+-- both ends of the edge along the axis from (i,j,k) are corners of the cube with number c
+abbrev pub hasEdge : Size → Axis → ℕ → ℕ → ℕ → ℕ → Bool
+hasEdge n a i j k c = atCube n (λ x y z. isCorner x y z i j k && ahead (isCorner x y z) a i j k) c
 
 -- the edge along the axis from the sample with the index p is inner, and crossed
-abbrev pub innerFrom : Size → Axis → ℕ → Bool
-innerFrom n a p = inner n a (p % n .nx) (p / n .nx % n .ny) (p / n .nx / n .ny)
-
 abbrev pub crossedInner : Size → List ℕ → Cut → Axis → ℕ → Bool
-crossedInner n s cut a p = innerFrom n a p && crossedFrom n s cut a (p % n .nx) (p / n .nx % n .ny) (p / n .nx / n .ny)
+crossedInner n s cut a p = atSample n (λ i j k. inner n a i j k && crossedFrom n s cut a i j k) p
 
 -- (i,j,k) lies on one of the twelve edges of the box: two of its coordinates are at an end
 abbrev pub atEnd : ℕ → ℕ → Bool
@@ -61,13 +77,8 @@ onBoxEdge n i j k =
     atEnd (n .ny) j && atEnd (n .nz) k || atEnd (n .nx) i && atEnd (n .nz) k || atEnd (n .nx) i && atEnd (n .ny) j
 
 -- (i,j,k) is a sample of the box, off its twelve edges
-pub record OffEdges (n : Size) (i j k : ℕ) : Type 0 where
-  pub x-in : i < n .nx
-  pub y-in : j < n .ny
-  pub z-in : k < n .nz
-  pub off : onBoxEdge n i j k ≡ false
+abbrev pub OffEdges : Size → ℕ → ℕ → ℕ → Type 0
+OffEdges n i j k = (i < n .nx) × (j < n .ny) × (k < n .nz) × (onBoxEdge n i j k ≡ false)
 
-pub record AtLeastThree (n : Size) : Type 0 where
-  pub x-three : 3 ≤ n .nx
-  pub y-three : 3 ≤ n .ny
-  pub z-three : 3 ≤ n .nz
+abbrev pub AtLeastThree : Size → Type 0
+AtLeastThree n = (3 ≤ n .nx) × (3 ≤ n .ny) × (3 ≤ n .nz)

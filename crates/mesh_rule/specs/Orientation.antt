@@ -1,98 +1,56 @@
--- Which way a quad faces (document 01, "The mesh"): from metal to hollow. Places are whole numbers of d-ths of a grid step, for any d, so
--- every rational place is one of them, and a vertex may stand anywhere in its closed cube. Assumes nothing.
-use Prim.Native.Nat.{ℕ, _+_, _*_, _-_, _/_, _%_, _≤_}
+-- What a quad of the mesh is and which way it faces (document 01, "The mesh"): from metal to hollow.
+use Prim.Native.Nat.{ℕ, _+_, _*_, _≤_}
 use mathlib.Core.Path.{_≡_}
-use mathlib.Core.Bool.{Bool, true, false}
-use mathlib.Core.List.{List, List·Memᴰ}
+use mathlib.Core.Bool.{true, cond}
+use mathlib.Core.List.{List}
 use lib.IntN.{ℤ, pos, negℤ, _-ℤ_, _*ℤ_}
-use lib.ListN.{getD}
 use lib.Signed.{_≤ℤ_}
 use Rattle.block.specs.declared.Cut.{Cut}
 use Rattle.block.specs.declared.Size.{Size}
 use Rattle.block.specs.Numbering.{Axis, X, Y, Z}
-use Rattle.mesh_rule.specs.Grid.{metal, inner, crossedFrom}
-use Rattle.mesh_rule.specs.Mesh.{Quad, turned, vertices, around, quads}
-use Rattle.mesh_rule.specs.Demand.{cubesOf}
+use Rattle.mesh_rule.specs.Grid.{atCube, metal, inner, crossedFrom}
+use Rattle.mesh_rule.specs.Mesh.{Quad, turned, vertexOf, AllHold}
 
--- a place, in d-ths of a grid step from the sample (0,0,0)
-pub record Place : Type 0 where
-  pub x : ℕ
-  pub y : ℕ
-  pub z : ℕ
+-- the axis after this one: an axis and the next two are a right-handed frame
+abbrev pub next : Axis → Axis
+next X = Y
+next Y = Z
+next Z = X
 
--- from c grid steps to c + 1, both included
-abbrev pub Step : ℕ → ℕ → ℕ → Type 0
-Step d c p = (d * c ≤ p) × (p ≤ d * c + d)
-
--- the place lies in the closed cube (i,j,k): its offset there is from 0 to 1 along each axis
-pub record InCube (d i j k : ℕ) (p : Place) : Type 0 where
-  pub x-in : Step d i (p .x)
-  pub y-in : Step d j (p .y)
-  pub z-in : Step d k (p .z)
-
--- in the closed cube with number c
-abbrev pub InCubeOf : Size → ℕ → ℕ → Place → Type 0
-InCubeOf n d c p = InCube d (c % (n .nx - 1)) (c / (n .nx - 1) % (n .ny - 1)) (c / (n .nx - 1) / (n .ny - 1)) p
-
--- the two coordinates across an axis, so that axis, first and second are a right-handed frame
-abbrev pub first : Axis → Place → ℤ
-first X p = pos (p .y)
-first Y p = pos (p .z)
-first Z p = pos (p .x)
-
-abbrev pub second : Axis → Place → ℤ
-second X p = pos (p .z)
-second Y p = pos (p .x)
-second Z p = pos (p .y)
-
--- the cross product of (u,v) and (u′,v′)
-abbrev pub cross : ℤ → ℤ → ℤ → ℤ → ℤ
-cross u v u′ v′ = u *ℤ v′ -ℤ v *ℤ u′
-
--- Twice the signed area of the quad p q r s, seen against the axis, in squares of a d-th of a step: the part along the axis of the cross
--- product of its diagonals, from p to r and from q to s.
-abbrev pub twiceArea : Axis → Place → Place → Place → Place → ℤ
-twiceArea a p q r s = cross (first a r -ℤ first a p) (second a r -ℤ second a p) (first a s -ℤ first a q) (second a s -ℤ second a q)
-
--- of a quad whose vertices have places
-abbrev pub areaOf : Axis → (ℕ → Place) → Quad → ℤ
-areaOf a place q = twiceArea a (place (q .v0)) (place (q .v1)) (place (q .v2)) (place (q .v3))
-
--- An area along the axis, taken along the edge from its metal end to its hollow end: as it is if the lower sample is metal, else negated.
-abbrev pub toHollow : Bool → ℤ → ℤ
-toHollow true area = area
-toHollow false area = negℤ area
+-- the coordinate of the cube with number c
+abbrev pub coordinate : Size → Axis → ℕ → ℕ
+coordinate n X c = atCube n (λ x y z. x) c
+coordinate n Y c = atCube n (λ x y z. y) c
+coordinate n Z c = atCube n (λ x y z. z) c
 
 module _ (loopsOf : Cut → List ℕ → List ℕ) (n : Size) (s : List ℕ) (cut : Cut) where
-  -- vertex v has its place in its own closed cube, and so each vertex of a quad
-  abbrev pub InOwnCube : ℕ → (ℕ → Place) → ℕ → Type 0
-  InOwnCube d place v = InCubeOf n d (getD (cubesOf (vertices loopsOf n s cut)) v 0) (place v)
+  -- where vertex v stands along an axis, if `offset v` is its offset in its cube, and the way from u to v; all in d-ths of a grid step
+  abbrev pub place : ℕ → (ℕ → Axis → ℕ) → ℕ → Axis → ℤ
+  place d offset v b = pos (d * coordinate n b (vertexOf loopsOf n s cut v .cube) + offset v b)
 
-  abbrev pub Placed : ℕ → (ℕ → Place) → Quad → Type 0
-  Placed d place q = InOwnCube d place (q .v0) × InOwnCube d place (q .v1) × InOwnCube d place (q .v2) × InOwnCube d place (q .v3)
+  abbrev pub span : ℕ → (ℕ → Axis → ℕ) → ℕ → ℕ → Axis → ℤ
+  span d offset u v b = place d offset v b -ℤ place d offset u b
 
-  -- the quad faces the hollow end of the edge along the axis from (i,j,k), wherever in their cubes its vertices stand
+  -- twice the signed area of the quad, seen against the axis: the part along the axis of the cross product of its diagonals
+  abbrev pub twiceArea : ℕ → (ℕ → Axis → ℕ) → Axis → Quad → ℤ
+  twiceArea d offset a q =
+      span d offset (q .v0) (q .v2) (next a) *ℤ span d offset (q .v1) (q .v3) (next (next a))
+      -ℤ span d offset (q .v0) (q .v2) (next (next a)) *ℤ span d offset (q .v1) (q .v3) (next a)
+
+  -- the quad faces the hollow end of the edge along the axis from (i,j,k), wherever in their closed cubes its vertices stand: the area along the
+  -- edge from its metal end to its hollow end is never negative
   abbrev pub FacesHollow : Axis → ℕ → ℕ → ℕ → Quad → Type 0
   FacesHollow a i j k q =
-      (d : ℕ) (place : ℕ → Place) → Placed d place q → pos 0 ≤ℤ toHollow (metal n s cut i j k) (areaOf a place q)
+      (d : ℕ) (offset : ℕ → Axis → ℕ) → ((v : ℕ) (b : Axis) → offset v b ≤ d)
+      → pos 0 ≤ℤ cond (metal n s cut i j k) (twiceArea d offset a q) (negℤ (twiceArea d offset a q))
 
-  -- q is the quad of a crossed inner edge, and faces the hollow end of that edge
-  pub record Facing (q : Quad) : Type 0 where
+  -- q is the quad of a crossed inner edge: its four vertices, in the table's order if the lower sample is positive, and which way it faces
+  pub record QuadOf (q : Quad) : Type 0 where
     pub axis : Axis
     pub i : ℕ
     pub j : ℕ
     pub k : ℕ
     pub is-inner : inner n axis i j k ≡ true
     pub is-crossed : crossedFrom n s cut axis i j k ≡ true
-    pub is : q ≡ turned (metal n s cut i j k) (around loopsOf n s cut axis i j k)
+    pub all-hold : AllHold loopsOf n s cut axis i j k (turned (metal n s cut i j k) q)
     pub faces : FacesHollow axis i j k q
-
--- the quad of each crossed inner edge faces the edge's hollow end
-abbrev pub EdgesFaceHollow : (Cut → List ℕ → List ℕ) → Type 0
-EdgesFaceHollow loopsOf =
-    (n : Size) (s : List ℕ) (cut : Cut) (a : Axis) (i j k : ℕ) → inner n a i j k ≡ true → crossedFrom n s cut a i j k ≡ true
-    → FacesHollow loopsOf n s cut a i j k (turned (metal n s cut i j k) (around loopsOf n s cut a i j k))
-
--- and so each quad of the mesh
-abbrev pub QuadsFaceHollow : (Cut → List ℕ → List ℕ) → Type 0
-QuadsFaceHollow loopsOf = (n : Size) (s : List ℕ) (cut : Cut) (q : Quad) → List·Memᴰ q (quads loopsOf n s cut) → Facing loopsOf n s cut q

@@ -28,8 +28,8 @@ use Rattle.cube_rule.specs.Links.{Decider}
 use Rattle.block.specs.Rows.{lowest}
 use Rattle.cube_rule.specs.Rule.{holders, firstHolder}
 use Rattle.mesh_rule.specs.Grid.{cornersAt, cornersOf}
-use Rattle.mesh_rule.specs.Layers.{rowCube}
-use Rattle.mesh_rule.specs.Mesh.{cubeLoops, verticesOf, verticesBefore, vertexNumber, vertexAt}
+use Rattle.mesh_rule.specs.Layers.{rowCube, vertexAt}
+use Rattle.mesh_rule.specs.Mesh.{cubeLoops, verticesOf, verticesBefore, vertexNumber}
 use Rattle.mesh_rule.proofs.Holders.{first-lt}
 use Rattle.mesh_rule.proofs.Inner.{CrossedIn}
 use Rattle.mesh_rule.proofs.Numbers.{one-for-each-loop, corners-of-number}

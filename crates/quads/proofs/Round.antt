@@ -10,7 +10,8 @@ use Rattle.block.specs.declared.Cut.{Cut}
 use Rattle.block.specs.declared.Size.{Size}
 use Rattle.block.specs.Numbering.{Axis, X, Y, Z}
 use Rattle.mesh_rule.specs.Grid.{metal, crossedFrom}
-use Rattle.mesh_rule.specs.Mesh.{Quad, quad, turned, flat, vertexAt, around, quadAt}
+use Rattle.mesh_rule.specs.Mesh.{Quad, quad, turned, flat, around, quadAt}
+use Rattle.mesh_rule.specs.Layers.{vertexAt}
 use Rattle.mesh_rule.proofs.Inner.{Inner, CrossedIn, crossed-round}
 use Rattle.quads.specs.declared.Along.{Along}
 use Rattle.quads.specs.declared.Along.the-variants.{AxisX, AxisY, AxisZ}

@@ -12,9 +12,8 @@ use Rattle.block.specs.declared.Cut.{Cut}
 use Rattle.block.specs.declared.Size.{Size}
 use Rattle.block.specs.Numbering.{sampleCount}
 use Rattle.block.specs.Size.{Limits}
-use Rattle.mesh_rule.specs.Buffers.{cubeWords, cubeOffsets}
 use Rattle.mesh_rule.specs.Grid.{cornersOf}
-use Rattle.mesh_rule.specs.Layers.{runMasks, runWords, runOffsets, rowCube}
+use Rattle.mesh_rule.specs.Layers.{cubeWords, cubeOffsets, runMasks, runWords, runOffsets, rowCube}
 use Rattle.mesh_rule.specs.Mesh.{cubeLoops}
 use Rattle.signs.specs.Windows.{windowCorners, Part}
 use Rattle.signs.proofs.Windows.{part-of, two-rows}
