@@ -23,7 +23,7 @@ use Rattle.cell.specs.declared.CubeAnswer.{CubeAnswer}
 use Rattle.cell.specs.Answer.{saidCube, CubeAnswered}
 use Rattle.mesh.specs.declared.Counted.{Counted}
 use Rattle.mesh.specs.Answer.{saidCounts, CountsAnswered, Meshed}
-use Rattle.lines.specs.Input.{firstLineRow, linesRow, largeRow, sizeRead, cutRead, samplesRead, inputVerdict}
+use Rattle.reading.specs.Input.{firstLineRow, linesRow, largeRow, sizeRead, cutRead, samplesRead, inputVerdict}
 use Rattle.lines.specs.Output.{refusalLine, blockText, printed, outputOf, Ran}
 use Rattle.lines.proofs.Blocks.{samples-grey}
 use Rattle.demands.specs.Answers.{NotRefused, BelowCeiling}

@@ -10,7 +10,7 @@ use Rattle.block.specs.declared.Cut.{Cut}
 use Rattle.block.specs.declared.Refusal.{Refusal}
 use Rattle.block.specs.declared.Size.{Size}
 use Rattle.block.specs.Answer.{given}
-use Rattle.lines.specs.Input.{sizeRead, cutRead, samplesRead}
+use Rattle.reading.specs.Input.{sizeRead, cutRead, samplesRead}
 use Rattle.demands.specs.Table.{CeilingHolds, FirstRow}
 use Rattle.demands.specs.Entries.{sizeRows, edgeRows, cubeRows, countsRows, meshRows, closedRows, rowsRead, runRows, Tellable}
 use Rattle.demands.proofs.Order.{Each, first-has}

@@ -27,7 +27,7 @@ use Rattle.mesh.specs.declared.Counted.{Counted}
 use Rattle.mesh.specs.Answer.{sizeOf, vertexCount, quadCount, countsOf, saidCounts, CountsAnswered, vertexRow, quadRow, meshVerdict, written, Meshed}
 use Rattle.closed.specs.declared.Closure.{Closure}
 use Rattle.closed.specs.Closed.{Finding, findingOf, saidClosure, ClosedAnswered}
-use Rattle.lines.specs.Input.{sizeRead, cutRead, samplesRead, firstLineRow, linesRow, largeRow, inputVerdict}
+use Rattle.reading.specs.Input.{sizeRead, cutRead, samplesRead, firstLineRow, linesRow, largeRow, inputVerdict}
 use Rattle.lines.specs.Output.{refusalLine, blockText, printed, outputOf, Prints, Ran}
 use Rattle.demands.specs.Table.{Row, NoRow, FirstRow}
 use Rattle.demands.specs.Entries.{sizeRows, edgeRows, cubeRows, countsRows, meshRows, closedRows, rowsRead, runRows, Tellable}

@@ -22,9 +22,9 @@ use Rattle.block.proofs.Lowest.{lowest-before, lowest-there, lowest-is, row-ref
 use Rattle.block.proofs.Rows.{given-small}
 use Rattle.mesh.specs.Answer.{sizeOf, vertexRow, quadRow}
 use Rattle.closed.specs.Closed.{lengthRow}
-use Rattle.lines.specs.Text.{lineRight}
-use Rattle.lines.proofs.Reading.{wrong-line}
-use Rattle.lines.specs.Input.{overEight, largeRow, lineThere, rightLines, firstLineRow, linesRow}
+use Rattle.reading.specs.Text.{lineRight}
+use Rattle.reading.proofs.Reading.{wrong-line}
+use Rattle.reading.specs.Input.{overEight, largeRow, lineThere, rightLines, firstLineRow, linesRow}
 use Rattle.demands.specs.Table.{Lowest, LowestGiven, LineHolds, Row, row1, row2, row3, row4, row5, row6, row7, row8-first, row8, row9}
 use Rattle.demands.proofs.Order.{Exactly, passes-refuses, refusal-is}
 

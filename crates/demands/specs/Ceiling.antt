@@ -13,7 +13,7 @@ use Rattle.cell.specs.Answer.{saidCube, CubeAnswered}
 use Rattle.block.specs.Grey.{SixteenBit}
 use Rattle.mesh.specs.declared.Counted.{Counted}
 use Rattle.mesh.specs.Answer.{saidCounts, CountsAnswered, Meshed}
-use Rattle.lines.specs.Input.{sizeRead, samplesRead}
+use Rattle.reading.specs.Input.{sizeRead, samplesRead}
 use Rattle.lines.specs.Output.{refusalLine, Ran}
 use Rattle.parsniprow_c.specs.Told.{EdgeTold, CubeTold, CountsTold, MeshTold}
 use Rattle.demands.specs.Answers.{NotRefused, BelowCeiling}

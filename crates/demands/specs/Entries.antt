@@ -7,7 +7,7 @@ use Rattle.block.specs.declared.Cut.{Cut}
 use Rattle.block.specs.declared.Refusal.{Refusal}
 use Rattle.block.specs.declared.Size.{Size}
 use Rattle.mesh.specs.Answer.{sizeOf, vertexCount, quadCount}
-use Rattle.lines.specs.Input.{sizeRead, cutRead, samplesRead}
+use Rattle.reading.specs.Input.{sizeRead, cutRead, samplesRead}
 use Rattle.demands.specs.Table.{Row, row1, row2, row3, row4, row5, row6, row7, row8-first, row8, row9}
 
 -- a size is made of three axis lengths

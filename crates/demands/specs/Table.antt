@@ -8,8 +8,8 @@ use mathlib.Core.List.{List, [], _∷_}
 use lib.ListN.{length, getD}
 use Rattle.block.specs.declared.Refusal.{Refusal}
 use Rattle.block.specs.Answer.{given}
-use Rattle.lines.specs.Text.{lineRight}
-use Rattle.lines.specs.Input.{lineThere}
+use Rattle.reading.specs.Text.{lineRight}
+use Rattle.reading.specs.Input.{lineThere}
 
 -- an element v of the list is bad, and no element before it is
 pub record Lowest (Bad : ℕ → Type 0) (xs : List ℕ) (v : ℕ) : Type 0 where

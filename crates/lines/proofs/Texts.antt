@@ -10,10 +10,11 @@ use lib.Ieee.{Float, toBits, binary64}
 use Rattle.laws.specs.Below.{below}
 use Rattle.block.specs.declared.Refusal.{Refusal}
 use Rattle.closed.specs.Closed.{findingOf}
-use Rattle.lines.specs.Text.{LF, hexOf}
+use Rattle.reading.specs.Text.{LF, hexOf}
 use Rattle.lines.specs.Output.{refusalLine, closedField, headLine, vertexLine, quadLine, vertexLineOf, quadLineOf, meshText}
 use Rattle.lines.specs.Steps.{Put}
-use Rattle.lines.proofs.Writing.{put-none, put-then, hex-length}
+use Rattle.lines.proofs.Writing.{put-none, put-then}
+use Rattle.reading.proofs.Rules.{hex-length}
 
 -- ---- lengths
 

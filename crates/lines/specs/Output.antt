@@ -15,8 +15,8 @@ use Rattle.cube_rule.specs.Decider.{loopsOf}
 use Rattle.mesh_rule.specs.Buffers.{meshWords, meshOffsets, meshQuads}
 use Rattle.mesh.specs.Answer.{vertexCount, quadCount}
 use Rattle.closed.specs.Closed.{Finding, allSound, openAt, findingOf}
-use Rattle.lines.specs.Text.{LF, hexOf}
-use Rattle.lines.specs.Input.{sizeRead, cutRead, samplesRead, inputVerdict}
+use Rattle.reading.specs.Text.{LF, hexOf}
+use Rattle.reading.specs.Input.{sizeRead, cutRead, samplesRead, inputVerdict}
 
 -- "A refusal prints one line: FF, number (2 digits), value (8)."
 unfoldable pub refusalLine : Refusal → List ℕ

@@ -10,7 +10,7 @@ use lib.ListN.{length, getD}
 use lib.Seq.{sets}
 use Rattle.block.specs.declared.Checked.the-variants.{Passes}
 use Rattle.block.specs.Rows.{axisRow, thresholdRow}
-use Rattle.lines.specs.Input.{largeRow}
+use Rattle.reading.specs.Input.{largeRow}
 
 -- the text has been put at a place of the buffer, and the next place is behind it
 pub record Put (out : List ℕ) (at : ℕ) (text : List ℕ) (out′ : List ℕ) (next : ℕ) : Type 0 where

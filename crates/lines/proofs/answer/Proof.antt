@@ -11,14 +11,14 @@ use Rattle.block.proofs.Sizes.{axes-within}
 use Rattle.block.specs.Rows.{ceilingRow}
 use Rattle.lines.specs.Output.{printed, blockText}
 use Rattle.lines.specs.Steps.{Put}
-use Rattle.lines.proofs.Axes.{at-most-eight}
+use Rattle.reading.proofs.Axes.{at-most-eight}
 use Rattle.lines.proofs.Blocks.{block-small, samples-grey, samples-front}
 use borrow.Author.Needs.{needs}
 use Rattle.lines.proofs.answer.Statement.{statement}
 use Rattle.lines.proofs.answer.Tie as tie
 use Rattle.lines.proofs.answer.Reads as reads
 use Rattle.lines.proofs.answer.Lts as lts
-use Rattle.lines.proofs.fill.Reads as fill-reads
+use Rattle.reading.proofs.fill.Reads as fill-reads
 use Rattle.lines.proofs.put_block.Reads as put-block-reads
 
 mul-count : tie.Need-mul-count

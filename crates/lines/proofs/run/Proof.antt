@@ -8,8 +8,8 @@ use Rattle.lines.proofs.run.Tie as tie
 use Rattle.lines.proofs.run.Reads as reads
 use Rattle.lines.proofs.run.Lts as lts
 use Rattle.lines.proofs.answer.Reads as answer-reads
-use Rattle.lines.proofs.check.Reads as check-reads
-use Rattle.lines.proofs.number.Reads as number-reads
+use Rattle.reading.proofs.check.Reads as check-reads
+use Rattle.reading.proofs.number.Reads as number-reads
 use Rattle.lines.proofs.put_refusal.Reads as put-refusal-reads
 
 number-requires : tie.Need-number-requires
