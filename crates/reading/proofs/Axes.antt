@@ -5,11 +5,12 @@ use mathlib.Core.Path.{_≡_}
 use mathlib.Core.List.{[], _∷_}
 use native.Mathlib.Nat.{mul-le-mul}
 use native.Mathlib.Omega.{arith}
+use lib.Dec.{ltb}
 use borrow.Author.Tests.{lt-ltb, le-ltb, ltb-false}
 use Rattle.block.specs.declared.Checked.the-variants.{Passes, Refuses}
 use Rattle.block.specs.Rows.{lowest, lowestRow}
 use Rattle.block.proofs.Lowest.{row-clear}
-use Rattle.reading.specs.Input.{overEight, largeRow}
+use Rattle.reading.specs.Input.{largeRow}
 
 module _ (nx ny nz : ℕ) where
   pub first-large : 8 < nx → Refuses (record { number = 9; value = 0 }) ≡ largeRow nx ny nz
@@ -37,7 +38,7 @@ pub record AtMostEight (nx ny nz : ℕ) : Type 0 where
 
 pub at-most-eight : (nx ny nz : ℕ) → largeRow nx ny nz ≡ Passes → AtMostEight nx ny nz
 at-most-eight nx ny nz e =
-    let clear = row-clear overEight 9 (nx ∷ ny ∷ nz ∷ []) e in
+    let clear = row-clear (ltb 8) 9 (nx ∷ ny ∷ nz ∷ []) e in
     let hy = ltb-false 8 ny (clear 1 (omega arith)) in
     let hz = ltb-false 8 nz (clear 2 (omega arith)) in
     record { x = ltb-false 8 nx (clear 0 (omega arith)); y = hy; z = hz; rows = mul-le-mul hy hz }

@@ -8,7 +8,8 @@ use lib.Dec.{T, ltb, eqb}
 use borrow.Author.Tests.{lt-ltb, le-ltb, eqb-true}
 use Rattle.laws.proofs.Tests.{below, below-at, is-true}
 use Rattle.block.specs.Rows.{lowest}
-use Rattle.reading.specs.Text.{digits, glyph, digitOf}
+use Rattle.reading.specs.Text.{digits, digitOf}
+use Rattle.reading.specs.Steps.{glyph}
 
 -- the same by comparisons
 abbrev worth : ℕ → ℕ

@@ -11,7 +11,8 @@ use Rattle.block.specs.declared.Size.{Size}
 use Rattle.block.specs.declared.Checked.{Checked}
 use Rattle.block.specs.Answer.{inOrder}
 use Rattle.reading.specs.Text.{numberAt}
-use Rattle.reading.specs.Input.{sampleRead, earlyRows}
+use Rattle.reading.specs.Input.{earlyRows}
+use Rattle.reading.specs.Steps.{sampleRead}
 
 module _ (bytes : List ℕ) where
   pub number-fixed : (p : ℕ) → Fixes (λ (r : ℕ). r ≡ numberAt bytes p 4)

@@ -1,4 +1,5 @@
 pub mod Digits
+pub mod Line
 pub mod Reading
 pub mod Axes
 pub mod Verdicts

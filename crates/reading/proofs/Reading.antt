@@ -1,8 +1,8 @@
--- Reading a place of the input, and the first wrong byte of a line and the first wrong line as loops find them.
+-- Reading a place of the input, and the first wrong line as a loop finds it.
 -- Assumes nothing.
 use Prim.Native.Nat.{ℕ, zero, suc, _+_, _*_, _/_, _%_, _≤_, _<_}
 use mathlib.Core.Path.{_≡_, refl, sym, ap, _∙_}
-use mathlib.Core.Bool.{Bool, false}
+use mathlib.Core.Bool.{Bool, true, false}
 use mathlib.Core.List.{List, [], _∷_}
 use native.Mathlib.Nat.{not-suc-le-zero, le-of-suc-le-suc, mul-le-mul, div-le-self, mod-lt}
 use native.Mathlib.Omega.{arith}
@@ -12,8 +12,10 @@ use borrow.Author.Tests.{lt-ltb, le-ltb, eq-eqb, ne-eqb}
 use Rattle.laws.proofs.Leading.{HoldsTo, leading-at, leading-all}
 use Rattle.block.specs.declared.Checked.the-variants.{Passes, Refuses}
 use Rattle.block.proofs.Rows.{given-small}
-use Rattle.reading.specs.Text.{LF, ended, readAt, digitOf, isDigit, numberAt, rightByte, rightBytes, lineRight}
+use Rattle.reading.specs.Text.{ended, readAt, digitOf, numberAt, lineRight}
 use Rattle.reading.specs.Input.{rowPlace, lineThere, rightLines, firstLineRow, linesRow}
+use Rattle.reading.specs.Steps.{rightBytes}
+use Rattle.reading.proofs.Line.{line-right}
 
 -- ---- a place
 
@@ -43,31 +45,6 @@ pub number-read : (bytes : List ℕ) (p x₀ x₁ x₂ x₃ d₀ d₁ d₂ d₃ 
     → ((d₀ % 16 * 16 + d₁ % 16) * 16 + d₂ % 16) * 16 + d₃ % 16 ≡ numberAt bytes p 4
 number-read bytes p x₀ x₁ x₂ x₃ d₀ d₁ d₂ d₃ a₀ a₁ a₂ a₃ b₀ b₁ b₂ b₃ = rw (b₀, b₁, b₂, b₃, a₀, a₁, a₂, a₃) (sym (four-digits bytes p))
 
--- ---- a line
-
-module _ (n c b : ℕ) where
-  pub right-digit : c < n → rightByte n c b ≡ isDigit b
-  right-digit h = rw (lt-ltb c n h)
-
-  pub right-end : n ≤ c → rightByte n c b ≡ eqb b LF
-  right-end h = rw (le-ltb c n h)
-
-module _ (bytes : List ℕ) (p n : ℕ) where
-  abbrev pub rightAt : ℕ → Bool
-  rightAt c = rightByte n c (readAt bytes (p + c))
-
-  -- what the code found in a column
-  pub found-in : (c b : ℕ) (r t : Bool) → b ≡ readAt bytes (p + c) → r ≡ rightByte n c b → r ≡ t → rightAt c ≡ t
-  found-in c b r t e h k = ap (rightByte n c) (sym e) ∙ sym h ∙ k
-
-  pub wrong-at : (c : ℕ) → c ≤ n → HoldsTo rightAt c → rightAt c ≡ false → c ≡ rightBytes bytes p n
-  unfolding rightBytes
-  wrong-at c h a e = sym (leading-at rightAt (n + 1) c (omega arith) a e)
-
-  pub all-right : (c : ℕ) → c ≡ n + 1 → HoldsTo rightAt c → c ≡ rightBytes bytes p n
-  unfolding rightBytes
-  all-right c h a = h ∙ sym (leading-all rightAt (n + 1) (rw h at a))
-
 -- ---- the lines from line 2 on
 
 -- rows of at most 8 samples, at most 64 of them
@@ -94,6 +71,10 @@ module _ (bytes : List ℕ) (nx rows : ℕ) where
   pub there-row : (j : ℕ) → j < rows → lineThere bytes nx rows j ≡ lineRight bytes (rowPlace nx j) (4 * nx)
   there-row j h = rw (lt-ltb j rows h)
 
+  -- as the code tells it
+  pub there-right : (j : ℕ) → j < rows → lineThere bytes nx rows j ≡ eqb (rightBytes bytes (rowPlace nx j) (4 * nx)) (4 * nx + 1)
+  there-right j h = there-row j h ∙ line-right bytes (rowPlace nx j) (4 * nx)
+
   pub there-end : (j : ℕ) → rows ≤ j → lineThere bytes nx rows j ≡ eqb (readAt bytes (rowPlace nx j)) ended
   there-end j h = rw (le-ltb j rows h)
 
@@ -113,8 +94,12 @@ module _ (bytes : List ℕ) (nx rows : ℕ) where
       → Refuses (record { number = 8; value = k + 2 }) ≡ linesRow bytes nx rows
   lines-refuse k e h l = rw (← e, ne-eqb k (rows + 1) h) (ap (λ (v : ℕ). Refuses (record { number = 8; value = v })) (sym (given-small (k + 2) (omega arith))))
 
+-- row 8 of line 1, by how many of its bytes are right
+first-line : (bytes : List ℕ) (k : ℕ) (t : Bool) → k ≡ rightBytes bytes 0 16 → eqb k 17 ≡ t → lineRight bytes 0 16 ≡ t
+first-line bytes k t e h = line-right bytes 0 16 ∙ ap (λ (m : ℕ). eqb m 17) (sym e) ∙ h
+
 pub first-pass : (bytes : List ℕ) (k : ℕ) → k ≡ rightBytes bytes 0 16 → k ≡ 17 → Passes ≡ firstLineRow bytes
-first-pass bytes k e h = rw (← e, eq-eqb k 17 h)
+first-pass bytes k e h = rw (first-line bytes k true e (eq-eqb k 17 h))
 
 pub first-refuse : (bytes : List ℕ) (k : ℕ) → k ≡ rightBytes bytes 0 16 → (k ≡ 17 → ⊥) → Refuses (record { number = 8; value = 1 }) ≡ firstLineRow bytes
-first-refuse bytes k e h = rw (← e, ne-eqb k 17 h)
+first-refuse bytes k e h = rw (first-line bytes k false e (ne-eqb k 17 h))

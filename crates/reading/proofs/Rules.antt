@@ -1,24 +1,18 @@
--- Rules that make the definitions of lines believable: a number that is written is read as it was, and a line is right exactly if all its bytes
--- are. Assumes nothing.
+-- A number that is written is read as it was.
+-- Assumes nothing.
 use Prim.Native.Nat.{ℕ, zero, suc, _+_, _*_, _/_, _%_, _^_, _≤_, _<_}
 use mathlib.Core.Path.{_≡_, refl, sym, ap, ap₂, _∙_}
-use mathlib.Core.Logic.{_↔_}
-use mathlib.Core.Bool.{true}
 use mathlib.Core.List.{List, [], _∷_, _++_}
 use native.Mathlib.Nat.{zero-add, mod-lt, div-lt-iff-lt-mul, pow-suc}
 use native.Mathlib.Numerals.{add-one}
 use native.Mathlib.Omega.{arith}
 use lib.ListN.{length, length-append, List·getD-append}
 use lib.Seq.{getD-at}
-use borrow.Author.Tests.{eqb-true, eq-eqb}
-use Rattle.laws.specs.Leading.{leading}
-use Rattle.laws.proofs.Leading.{leading-holds, leading-all, holds-more}
-use Rattle.reading.specs.Text.{glyph, LF, ended, readAt, digitOf, isDigit, numberAt, rightBytes, lineRight, hexOf}
+use Rattle.reading.specs.Text.{ended, readAt, digitOf, numberAt, hexOf}
+use Rattle.reading.specs.Steps.{glyph}
 use Rattle.reading.proofs.Digits.{digit-back}
-use Rattle.reading.proofs.Reading.{rightAt, right-digit, right-end}
 
--- ---- a number
-
+-- k digits
 pub hex-length : (k v : ℕ) → length (hexOf k v) ≡ k
 unfolding hexOf
 hex-length zero v = refl
@@ -53,26 +47,3 @@ number-back (suc k) v h =
 
     whole : (v : ℕ) → v / 16 * 16 + v % 16 ≡ v
     whole v = omega arith
-
--- ---- a line
-
--- n digits, and then LF
-pub line-exactly : (bytes : List ℕ) (p n : ℕ)
-    → (lineRight bytes p n ≡ true) ↔ (((c : ℕ) → c < n → isDigit (readAt bytes (p + c)) ≡ true) × (readAt bytes (p + n) ≡ LF))
-unfolding rightBytes
-line-exactly bytes p n = (there, back)
-  where
-    there : lineRight bytes p n ≡ true → ((c : ℕ) → c < n → isDigit (readAt bytes (p + c)) ≡ true) × (readAt bytes (p + n) ≡ LF)
-    there e =
-        let all : leading (rightAt bytes p n) (n + 1) ≡ n + 1 = eqb-true _ _ e in
-        let right = leading-holds (rightAt bytes p n) (n + 1) in (
-          (λ c l. sym (right-digit n c (readAt bytes (p + c)) l) ∙ right c (omega (arith, all))),
-          eqb-true _ _ (sym (right-end n n (readAt bytes (p + n)) (omega arith)) ∙ right n (omega (arith, all))),
-        )
-
-    back : ((c : ℕ) → c < n → isDigit (readAt bytes (p + c)) ≡ true) × (readAt bytes (p + n) ≡ LF) → lineRight bytes p n ≡ true
-    back h =
-        eq-eqb _ _
-        (leading-all (rightAt bytes p n) (n + 1)
-        (holds-more (rightAt bytes p n) n (λ c l. right-digit n c (readAt bytes (p + c)) l ∙ h .0 c l)
-        (right-end n n (readAt bytes (p + n)) (omega arith) ∙ eq-eqb _ _ (h .1))))

@@ -1,5 +1,4 @@
--- What the program reads (document 01, "The program"): line 1 with nx, ny, nz and t, "then one line for each row of nx samples, four digits
--- each, y before z", then the end of the input. Assumes nothing.
+-- What the program reads, and the rows of the table of refusals that it tries (document 01, "The program").
 use Prim.Native.Nat.{ℕ, _+_, _*_, _/_, _%_}
 use mathlib.Core.Bool.{Bool, cond}
 use mathlib.Core.List.{List, [], _∷_, _++_}
@@ -16,13 +15,10 @@ use Rattle.block.specs.Rows.{lowestRow, axisRow, thresholdRow, ceilingRow}
 use Rattle.reading.specs.Text.{ended, readAt, numberAt, lineRight}
 
 -- 9: an axis is over 8; the lowest such axis
-abbrev pub overEight : ℕ → Bool
-overEight n = ltb 8 n
-
 abbrev pub largeRow : ℕ → ℕ → ℕ → Checked
-largeRow nx ny nz = lowestRow 9 overEight (nx ∷ ny ∷ nz ∷ [])
+largeRow nx ny nz = lowestRow 9 (ltb 8) (nx ∷ ny ∷ nz ∷ [])
 
--- row j of nx samples begins behind line 1, which has 17 bytes, and behind the rows before it
+-- row j of nx samples, four digits each, begins behind line 1, which has 17 bytes, and behind the rows before it
 abbrev pub rowPlace : ℕ → ℕ → ℕ
 rowPlace nx j = 17 + j * (4 * nx + 1)
 
@@ -42,12 +38,9 @@ module _ (bytes : List ℕ) where
   abbrev pub linesRow : ℕ → ℕ → Checked
   linesRow nx rows = cond (eqb (rightLines nx rows) (rows + 1)) Passes (refuses 8 (rightLines nx rows + 2))
 
-  -- the samples of a block, by rising index
-  abbrev pub sampleRead : ℕ → ℕ → ℕ
-  sampleRead nx i = numberAt bytes (rowPlace nx (i / nx) + 4 * (i % nx)) 4
-
+  -- the samples of a block, by rising index: "one line for each row of nx samples, four digits each, y before z"
   unfoldable pub samplesRead : Size → List ℕ
-  samplesRead n = below (λ (i : ℕ). sampleRead (n .nx) i ∷ []) (sampleCount n)
+  samplesRead n = below (λ (i : ℕ). numberAt bytes (rowPlace (n .nx) (i / n .nx) + 4 * (i % n .nx)) 4 ∷ []) (sampleCount n)
 
   -- "Line 1: nx, ny, nz, t, four digits each"
   abbrev pub sizeRead : Size

@@ -1,21 +1,16 @@
 -- Lines of upper-case hexadecimal (document 01, "The program"): digits, numbers and lines, over a list of bytes.
--- Assumes nothing.
 use Prim.Native.Nat.{ℕ, zero, suc, _+_, _*_, _/_, _%_}
-use mathlib.Core.Bool.{Bool, cond}
+use mathlib.Core.Bool.{Bool, _&&_}
 use mathlib.Core.List.{List, [], _∷_, _++_}
 use lib.Dec.{ltb, eqb}
 use lib.ListN.{getD}
-use Rattle.laws.specs.Leading.{leading}
 use Rattle.block.specs.Rows.{lowest}
 
 -- the sixteen digits, as bytes: 0 to 9, then A to F
 unfoldable pub digits : List ℕ
 digits = 48 ∷ 49 ∷ 50 ∷ 51 ∷ 52 ∷ 53 ∷ 54 ∷ 55 ∷ 56 ∷ 57 ∷ 65 ∷ 66 ∷ 67 ∷ 68 ∷ 69 ∷ 70 ∷ []
 
--- the digit of a number below 16, and back: 16 for a byte that is no digit
-abbrev pub glyph : ℕ → ℕ
-glyph d = getD digits d 0
-
+-- what a byte is worth as a digit: 16 for a byte that is none
 abbrev pub digitOf : ℕ → ℕ
 digitOf b = lowest (eqb b) digits
 
@@ -24,8 +19,6 @@ isDigit b = ltb (digitOf b) 16
 
 abbrev pub LF : ℕ
 LF = 10
-
--- ---- reading
 
 -- past the last byte stands the end of the input, which is no byte: a byte is below 256
 abbrev pub ended : ℕ
@@ -39,21 +32,12 @@ unfoldable pub numberAt : List ℕ → ℕ → ℕ → ℕ
 numberAt bytes p zero = 0
 numberAt bytes p (suc k) = numberAt bytes p k * 16 + digitOf (readAt bytes (p + k)) % 16
 
--- "lines of upper-case hexadecimal, each ended by one LF": what is right in column c, from 0, of a line of n digits
-abbrev pub rightByte : ℕ → ℕ → ℕ → Bool
-rightByte n c b = cond (ltb c n) (isDigit b) (eqb b LF)
-
--- how many bytes of the line of n digits that begins at p are right before the first wrong one
-unfoldable pub rightBytes : List ℕ → ℕ → ℕ → ℕ
-rightBytes bytes p n = leading (λ (c : ℕ). rightByte n c (readAt bytes (p + c))) (n + 1)
-
--- all are: n digits and the LF
-abbrev pub lineRight : List ℕ → ℕ → ℕ → Bool
-lineRight bytes p n = eqb (rightBytes bytes p n) (n + 1)
-
--- ---- writing
+-- "lines of upper-case hexadecimal, each ended by one LF": n digits stand at p, and then LF
+unfoldable pub lineRight : List ℕ → ℕ → ℕ → Bool
+lineRight bytes p zero = eqb (readAt bytes p) LF
+lineRight bytes p (suc n) = isDigit (readAt bytes p) && lineRight bytes (p + 1) n
 
 -- a number in k digits, the highest first
 unfoldable pub hexOf : ℕ → ℕ → List ℕ
 hexOf zero v = []
-hexOf (suc k) v = hexOf k (v / 16) ++ glyph (v % 16) ∷ []
+hexOf (suc k) v = hexOf k (v / 16) ++ getD digits (v % 16) 0 ∷ []

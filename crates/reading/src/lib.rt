@@ -13,8 +13,9 @@ ghost use Rattle.laws.specs.Below.{below, over};
 ghost use Rattle.block.specs.declared.Checked.the-variants.{Refuses};
 ghost use Rattle.block.specs.Answer.{inOrder};
 ghost use Rattle.block.specs.Rows.{axisRow};
-ghost use Rattle.reading.specs.Text.{readAt, digitOf, rightByte, rightBytes, numberAt};
-ghost use Rattle.reading.specs.Input.{lineThere, rightLines, firstLineRow, linesRow, largeRow, sampleRead, earlyRows};
+ghost use Rattle.reading.specs.Text.{readAt, digitOf, numberAt};
+ghost use Rattle.reading.specs.Input.{lineThere, rightLines, firstLineRow, linesRow, largeRow, earlyRows};
+ghost use Rattle.reading.specs.Steps.{rightByte, rightBytes, sampleRead};
 
 fn wide(b: u8) -> u16
     ensures { λ r. ⌜ r ≡ b ⌝ }

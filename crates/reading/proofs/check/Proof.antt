@@ -2,8 +2,8 @@
 -- Assumes nothing.
 use mathlib.Core.Path.{sym, _∙_}
 use native.Mathlib.Omega.{arith}
-use Rattle.block.proofs.Order.{order-refuses, order-passes, order-last}
 use Rattle.reading.proofs.Axes.{at-most-eight}
+use Rattle.reading.proofs.Verdicts.{first-refuses, axes-refuse, large-refuses, threshold-refuses, lines-decide}
 use borrow.Author.Needs.{needs}
 use Rattle.reading.proofs.check.Statement.{statement}
 use Rattle.reading.proofs.check.Tie as tie
@@ -22,7 +22,10 @@ enum-known-first : tie.Need-enum-known-first
 enum-known-first c = search needs
 
 returns : tie.Need-returns
-returns c = sym (order-refuses _ _ _ (sym (c .before .before .before .check-first-line .ensures) ∙ c .before .first .given .1))
+returns c =
+    let first = c .before .before .before in
+    let a = first .before .before .args in
+    sym (first-refuses (a .input .now) (record { nx = a .nx; ny = a .ny; nz = a .nz }) (record { t = a .t }) _ (sym (first .check-first-line .ensures) ∙ c .before .first .given .1))
 
 enum-told : tie.Need-enum-told
 enum-told c = search needs
@@ -35,9 +38,11 @@ enum-known-axes c = search needs
 
 returns-2 : tie.Need-returns-2
 returns-2 c =
-    let t = c .before .before .before in
-    sym (order-passes _ _ (sym (t .before .before .before .check-first-line .ensures) ∙ t .before .enum-told .given .1)
-    ∙ order-refuses _ _ _ (sym (t .check-axes .ensures) ∙ c .before .axes .given .1))
+    let axes = c .before .before .before in
+    let first = axes .before .before .before in
+    let a = first .before .before .args in
+    sym (axes-refuse (a .input .now) (record { nx = a .nx; ny = a .ny; nz = a .nz }) (record { t = a .t })
+    (sym (first .check-first-line .ensures) ∙ axes .before .enum-told .given .1) _ (sym (axes .check-axes .ensures) ∙ c .before .axes .given .1))
 
 enum-told-2 : tie.Need-enum-told-2
 enum-told-2 c = search needs
@@ -50,11 +55,13 @@ enum-known-limit c = search needs
 
 returns-3 : tie.Need-returns-3
 returns-3 c =
-    let l = c .before .before .before in
-    let t = l .before .before .before in
-    sym (order-passes _ _ (sym (t .before .before .before .check-first-line .ensures) ∙ t .before .enum-told .given .1)
-    ∙ order-passes _ _ (sym (t .check-axes .ensures) ∙ l .before .enum-told2 .given .1)
-    ∙ order-refuses _ _ _ (sym (l .check-large .ensures) ∙ c .before .limit .given .1))
+    let large = c .before .before .before in
+    let axes = large .before .before .before in
+    let first = axes .before .before .before in
+    let a = first .before .before .args in
+    sym (large-refuses (a .input .now) (record { nx = a .nx; ny = a .ny; nz = a .nz }) (record { t = a .t })
+    (sym (first .check-first-line .ensures) ∙ axes .before .enum-told .given .1)
+    (sym (axes .check-axes .ensures) ∙ large .before .enum-told2 .given .1) _ (sym (large .check-large .ensures) ∙ c .before .limit .given .1))
 
 enum-told-3 : tie.Need-enum-told-3
 enum-told-3 c = search needs
@@ -67,13 +74,15 @@ enum-known-threshold c = search needs
 
 returns-4 : tie.Need-returns-4
 returns-4 c =
-    let h = c .before .before .before in
-    let l = h .before .before .before in
-    let t = l .before .before .before in
-    sym (order-passes _ _ (sym (t .before .before .before .check-first-line .ensures) ∙ t .before .enum-told .given .1)
-    ∙ order-passes _ _ (sym (t .check-axes .ensures) ∙ l .before .enum-told2 .given .1)
-    ∙ order-passes _ _ (sym (l .check-large .ensures) ∙ h .before .enum-told3 .given .1)
-    ∙ order-refuses _ _ _ (sym (h .check-threshold .ensures) ∙ c .before .threshold .given .1))
+    let threshold = c .before .before .before in
+    let large = threshold .before .before .before in
+    let axes = large .before .before .before in
+    let first = axes .before .before .before in
+    let a = first .before .before .args in
+    sym (threshold-refuses (a .input .now) (record { nx = a .nx; ny = a .ny; nz = a .nz }) (record { t = a .t })
+    (sym (first .check-first-line .ensures) ∙ axes .before .enum-told .given .1)
+    (sym (axes .check-axes .ensures) ∙ large .before .enum-told2 .given .1)
+    (sym (large .check-large .ensures) ∙ threshold .before .enum-told3 .given .1) _ (sym (threshold .check-threshold .ensures) ∙ c .before .threshold .given .1))
 
 enum-told-4 : tie.Need-enum-told-4
 enum-told-4 c = search needs
@@ -101,14 +110,17 @@ check-lines-requires c κs =
 
 returns-5 : tie.Need-returns-5
 returns-5 c =
-    let h = c .before .before .before in
-    let l = h .before .before .before in
-    let t = l .before .before .before in
-    sym (order-passes _ _ (sym (t .before .before .before .check-first-line .ensures) ∙ t .before .enum-told .given .1)
-    ∙ order-passes _ _ (sym (t .check-axes .ensures) ∙ l .before .enum-told2 .given .1)
-    ∙ order-passes _ _ (sym (l .check-large .ensures) ∙ h .before .enum-told3 .given .1)
-    ∙ order-passes _ _ (sym (h .check-threshold .ensures) ∙ c .before .enum-told4 .given .1)
-    ∙ order-last _ ∙ sym (c .check-lines .ensures))
+    let threshold = c .before .before .before in
+    let large = threshold .before .before .before in
+    let axes = large .before .before .before in
+    let first = axes .before .before .before in
+    let a = first .before .before .args in
+    sym (lines-decide (a .input .now) (record { nx = a .nx; ny = a .ny; nz = a .nz }) (record { t = a .t })
+    (sym (first .check-first-line .ensures) ∙ axes .before .enum-told .given .1)
+    (sym (axes .check-axes .ensures) ∙ large .before .enum-told2 .given .1)
+    (sym (large .check-large .ensures) ∙ threshold .before .enum-told3 .given .1)
+    (sym (threshold .check-threshold .ensures) ∙ c .before .enum-told4 .given .1)
+    ∙ sym (c .check-lines .ensures))
 
 pub check-spec : {M : Type 1} → statement M
 check-spec =

@@ -1,13 +1,13 @@
 -- `fill` meets its contract: the samples before the one in hand stand at the front of the buffer.
 -- Assumes nothing.
-use Prim.Native.Nat.{_-_, _≤_}
+use Prim.Native.Nat.{ℕ, _+_, _*_, _-_, _/_, _%_, _≤_, _<_}
 use mathlib.Core.Path.{_≡_, refl}
 use native.Mathlib.Omega.{arith}
 use borrow.Author.Needs.{needs}
 use lib.ListN.{length}
 use Rattle.laws.specs.Below.{over}
 use Rattle.laws.proofs.Over.{each, over-none, over-put}
-use Rattle.reading.specs.Input.{sampleRead}
+use Rattle.reading.specs.Steps.{sampleRead}
 use Rattle.reading.proofs.Reading.{sample-place-small}
 use Rattle.reading.proofs.fill.Statement.{statement}
 use Rattle.reading.proofs.fill.Tie as tie
@@ -34,33 +34,33 @@ mul-number c = search needs
 add-number : tie.Need-add-number Inv-loop μ-loop
 add-number c = search needs
 
+-- the row's length, and that the place of the sample in hand is small
+abbrev width : tie.At-loop Inv-loop μ-loop → ℕ
+width l = l .before .before .before .args .nx
+
+small : (l : tie.At-loop Inv-loop μ-loop) → l .loop .i < l .before .before .before .args .count
+    → (l .loop .i / width l * (4 * width l + 1) ≤ 16896) × (4 * (l .loop .i % width l) < 32)
+small l t =
+    let entry = l .before .before .before in
+    sample-place-small (width l) (l .loop .i) (entry .pre .0) (entry .pre .1) (omega (arith, t, entry .pre .2))
+
 mul-number-2 : tie.Need-mul-number-2 Inv-loop μ-loop
-mul-number-2 c =
-    let small = sample-place-small (c .before .before .before .before .args .nx) (c .before .loop .i) (c .before .before .before .before .pre .0) (c .before .before .before .before .pre .1) (omega (arith, c .loop-test .taken, c .before .before .before .before .pre .2)) in
-    omega (arith, small .0)
+mul-number-2 c = omega (arith, small (c .before) (c .loop-test .taken) .0)
 
 add-number-2 : tie.Need-add-number-2 Inv-loop μ-loop
-add-number-2 c =
-    let small = sample-place-small (c .before .before .before .before .args .nx) (c .before .loop .i) (c .before .before .before .before .pre .0) (c .before .before .before .before .pre .1) (omega (arith, c .loop-test .taken, c .before .before .before .before .pre .2)) in
-    omega (arith, small .0)
+add-number-2 c = omega (arith, small (c .before) (c .loop-test .taken) .0)
 
 rem-number : tie.Need-rem-number Inv-loop μ-loop
 rem-number c = c .before .before .before .before .pre .0
 
 mul-number-3 : tie.Need-mul-number-3 Inv-loop μ-loop
-mul-number-3 c =
-    let small = sample-place-small (c .before .before .before .before .args .nx) (c .before .loop .i) (c .before .before .before .before .pre .0) (c .before .before .before .before .pre .1) (omega (arith, c .loop-test .taken, c .before .before .before .before .pre .2)) in
-    omega (arith, small .1)
+mul-number-3 c = omega (arith, small (c .before) (c .loop-test .taken) .1)
 
 add-number-3 : tie.Need-add-number-3 Inv-loop μ-loop
-add-number-3 c =
-    let small = sample-place-small (c .before .before .before .before .args .nx) (c .before .loop .i) (c .before .before .before .before .pre .0) (c .before .before .before .before .pre .1) (omega (arith, c .loop-test .taken, c .before .before .before .before .pre .2)) in
-    omega (arith, small .0, small .1)
+add-number-3 c = omega (arith, small (c .before) (c .loop-test .taken) .0, small (c .before) (c .loop-test .taken) .1)
 
 number-requires : tie.Need-number-requires Inv-loop μ-loop
-number-requires c κs =
-    let small = sample-place-small (c .before .before .before .before .args .nx) (c .before .loop .i) (c .before .before .before .before .pre .0) (c .before .before .before .before .pre .1) (omega (arith, c .loop-test .taken, c .before .before .before .before .pre .2)) in
-    omega (arith, small .0, small .1)
+number-requires c κs = omega (arith, small (c .before) (c .loop-test .taken) .0, small (c .before) (c .loop-test .taken) .1)
 
 mul-samples : tie.Need-mul-samples Inv-loop μ-loop
 mul-samples c = search needs

@@ -4,7 +4,7 @@ use Prim.Native.Nat.{ℕ, _+_, _*_}
 use mathlib.Core.Path.{sym, ap, _∙_}
 use native.Mathlib.Omega.{arith}
 use lib.Dec.{eqb}
-use Rattle.reading.proofs.Reading.{rows-small, there-row, there-end}
+use Rattle.reading.proofs.Reading.{rows-small, there-right, there-end}
 use borrow.Author.Needs.{needs}
 use Rattle.reading.proofs.line_there.Statement.{statement}
 use Rattle.reading.proofs.line_there.Tie as tie
@@ -38,7 +38,7 @@ add-result : tie.Need-add-result
 add-result c = search needs
 
 returns : tie.Need-returns
-returns c = ap (λ (k : ℕ). eqb k (4 * c .before .before .before .args .nx + 1)) (c .right-bytes .ensures) ∙ sym (there-row (c .before .before .before .args .input .now) _ _ _ (c .before .if1 .taken))
+returns c = ap (λ (k : ℕ). eqb k (4 * c .before .before .before .args .nx + 1)) (c .right-bytes .ensures) ∙ sym (there-right (c .before .before .before .args .input .now) _ _ _ (c .before .if1 .taken))
 
 read-at-requires : tie.Need-read-at-requires
 read-at-requires c κs = search needs

@@ -3,7 +3,7 @@
 use mathlib.Core.Path.{sym, _∙_, ap}
 use Prim.Native.Nat.{ℕ}
 use lib.Dec.{ltb}
-use Rattle.reading.proofs.Reading.{right-digit, right-end}
+use Rattle.reading.proofs.Line.{right-digit, right-end}
 use borrow.Author.Needs.{needs}
 use Rattle.reading.proofs.right_byte.Statement.{statement}
 use Rattle.reading.proofs.right_byte.Tie as tie

@@ -5,7 +5,7 @@ use native.Mathlib.Omega.{arith}
 use borrow.Author.Needs.{needs}
 use borrow.Author.Tests.{not-true, not-false}
 use Rattle.laws.proofs.Leading.{HoldsTo, holds-none, holds-more}
-use Rattle.reading.proofs.Reading.{rightAt, found-in, wrong-at, all-right}
+use Rattle.reading.proofs.Line.{rightAt, found-in, wrong-at, all-right}
 use Rattle.reading.proofs.right_bytes.Statement.{statement}
 use Rattle.reading.proofs.right_bytes.Tie as tie
 use Rattle.reading.proofs.right_bytes.Reads as reads
