@@ -24,7 +24,7 @@ use Rattle.mesh.specs.Answer.{sizeOf, vertexRow, quadRow}
 use Rattle.closed.specs.Closed.{lengthRow}
 use Rattle.reading.specs.Text.{lineRight}
 use Rattle.reading.proofs.Reading.{wrong-line}
-use Rattle.reading.specs.Input.{overEight, largeRow, lineThere, rightLines, firstLineRow, linesRow}
+use Rattle.reading.specs.Input.{largeRow, lineThere, rightLines, firstLineRow, linesRow}
 use Rattle.demands.specs.Table.{Lowest, LowestGiven, LineHolds, Row, row1, row2, row3, row4, row5, row6, row7, row8-first, row8, row9}
 use Rattle.demands.proofs.Order.{Exactly, passes-refuses, refusal-is}
 
@@ -163,7 +163,7 @@ pub first-line-row : (bytes : List ℕ) → Exactly (firstLineRow bytes) (row8-f
 first-line-row bytes = if-false 8 1 (lineRight bytes 0 16 ≡ false) (lineRight bytes 0 16) (λ e. e, λ e. e)
 
 pub large-row : (nx ny nz : ℕ) → Exactly (largeRow nx ny nz) (row9 nx ny nz)
-large-row nx ny nz = short-row 9 overEight (λ (n : ℕ). 8 < n) (less-exactly 8) (nx ∷ ny ∷ nz ∷ []) (omega arith)
+large-row nx ny nz = short-row 9 (ltb 8) (λ (n : ℕ). 8 < n) (less-exactly 8) (nx ∷ ny ∷ nz ∷ []) (omega arith)
 
 module _ (bytes : List ℕ) (nx rows : ℕ) where
   -- the line that the check finds is the first wrong one, and there is no other

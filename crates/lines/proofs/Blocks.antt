@@ -34,7 +34,8 @@ use Rattle.mesh.specs.declared.Counted.the-variants as counted
 use Rattle.mesh.specs.Answer.{sizeOf, vertexCount, quadCount, countsOf, meshVerdict, written, Meshed}
 use Rattle.mesh.proofs.RoomRows.{roomy}
 use Rattle.mesh.proofs.Tallies.{quads-all-length}
-use Rattle.reading.specs.Input.{sampleRead, samplesRead}
+use Rattle.reading.specs.Input.{samplesRead}
+use Rattle.reading.specs.Steps.{sampleRead}
 use Rattle.lines.specs.Output.{refusalLine, meshText, blockText, printed}
 use Rattle.lines.specs.Steps.{Numbers, Readable}
 use Rattle.reading.proofs.Axes.{AtMostEight, at-most-eight}

@@ -8,7 +8,6 @@ use native.Mathlib.Omega.{arith}
 use lib.ListN.{length, take}
 use lib.Seq.{length-take-le}
 use Rattle.laws.specs.Fixed.{Fixes}
-use Rattle.laws.specs.Leading.{leading}
 use Rattle.block.specs.declared.Cut.{Cut}
 use Rattle.block.specs.declared.Size.{Size}
 use Rattle.block.specs.declared.Refusal.{Refusal}
@@ -21,7 +20,7 @@ use Rattle.cube_rule.specs.Decider.{loopsOf}
 use Rattle.mesh_rule.proofs.Small.{few-vertices, few-quads}
 use Rattle.mesh_rule.specs.Buffers.{meshWords, meshOffsets, meshQuads}
 use Rattle.mesh.specs.Answer.{sizeOf, vertexCount, quadCount}
-use Rattle.reading.specs.Text.{digits, numberAt, rightBytes}
+use Rattle.reading.specs.Text.{digits, numberAt, lineRight}
 use Rattle.reading.specs.Input.{firstLineRow, largeRow, sizeRead, cutRead, samplesRead, earlyRows, inputVerdict}
 use Rattle.lines.specs.Output.{refusalLine, blockText, printed, outputOf, Ran}
 use Rattle.lines.specs.Steps.{Put, Readable}
@@ -97,18 +96,12 @@ ran bytes {out} {text} {out′} {r} room p e =
       (in-out, sym (length-take-le r out′ in-out)),
     )
 
--- an answer of `run` with its buffer at exit
-pub record Written : Type 0 where
-  pub count : ℕ
-  pub out : List ℕ
-
--- any two outcomes that the promise of `run` allows are equal
-pub run-fixed : (bytes out : List ℕ) → Fixes (λ (x : Written). Ran bytes out (x .count) (x .out))
-run-fixed bytes out a b p q =
-    ap₂ (λ (n : ℕ) (l : List ℕ). record { count = n; out = l }) (p .count ∙ sym (q .count)) (p .text ∙ sym (q .text))
+-- any two outcomes that the promise of `run` allows, its answer and its buffer at exit, are equal
+pub run-fixed : (bytes out : List ℕ) → Fixes (λ (x : ℕ × List ℕ). Ran bytes out (x .0) (x .1))
+run-fixed bytes out a b p q = ap₂ (λ (n : ℕ) (l : List ℕ). (n, l)) (p .count ∙ sym (q .count)) (p .text ∙ sym (q .text))
 
 -- ---- the paper's example
 
 pub empty-input : outputOf [] ≡ refusalLine (record { number = 8; value = 1 })
-unfolding outputOf printed inOrder rightBytes leading digits lowest
+unfolding outputOf printed inOrder lineRight digits lowest
 empty-input = refl

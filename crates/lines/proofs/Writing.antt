@@ -10,7 +10,8 @@ use lib.ListN.{length, set, length-append}
 use lib.Pow.{shr-shr}
 use Rattle.laws.proofs.Stores.{sets-join, sets-length, sets-over}
 use Rattle.laws.specs.Below.{over}
-use Rattle.reading.specs.Text.{glyph, hexOf}
+use Rattle.reading.specs.Text.{hexOf}
+use Rattle.reading.specs.Steps.{glyph}
 use Rattle.lines.specs.Steps.{Put}
 
 pub put-none : (out : List ℕ) (at : ℕ) → Put out at [] out at

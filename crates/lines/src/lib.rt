@@ -14,13 +14,13 @@ ghost use lib.Ieee.{Float, isNan};
 ghost use Rattle.laws.specs.Below.{below};
 ghost use Rattle.block.specs.Rows.{ceilingRow};
 ghost use Rattle.reading.specs.Text.{hexOf, LF};
-ghost use Rattle.reading.specs.Text.{glyph as glyphOf};
+ghost use Rattle.reading.specs.Steps.{glyph as glyphOf};
 ghost use Rattle.reading.specs.Input.{samplesRead};
 ghost use Rattle.closed.specs.Closed.{findingOf};
 ghost use Rattle.mesh.specs.Answer.{sizeOf};
 ghost use Rattle.block.specs.Grey.{SixteenBit};
-ghost use Rattle.lines.specs.Output.{refusalLine, headLine, vertexLine, quadLine, vertexLineOf, quadLineOf, closedField, meshText, blockText, printed, Ran};
-ghost use Rattle.lines.specs.Steps.{Put, Numbers, Readable};
+ghost use Rattle.lines.specs.Output.{refusalLine, headLine, vertexLine, quadLine, closedField, meshText, blockText, printed, Ran};
+ghost use Rattle.lines.specs.Steps.{Put, Numbers, Readable, vertexFields, quadFields};
 
 // The longest output: a head line, four vertices in each of 7·7·7 cubes, and a quad for each of 3·7·6·6 inner edges.
 pub const ROOM: usize = 112917;
@@ -101,7 +101,7 @@ fn put_head(out: &mut [u8], vertices: u32, quads: u32, closed: u32) -> usize
 fn put_vertex(out: &mut [u8], at: usize, cube: u32, word: u32, x: f64, y: f64, z: f64) -> usize
     requires { ⌜ T (not (isNan x)) × T (not (isNan y)) × T (not (isNan z)) ⌝ }
     requires { ⌜ at + 63 ≤ length (now out) ⌝ }
-    ensures { λ r. ⌜ Put (now (out .entry)) at (vertexLine cube word x y z) (now (out .exit)) r ⌝ }
+    ensures { λ r. ⌜ Put (now (out .entry)) at (vertexFields cube word x y z) (now (out .exit)) r ⌝ }
     ensures { λ r. ⌜ r ≡ at + 63 ⌝ }
 {
     let a = put_hex(out, at, 2, 1);
@@ -116,7 +116,7 @@ fn put_vertex(out: &mut [u8], at: usize, cube: u32, word: u32, x: f64, y: f64, z
 // The line of a quad.
 fn put_quad(out: &mut [u8], at: usize, v0: u32, v1: u32, v2: u32, v3: u32) -> usize
     requires { ⌜ at + 35 ≤ length (now out) ⌝ }
-    ensures { λ r. ⌜ Put (now (out .entry)) at (quadLine v0 v1 v2 v3) (now (out .exit)) r ⌝ }
+    ensures { λ r. ⌜ Put (now (out .entry)) at (quadFields v0 v1 v2 v3) (now (out .exit)) r ⌝ }
     ensures { λ r. ⌜ r ≡ at + 35 ⌝ }
 {
     let a = put_hex(out, at, 2, 2);
@@ -131,7 +131,7 @@ fn put_quad(out: &mut [u8], at: usize, v0: u32, v1: u32, v2: u32, v3: u32) -> us
 fn put_vertices(out: &mut [u8], at: usize, words: &[u32], offsets: &[f64], count: usize) -> usize
     requires { ⌜ (2 * count ≤ length (now words)) × (3 * count ≤ length (now offsets)) × (at + 63 * count ≤ length (now out)) × (count ≤ 1372) ⌝ }
     requires { ⌜ Numbers (now offsets) ⌝ }
-    ensures { λ r. ⌜ Put (now (out .entry)) at (below (vertexLineOf (now (words .entry)) (now (offsets .entry))) count) (now (out .exit)) r ⌝ }
+    ensures { λ r. ⌜ Put (now (out .entry)) at (below (vertexLine (now (words .entry)) (now (offsets .entry))) count) (now (out .exit)) r ⌝ }
     ensures { λ r. ⌜ r ≡ at + 63 * count ⌝ }
 {
     let mut next = at;
@@ -156,7 +156,7 @@ fn put_vertices(out: &mut [u8], at: usize, words: &[u32], offsets: &[f64], count
 // The lines of all quads.
 fn put_quads(out: &mut [u8], at: usize, quads: &[u32], count: usize) -> usize
     requires { ⌜ (4 * count ≤ length (now quads)) × (at + 35 * count ≤ length (now out)) × (count ≤ 756) ⌝ }
-    ensures { λ r. ⌜ Put (now (out .entry)) at (below (quadLineOf (now (quads .entry))) count) (now (out .exit)) r ⌝ }
+    ensures { λ r. ⌜ Put (now (out .entry)) at (below (quadLine (now (quads .entry))) count) (now (out .exit)) r ⌝ }
     ensures { λ r. ⌜ r ≡ at + 35 * count ⌝ }
 {
     let mut next = at;
