@@ -62,9 +62,13 @@ add-result-3 c = search needs
 
 returns : tie.Need-returns
 returns c =
-    number-read (c .before .before .before .before .before .before .before .before .before .args .input .now) _ _ _ _ _ _ _ _ _
-    (c .before .before .before .before .before .before .before .read-at .ensures .0) (c .before .before .before .before .before .read-at2 .ensures .0) (c .before .before .before .read-at3 .ensures .0) (c .before .read-at4 .ensures .0)
-    (c .before .before .before .before .before .before .digit .ensures .0) (c .before .before .before .before .digit2 .ensures .0) (c .before .before .digit3 .ensures .0) (c .digit4 .ensures .0)
+    let fourth = c .before in
+    let third = fourth .before .before in
+    let second = third .before .before in
+    let first = second .before .before in
+    number-read (first .before .before .args .input .now) _ _ _ _ _ _ _ _ _
+    (first .read-at .ensures .0) (second .read-at2 .ensures .0) (third .read-at3 .ensures .0) (fourth .read-at4 .ensures .0)
+    (second .before .digit .ensures .0) (third .before .digit2 .ensures .0) (fourth .before .digit3 .ensures .0) (c .digit4 .ensures .0)
 
 pub number-spec : {M : Type 1} → statement M
 number-spec =
