@@ -44,6 +44,13 @@ same-neither a b c d f t = go (eqb a c) (eqb b d) (eqb a d) (eqb b c) (λ x y. f
     go false y true false f t = refl
     go false y false w f t = refl
 
+-- a side by its ends and its uses
+pub equal-ends : (a b uses : ℕ) → a ≡ b → false ≡ soundSide a b uses
+equal-ends a b uses e = simp (eq-eqb a b e)
+
+pub other-ends : (a b uses : ℕ) → (a ≡ b → ⊥) → eqb uses 2 ≡ soundSide a b uses
+other-ends a b uses h = simp (ne-eqb a b h)
+
 pub uses-none : (quads : List ℕ) (a b : ℕ) → 0 ≡ usesBefore quads a b 0
 unfolding count
 uses-none quads a b = refl
