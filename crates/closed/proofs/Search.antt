@@ -10,13 +10,14 @@ use lib.Dec.{eqb}
 use lib.ListN.{length, getD}
 use borrow.Author.Tests.{eqb-true, eq-eqb, ne-eqb}
 use Rattle.laws.specs.Bits.{bit}
-use Rattle.laws.specs.Pack.{total}
+use Rattle.laws.specs.Counting.{count}
 use Rattle.laws.specs.Leading.{leading}
 use Rattle.laws.proofs.Leading.{HoldsTo, leading-at, leading-all}
 use Rattle.block.specs.Answer.{accepted, inOrder, decided, judged}
 use Rattle.block.proofs.Rows.{given-small}
 use Rattle.closed.specs.declared.Closure.the-variants.{Refused}
-use Rattle.closed.specs.Closed.{nextPlace, sameSide, usesBefore, soundSide, sideSound, Finding, allSound, openAt, findingOf, lengthRow, ClosedAnswered}
+use Rattle.closed.specs.Closed.{sameSide, sideSound, Finding, allSound, openAt, findingOf, lengthRow, ClosedAnswered}
+use Rattle.closed.specs.Steps.{nextPlace, usesBefore, soundSide}
 
 -- ---- two sides, and a side with its uses
 
@@ -43,15 +44,22 @@ same-neither a b c d f t = go (eqb a c) (eqb b d) (eqb a d) (eqb b c) (λ x y. f
     go false y true false f t = refl
     go false y false w f t = refl
 
+-- a side by its ends and its uses
+pub equal-ends : (a b uses : ℕ) → a ≡ b → false ≡ soundSide a b uses
+equal-ends a b uses e = simp (eq-eqb a b e)
+
+pub other-ends : (a b uses : ℕ) → (a ≡ b → ⊥) → eqb uses 2 ≡ soundSide a b uses
+other-ends a b uses h = simp (ne-eqb a b h)
+
 pub uses-none : (quads : List ℕ) (a b : ℕ) → 0 ≡ usesBefore quads a b 0
-unfolding total
+unfolding count
 uses-none quads a b = refl
 
 -- side m ends at the vertex in place f
 pub uses-more : (quads : List ℕ) (a b used m f s : ℕ) → used ≡ usesBefore quads a b m → f ≡ nextPlace m
     → s ≡ bit (sameSide a b (getD quads m 0) (getD quads f 0)) → used + s ≡ usesBefore quads a b (m + 1)
-unfolding total
-uses-more quads a b used m f s u g h = rw (add-one m, ← g, ← h, ← u) (omega arith)
+unfolding count
+uses-more quads a b used m f s u g h = rw (add-one m, ← g, ← h, ← u)
 
 -- what is answered of side n, which ends at the vertex in place e, when all uses are counted
 pub side-judged : (quads : List ℕ) (n e used m : ℕ) (r : Bool) → e ≡ nextPlace n → length quads ≤ m → m ≤ length quads

@@ -4,7 +4,8 @@ use block::Refusal;
 ghost use mathlib.Core.Path.{_≡_};
 ghost use Prim.Native.Nat.{_≤_, _<_};
 ghost use Rattle.laws.specs.Bits.{bit};
-ghost use Rattle.closed.specs.Closed.{nextPlace, sameSide, soundSide, ClosedAnswered};
+ghost use Rattle.closed.specs.Closed.{sameSide, ClosedAnswered};
+ghost use Rattle.closed.specs.Steps.{nextPlace, soundSide};
 
 // What the closed question answers: closed, or open at a side of a quad, both counted from 0.
 pub enum Closure {

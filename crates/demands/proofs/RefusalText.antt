@@ -8,10 +8,9 @@ use lib.ListN.{length, getD, drop}
 use lib.Ieee.{Float}
 use Rattle.laws.specs.Below.{over}
 use Rattle.block.specs.declared.Refusal.{Refusal}
-use Rattle.lines.specs.Text.{digits, numberAt, hexOf, LF}
+use Rattle.reading.specs.Text.{digits, numberAt, hexOf, LF}
 use Rattle.lines.specs.Output.{refusalLine, headLine, meshText, Prints}
-use Rattle.lines.proofs.Rules.{number-back}
-use Rattle.lines.proofs.Writing.{hex-length}
+use Rattle.reading.proofs.Rules.{hex-length, number-back}
 
 -- ---- the first byte
 

@@ -17,7 +17,7 @@ use Rattle.block.specs.declared.Size.{Size}
 use Rattle.block.specs.declared.Refusal.{Refusal}
 use Rattle.block.specs.declared.Checked.{Checked}
 use Rattle.block.specs.declared.Checked.the-variants.{Passes, Refuses}
-use Rattle.block.specs.Answer.{accepted, refused, inOrder, judged}
+use Rattle.block.specs.Answer.{inOrder}
 use Rattle.block.specs.Numbering.{sampleCount}
 use Rattle.block.specs.Rows.{axisRow, countRow, thresholdRow, ceilingRow}
 use Rattle.block.proofs.Order.{order-passes}
@@ -34,11 +34,13 @@ use Rattle.mesh.specs.declared.Counted.the-variants as counted
 use Rattle.mesh.specs.Answer.{sizeOf, vertexCount, quadCount, countsOf, meshVerdict, written, Meshed}
 use Rattle.mesh.proofs.RoomRows.{roomy}
 use Rattle.mesh.proofs.Tallies.{quads-all-length}
-use Rattle.lines.specs.Input.{sampleRead, samplesRead}
+use Rattle.reading.specs.Input.{samplesRead}
+use Rattle.reading.specs.Steps.{sampleRead}
 use Rattle.lines.specs.Output.{refusalLine, meshText, blockText, printed}
 use Rattle.lines.specs.Steps.{Numbers, Readable}
-use Rattle.lines.proofs.Axes.{AtMostEight, at-most-eight}
-use Rattle.lines.proofs.Reading.{number-small}
+use Rattle.reading.proofs.Axes.{AtMostEight, at-most-eight}
+use Rattle.reading.proofs.Reading.{number-small}
+use Rattle.reading.proofs.Verdicts.{refused-by, accepted-by}
 
 -- ---- the front of a buffer
 
@@ -74,16 +76,6 @@ ceiling-decides : (k : Checked) (ks : List Checked) → inOrder ks ≡ Passes �
 unfolding inOrder
 ceiling-decides Passes ks e = e
 ceiling-decides (Refuses r) ks e = refl
-
-refused-by : {A : Type 0} (k : Checked) (a : A) (r : Refusal) → refused r ≡ judged k a → k ≡ Refuses r
-unfolding judged
-refused-by Passes a r e = let z : _≡_ {A = ℕ} 0 1 = cc in absurd (omega arith)
-refused-by (Refuses q) a r e = cc
-
-accepted-by : {A : Type 0} (k : Checked) (a b : A) → accepted b ≡ judged k a → (k ≡ Passes) × (b ≡ a)
-unfolding judged
-accepted-by Passes a b e = (refl, cc)
-accepted-by (Refuses q) a b e = let z : _≡_ {A = ℕ} 0 1 = cc in absurd (omega arith)
 
 written-front : {A : Type 0} (k : Checked) (xs b c : List A) (m : ℕ) → k ≡ Passes → c ≡ written k xs b → length xs ≡ m → take m c ≡ xs
 unfolding written

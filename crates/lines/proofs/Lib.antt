@@ -1,10 +1,6 @@
-pub mod Digits
-pub mod Reading
-pub mod Axes
 pub mod Writing
 pub mod Texts
 pub mod Closing
 pub mod Blocks
 pub mod Outputs
 pub mod Prefix
-pub mod Rules

@@ -1,8 +1,8 @@
--- The program's output by the verdict on its input: it fits into 112,917 bytes, and the promise of `run` fixes what it answers.
--- Assumes nothing.
-use Prim.Native.Nat.{ℕ, _*_, _≤_}
+-- The program's output by the verdict on its input: it fits into 112,917 bytes, the promise of `run` fixes what it answers, and the paper's
+-- empty input. Assumes nothing.
+use Prim.Native.Nat.{ℕ, _≤_}
 use mathlib.Core.Path.{_≡_, refl, sym, ap, ap₂, _∙_}
-use mathlib.Core.List.{List, [], _∷_}
+use mathlib.Core.List.{List, [], _∷_, _++_}
 use native.Mathlib.Nat.{zero-add}
 use native.Mathlib.Omega.{arith}
 use lib.ListN.{length, take}
@@ -14,32 +14,28 @@ use Rattle.block.specs.declared.Refusal.{Refusal}
 use Rattle.block.specs.declared.Checked.{Checked}
 use Rattle.block.specs.declared.Checked.the-variants.{Passes, Refuses}
 use Rattle.block.specs.Answer.{inOrder}
-use Rattle.block.specs.Rows.{axisRow, thresholdRow, ceilingRow}
+use Rattle.block.specs.Rows.{lowest, axisRow, ceilingRow}
 use Rattle.block.proofs.Order.{order-first, order-rest, order-last, orders-refuse, orders-pass}
 use Rattle.cube_rule.specs.Decider.{loopsOf}
 use Rattle.mesh_rule.proofs.Small.{few-vertices, few-quads}
 use Rattle.mesh_rule.specs.Buffers.{meshWords, meshOffsets, meshQuads}
 use Rattle.mesh.specs.Answer.{sizeOf, vertexCount, quadCount}
-use Rattle.lines.specs.Text.{numberAt}
-use Rattle.lines.specs.Input.{firstLineRow, linesRow, largeRow, sizeRead, cutRead, samplesRead, inputVerdict, verdictOn}
+use Rattle.reading.specs.Text.{digits, numberAt, lineRight}
+use Rattle.reading.specs.Input.{firstLineRow, largeRow, sizeRead, cutRead, samplesRead, earlyRows, inputVerdict}
 use Rattle.lines.specs.Output.{refusalLine, blockText, printed, outputOf, Ran}
 use Rattle.lines.specs.Steps.{Put, Readable}
-use Rattle.lines.proofs.Axes.{AtMostEight, at-most-eight}
+use Rattle.reading.proofs.Axes.{AtMostEight, at-most-eight}
 use Rattle.lines.proofs.Texts.{refusal-length, mesh-length}
 use Rattle.lines.proofs.Writing.{put-over, put-length}
 
 -- ---- by the verdict
-
--- the rows that are tried before the samples are looked at
-abbrev pub linesFirst : List ℕ → ℕ → ℕ → ℕ → ℕ → List Checked
-linesFirst bytes nx ny nz t = firstLineRow bytes ∷ axisRow nx ny nz ∷ largeRow nx ny nz ∷ thresholdRow (record { t = t }) ∷ linesRow bytes nx (ny * nz) ∷ []
 
 -- what is written for an input with these numbers in line 1
 abbrev textFor : List ℕ → Size → Cut → List ℕ
 textFor bytes n cut = blockText n (samplesRead bytes n) cut
 
 abbrev outputFor : List ℕ → Size → Cut → List ℕ
-outputFor bytes n cut = printed (verdictOn bytes n cut (samplesRead bytes n)) (textFor bytes n cut)
+outputFor bytes n cut = printed (inOrder (earlyRows bytes n cut ++ ceilingRow (samplesRead bytes n) ∷ [])) (textFor bytes n cut)
 
 output-for : (bytes : List ℕ) (nx ny nz t : ℕ) → nx ≡ numberAt bytes 0 4 → ny ≡ numberAt bytes 4 4 → nz ≡ numberAt bytes 8 4 → t ≡ numberAt bytes 12 4
     → outputOf bytes ≡ outputFor bytes (sizeOf nx ny nz) (record { t = t })
@@ -48,22 +44,22 @@ output-for bytes nx ny nz t ex ey ez et = rw (ex, ey, ez, et)
 
 module _ (bytes : List ℕ) (nx ny nz t : ℕ) (ex : nx ≡ numberAt bytes 0 4) (ey : ny ≡ numberAt bytes 4 4) (ez : nz ≡ numberAt bytes 8 4) (et : t ≡ numberAt bytes 12 4) where
   -- a row before row 4 refuses
-  pub output-refused : (r : Refusal) → inOrder (linesFirst bytes nx ny nz t) ≡ Refuses r → refusalLine r ≡ outputOf bytes
+  pub output-refused : (r : Refusal) → inOrder (earlyRows bytes (sizeOf nx ny nz) (record { t = t })) ≡ Refuses r → refusalLine r ≡ outputOf bytes
   unfolding printed
   output-refused r e =
       sym (output-for bytes nx ny nz t ex ey ez et
       ∙ ap (λ (k : Checked). printed k (textFor bytes (sizeOf nx ny nz) (record { t = t })))
-      (orders-refuse (linesFirst bytes nx ny nz t) (ceilingRow (samplesRead bytes (sizeOf nx ny nz)) ∷ []) r e))
+      (orders-refuse (earlyRows bytes (sizeOf nx ny nz) (record { t = t })) (ceilingRow (samplesRead bytes (sizeOf nx ny nz)) ∷ []) r e))
 
   -- none does, and row 4 decides
-  pub output-block : inOrder (linesFirst bytes nx ny nz t) ≡ Passes
+  pub output-block : inOrder (earlyRows bytes (sizeOf nx ny nz) (record { t = t })) ≡ Passes
       → printed (ceilingRow (samplesRead bytes (sizeOf nx ny nz))) (textFor bytes (sizeOf nx ny nz) (record { t = t })) ≡ outputOf bytes
   output-block e =
       sym (output-for bytes nx ny nz t ex ey ez et
       ∙ ap (λ (k : Checked). printed k (textFor bytes (sizeOf nx ny nz) (record { t = t })))
-      (orders-pass (linesFirst bytes nx ny nz t) (ceilingRow (samplesRead bytes (sizeOf nx ny nz)) ∷ []) e ∙ order-last _))
+      (orders-pass (earlyRows bytes (sizeOf nx ny nz) (record { t = t })) (ceilingRow (samplesRead bytes (sizeOf nx ny nz)) ∷ []) e ∙ order-last _))
 
-  pub readable : inOrder (linesFirst bytes nx ny nz t) ≡ Passes → Readable nx ny nz t
+  pub readable : inOrder (earlyRows bytes (sizeOf nx ny nz) (record { t = t })) ≡ Passes → Readable nx ny nz t
   readable e =
       let a = order-rest (firstLineRow bytes) _ e in
       let l = order-rest (axisRow nx ny nz) _ a in
@@ -100,12 +96,12 @@ ran bytes {out} {text} {out′} {r} room p e =
       (in-out, sym (length-take-le r out′ in-out)),
     )
 
--- an answer of `run` with its buffer at exit
-pub record Written : Type 0 where
-  pub count : ℕ
-  pub out : List ℕ
+-- any two outcomes that the promise of `run` allows, its answer and its buffer at exit, are equal
+pub run-fixed : (bytes out : List ℕ) → Fixes (λ (x : ℕ × List ℕ). Ran bytes out (x .0) (x .1))
+run-fixed bytes out a b p q = ap₂ (λ (n : ℕ) (l : List ℕ). (n, l)) (p .count ∙ sym (q .count)) (p .text ∙ sym (q .text))
 
--- any two outcomes that the promise of `run` allows are equal
-pub run-fixed : (bytes out : List ℕ) → Fixes (λ (x : Written). Ran bytes out (x .count) (x .out))
-run-fixed bytes out a b p q =
-    ap₂ (λ (n : ℕ) (l : List ℕ). record { count = n; out = l }) (p .count ∙ sym (q .count)) (p .text ∙ sym (q .text))
+-- ---- the paper's example
+
+pub empty-input : outputOf [] ≡ refusalLine (record { number = 8; value = 1 })
+unfolding outputOf printed inOrder lineRight digits lowest
+empty-input = refl

@@ -3,8 +3,8 @@
 use Prim.Native.Nat.{ℕ, zero, suc, _+_, _*_, _/_, _%_, _≤_, _<_}
 use mathlib.Core.Path.{_≡_, refl, sym, ap, ap₂, _∙_}
 use mathlib.Core.Logic.{_⊎_, inl, inr}
-use mathlib.Core.Bool.{Bool, cond}
-use mathlib.Core.List.{List, [], _∷_}
+use mathlib.Core.Bool.{Bool, cond, _&&_}
+use mathlib.Core.List.{List, [], _∷_, _++_}
 use native.Mathlib.Nat.{mul-le-mul, div-lt-iff-lt-mul, mod-lt, zero-mul, not-suc-le-zero, mul-comm}
 use native.Mathlib.Omega.{arith}
 use lib.Dec.{eqb}
@@ -20,12 +20,13 @@ use Rattle.block.specs.declared.Checked.{Checked}
 use Rattle.block.specs.declared.Checked.the-variants.{Passes, Refuses}
 use Rattle.block.specs.Answer.{inOrder, refuses}
 use Rattle.block.specs.Numbering.{sampleCount}
-use Rattle.block.specs.Rows.{axisRow}
-use Rattle.lines.specs.Text.{ended, readAt, digitOf, numberAt, rightByte, rightBytes, lineRight}
-use Rattle.lines.specs.Input.{rowPlace, lineThere, rightLines, firstLineRow, linesRow, largeRow, sampleRead, samplesRead, sizeRead, cutRead, verdictOn}
+use Rattle.block.specs.Rows.{axisRow, ceilingRow}
+use Rattle.reading.specs.Text.{LF, ended, readAt, digitOf, isDigit, numberAt, lineRight}
+use Rattle.reading.specs.Input.{rowPlace, lineThere, rightLines, firstLineRow, linesRow, largeRow, samplesRead, sizeRead, cutRead, earlyRows}
 use Rattle.lines.specs.Output.{blockText, printed, outputOf}
-use Rattle.lines.proofs.Axes.{at-most-eight}
-use Rattle.lines.proofs.Reading.{rows-small, there-row, there-end}
+use Rattle.reading.specs.Steps.{sampleRead}
+use Rattle.reading.proofs.Axes.{at-most-eight}
+use Rattle.reading.proofs.Reading.{rows-small, there-row, there-end}
 
 -- a row of at most 8 samples and its LF, of at most 64 rows
 row-inside : (nx j : ℕ) → nx ≤ 8 → j < 64 → rowPlace nx j + 4 * nx ≤ 2128
@@ -72,11 +73,9 @@ module _ (bytes : List ℕ) (B : ℕ) where
       ap₂ (λ (a b : ℕ). a * 16 + digitOf b % 16) (same-number p k (omega arith)) (same-read (p + k) (omega arith))
 
   same-line : (p n : ℕ) → p + n < B → lineRight first p n ≡ lineRight bytes p n
-  unfolding rightBytes
-  same-line p n h =
-      ap (λ (k : ℕ). eqb k (n + 1))
-      (leading-same (λ (c : ℕ). rightByte n c (readAt first (p + c))) (λ (c : ℕ). rightByte n c (readAt bytes (p + c))) (n + 1)
-      (λ c l. ap (rightByte n c) (same-read (p + c) (omega arith))))
+  unfolding lineRight
+  same-line p zero h = ap (λ (b : ℕ). eqb b LF) (same-read p (omega arith))
+  same-line p (suc n) h = ap₂ (λ (a b : Bool). a && b) (ap isDigit (same-read p (omega arith))) (same-line (p + 1) n (omega arith))
 
   module _ (room : 2130 ≤ B) where
     -- lines of at most 32 digits, at most 64 of them, and the end behind them
@@ -113,8 +112,8 @@ module _ (bytes : List ℕ) (B : ℕ) where
 
     -- the verdict, and the text where it passes
     same-output : (n : Size) (cut : Cut) (k : Checked) → largeRow (n .nx) (n .ny) (n .nz) ≡ k
-        → printed (verdictOn first n cut (samplesRead first n)) (blockText n (samplesRead first n) cut)
-        ≡ printed (verdictOn bytes n cut (samplesRead bytes n)) (blockText n (samplesRead bytes n) cut)
+        → printed (inOrder (earlyRows first n cut ++ ceilingRow (samplesRead first n) ∷ [])) (blockText n (samplesRead first n) cut)
+        ≡ printed (inOrder (earlyRows bytes n cut ++ ceilingRow (samplesRead bytes n) ∷ [])) (blockText n (samplesRead bytes n) cut)
     same-output n cut Passes e =
         let h = at-most-eight (n .nx) (n .ny) (n .nz) e in
         rw (same-first, same-lines (n .nx) (n .ny * n .nz) (h .x) (h .rows), same-samples n (h .x) (h .rows))

@@ -10,7 +10,8 @@ use lib.ListN.{length, set, length-append}
 use lib.Pow.{shr-shr}
 use Rattle.laws.proofs.Stores.{sets-join, sets-length, sets-over}
 use Rattle.laws.specs.Below.{over}
-use Rattle.lines.specs.Text.{glyph, hexOf}
+use Rattle.reading.specs.Text.{hexOf}
+use Rattle.reading.specs.Steps.{glyph}
 use Rattle.lines.specs.Steps.{Put}
 
 pub put-none : (out : List ℕ) (at : ℕ) → Put out at [] out at
@@ -35,11 +36,6 @@ pub put-over : {out xs out′ next : _} → Put out 0 xs out′ next → length 
 put-over {out} {xs} {out′} {next} p h = p .stored ∙ sets-over out xs h
 
 -- ---- digits
-
-pub hex-length : (k v : ℕ) → length (hexOf k v) ≡ k
-unfolding hexOf
-hex-length zero v = refl
-hex-length (suc k) v = length-append (hexOf k (v / 16)) _ ∙ rw (hex-length k (v / 16)) (add-one k)
 
 -- the digits of v that stand above the last `left` bits, and one more of them
 pub hex-more : (v left i : ℕ) → hexOf i (v / 2 ^ (left + 4)) ++ glyph (v / 2 ^ left % 16) ∷ [] ≡ hexOf (i + 1) (v / 2 ^ left)

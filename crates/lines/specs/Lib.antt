@@ -1,4 +1,2 @@
-pub mod Text
-pub mod Input
 pub mod Output
 pub mod Steps

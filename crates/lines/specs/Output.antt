@@ -1,5 +1,4 @@
 -- What the program writes, as a list of bytes, and the promise of `run` (document 01, "The program").
--- Assumes nothing.
 use Prim.Native.Nat.{ℕ, _+_, _*_}
 use mathlib.Core.Path.{_≡_}
 use mathlib.Core.List.{List, [], _∷_, _++_}
@@ -15,8 +14,8 @@ use Rattle.cube_rule.specs.Decider.{loopsOf}
 use Rattle.mesh_rule.specs.Buffers.{meshWords, meshOffsets, meshQuads}
 use Rattle.mesh.specs.Answer.{vertexCount, quadCount}
 use Rattle.closed.specs.Closed.{Finding, allSound, openAt, findingOf}
-use Rattle.lines.specs.Text.{LF, hexOf}
-use Rattle.lines.specs.Input.{sizeRead, cutRead, samplesRead, inputVerdict}
+use Rattle.reading.specs.Text.{LF, hexOf}
+use Rattle.reading.specs.Input.{sizeRead, cutRead, samplesRead, inputVerdict}
 
 -- "A refusal prints one line: FF, number (2 digits), value (8)."
 unfoldable pub refusalLine : Refusal → List ℕ
@@ -31,27 +30,21 @@ closedField (openAt q s) = 0
 unfoldable pub headLine : ℕ → ℕ → ℕ → List ℕ
 headLine vertices quads closed = hexOf 2 0 ++ hexOf 8 vertices ++ hexOf 8 quads ++ hexOf 2 closed ++ LF ∷ []
 
--- "01, cube (8), mask (4), three offsets as f64 bits (16 each)"
-unfoldable pub vertexLine : ℕ → ℕ → Float → Float → Float → List ℕ
-vertexLine cube word x y z =
-    hexOf 2 1 ++ hexOf 8 cube ++ hexOf 4 word ++ hexOf 16 (toBits binary64 x) ++ hexOf 16 (toBits binary64 y) ++ hexOf 16 (toBits binary64 z) ++ LF ∷ []
+-- "01, cube (8), mask (4), three offsets as f64 bits (16 each)": the vertex v of a mesh, as its buffers hold it
+unfoldable pub vertexLine : List ℕ → List Float → ℕ → List ℕ
+vertexLine words offsets v =
+    hexOf 2 1 ++ hexOf 8 (getD words (2 * v) 0) ++ hexOf 4 (getD words (2 * v + 1) 0) ++ hexOf 16 (toBits binary64 (getD offsets (3 * v) nan))
+    ++ hexOf 16 (toBits binary64 (getD offsets (3 * v + 1) nan)) ++ hexOf 16 (toBits binary64 (getD offsets (3 * v + 2) nan)) ++ LF ∷ []
 
--- "02 and four vertex numbers (8 each)"
-unfoldable pub quadLine : ℕ → ℕ → ℕ → ℕ → List ℕ
-quadLine a b c d = hexOf 2 2 ++ hexOf 8 a ++ hexOf 8 b ++ hexOf 8 c ++ hexOf 8 d ++ LF ∷ []
-
--- the lines of the vertex v and of the quad q of a mesh, as its buffers hold it
-abbrev pub vertexLineOf : List ℕ → List Float → ℕ → List ℕ
-vertexLineOf words offsets v =
-    vertexLine (getD words (2 * v) 0) (getD words (2 * v + 1) 0) (getD offsets (3 * v) nan) (getD offsets (3 * v + 1) nan) (getD offsets (3 * v + 2) nan)
-
-abbrev pub quadLineOf : List ℕ → ℕ → List ℕ
-quadLineOf quads q = quadLine (getD quads (4 * q) 0) (getD quads (4 * q + 1) 0) (getD quads (4 * q + 2) 0) (getD quads (4 * q + 3) 0)
+-- "02 and four vertex numbers (8 each)": the quad q
+unfoldable pub quadLine : List ℕ → ℕ → List ℕ
+quadLine quads q =
+    hexOf 2 2 ++ hexOf 8 (getD quads (4 * q) 0) ++ hexOf 8 (getD quads (4 * q + 1) 0) ++ hexOf 8 (getD quads (4 * q + 2) 0) ++ hexOf 8 (getD quads (4 * q + 3) 0) ++ LF ∷ []
 
 -- a mesh of v vertices and q quads
 unfoldable pub meshText : ℕ → ℕ → List ℕ → List Float → List ℕ → List ℕ
 meshText v q words offsets quads =
-    headLine v q (closedField (findingOf quads)) ++ below (vertexLineOf words offsets) v ++ below (quadLineOf quads) q
+    headLine v q (closedField (findingOf quads)) ++ below (vertexLine words offsets) v ++ below (quadLine quads) q
 
 -- the mesh of a block
 abbrev pub blockText : Size → List ℕ → Cut → List ℕ

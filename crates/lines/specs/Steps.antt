@@ -3,14 +3,15 @@
 use Prim.Native.Nat.{ℕ, _+_, _<_}
 use mathlib.Core.Path.{_≡_}
 use mathlib.Core.Bool.{not}
-use mathlib.Core.List.{List}
+use mathlib.Core.List.{List, [], _∷_, _++_}
 use lib.Dec.{T}
-use lib.Ieee.{Float, isNan, nan}
+use lib.Ieee.{Float, isNan, nan, toBits, binary64}
 use lib.ListN.{length, getD}
 use lib.Seq.{sets}
 use Rattle.block.specs.declared.Checked.the-variants.{Passes}
 use Rattle.block.specs.Rows.{axisRow, thresholdRow}
-use Rattle.lines.specs.Input.{largeRow}
+use Rattle.reading.specs.Text.{LF, hexOf}
+use Rattle.reading.specs.Input.{largeRow}
 
 -- the text has been put at a place of the buffer, and the next place is behind it
 pub record Put (out : List ℕ) (at : ℕ) (text : List ℕ) (out′ : List ℕ) (next : ℕ) : Type 0 where
@@ -26,3 +27,11 @@ pub record Readable (nx ny nz t : ℕ) : Type 0 where
   pub axes : axisRow nx ny nz ≡ Passes
   pub small : largeRow nx ny nz ≡ Passes
   pub cut : thresholdRow (record { t = t }) ≡ Passes
+
+-- the line of a vertex, and of a quad, by its fields
+unfoldable pub vertexFields : ℕ → ℕ → Float → Float → Float → List ℕ
+vertexFields cube word x y z =
+    hexOf 2 1 ++ hexOf 8 cube ++ hexOf 4 word ++ hexOf 16 (toBits binary64 x) ++ hexOf 16 (toBits binary64 y) ++ hexOf 16 (toBits binary64 z) ++ LF ∷ []
+
+unfoldable pub quadFields : ℕ → ℕ → ℕ → ℕ → List ℕ
+quadFields a b c d = hexOf 2 2 ++ hexOf 8 a ++ hexOf 8 b ++ hexOf 8 c ++ hexOf 8 d ++ LF ∷ []

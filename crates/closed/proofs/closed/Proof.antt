@@ -12,7 +12,8 @@ use borrow.Author.Needs.{needs}
 use borrow.Author.Tests.{not-true, not-false}
 use lib.ListN.{length, getD}
 use Rattle.laws.proofs.Leading.{HoldsTo, holds-none, holds-more}
-use Rattle.closed.specs.Closed.{usesBefore, sideSound, allSound, openAt}
+use Rattle.closed.specs.Closed.{sideSound, allSound, openAt}
+use Rattle.closed.specs.Steps.{usesBefore}
 use Rattle.closed.proofs.Search.{uses-none, uses-more, side-judged, finding-all, finding-open, answer-refused, answer-found}
 use Rattle.closed.proofs.closed.Statement.{statement}
 use Rattle.closed.proofs.closed.Tie as tie
@@ -116,14 +117,16 @@ uses-less c = search needs
 
 uses-again : tie.Need-uses-again Inv-uses μ-uses Inv-sides μ-sides Inv-quads μ-quads
 uses-again c =
-    let quads = quads-of (c .before .before .before .before .before .before .before .before .before .before .before .before) in
-    let n = side-of (c .before .before .before .before .before .before .before .before .before .before) in
-    let uses = c .before .before .before .before .before .uses in
+    let at-uses = c .before .before .before .before .before in
+    let at-next = at-uses .before .before in
+    let at-sides = at-next .before .before .before in
+    let quads = quads-of (at-sides .before .before) in
+    let uses = at-uses .uses in
     let end = c .before .before .next2 in (
       search needs,
       search needs,
-      uses-more quads (getD quads n 0) (getD quads (c .before .before .before .before .before .before .before .next .result) 0) (uses .used) (uses .m) (end .result) (c .same .result)
-          (uses .inv .2) (end .ensures) (c .same .ensures .0),
+      uses-more quads (getD quads (side-of at-sides) 0) (getD quads (at-next .next .result) 0) (uses .used) (uses .m) (end .result) (c .same .result) (uses .inv .2) (end .ensures)
+          (c .same .ensures .0),
     )
 
 sound-requires : tie.Need-sound-requires Inv-uses μ-uses Inv-sides μ-sides Inv-quads μ-quads
@@ -137,14 +140,16 @@ sides-less c = search needs
 
 sides-again : tie.Need-sides-again Inv-uses μ-uses Inv-sides μ-sides Inv-quads μ-quads
 sides-again c =
-    let quads = quads-of (c .before .before .before .before .before .before .before .before .before .before) in
-    let sides = c .before .before .before .before .before .before .before .before in
-    let end = c .before .before .before .before .before .next in
-    let uses = c .before .before .before .uses in
-    let ok : sideSound quads (side-of sides) ≡ true =
-    side-judged quads (side-of sides) (end .result) (uses .used) (uses .m) true (end .ensures) (omega arith) (uses .inv .0) (uses .inv .2)
+    let at-uses = c .before .before .before in
+    let at-next = at-uses .before .before in
+    let at-sides = at-next .before .before .before in
+    let quads = quads-of (at-sides .before .before) in
+    let end = at-next .next in
+    let uses = at-uses .uses in
+    let ok : sideSound quads (side-of at-sides) ≡ true =
+    side-judged quads (side-of at-sides) (end .result) (uses .used) (uses .m) true (end .ensures) (omega arith) (uses .inv .0) (uses .inv .2)
     (sym (not-false _ (c .if2 .left)) ∙ c .before .sound .ensures) in
-    (search needs, rw (← add-assoc) (holds-more (sideSound quads) (side-of sides) (sides .sides .inv .1) ok))
+    (search needs, rw (← add-assoc) (holds-more (sideSound quads) (side-of at-sides) (at-sides .sides .inv .1) ok))
 
 add-quad : tie.Need-add-quad Inv-uses μ-uses Inv-sides μ-sides Inv-quads μ-quads
 add-quad c = search needs

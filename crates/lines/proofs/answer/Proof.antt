@@ -11,14 +11,14 @@ use Rattle.block.proofs.Sizes.{axes-within}
 use Rattle.block.specs.Rows.{ceilingRow}
 use Rattle.lines.specs.Output.{printed, blockText}
 use Rattle.lines.specs.Steps.{Put}
-use Rattle.lines.proofs.Axes.{at-most-eight}
+use Rattle.reading.proofs.Axes.{at-most-eight}
 use Rattle.lines.proofs.Blocks.{block-small, samples-grey, samples-front}
 use borrow.Author.Needs.{needs}
 use Rattle.lines.proofs.answer.Statement.{statement}
 use Rattle.lines.proofs.answer.Tie as tie
 use Rattle.lines.proofs.answer.Reads as reads
 use Rattle.lines.proofs.answer.Lts as lts
-use Rattle.lines.proofs.fill.Reads as fill-reads
+use Rattle.reading.proofs.fill.Reads as fill-reads
 use Rattle.lines.proofs.put_block.Reads as put-block-reads
 
 mul-count : tie.Need-mul-count
@@ -40,16 +40,22 @@ fill-requires c κs =
     (omega (arith, axes-within _ _ _ (c .before .before .before .pre .0 .axes) .x-low), e .x, s, s)
 
 array-share-prefix-samples : tie.Need-array-share-prefix-samples
-array-share-prefix-samples c = omega (arith, block-small _ _ _ (at-most-eight _ _ _ (c .before .before .before .before .before .before .pre .0 .small)), c .before .before .fill .kept)
+array-share-prefix-samples c =
+    let at-fill = c .before .before in
+    let entry = at-fill .before .before .before .before in
+    omega (arith, block-small _ _ _ (at-most-eight _ _ _ (entry .pre .0 .small)), at-fill .fill .kept)
 
 slice-aggregate-put-block : tie.Need-slice-aggregate-put-block
 slice-aggregate-put-block c =
-    sym (length-take-le _ (c .before .before .before .fill .last .1 .1 .1 .0) (omega (arith, block-small _ _ _ (at-most-eight _ _ _ (c .before .before .before .before .before .before .before .pre .0 .small)), c .before .before .before .fill .kept)))
+    let at-fill = c .before .before .before in
+    let entry = at-fill .before .before .before .before in
+    sym (length-take-le _ (at-fill .fill .last .1 .1 .1 .0) (omega (arith, block-small _ _ _ (at-most-eight _ _ _ (entry .pre .0 .small)), at-fill .fill .kept)))
 
 put-block-requires : tie.Need-put-block-requires
 put-block-requires c κs =
-    let a = c .before .before .before .before .before .before .before in
-    let f = c .before .before .before .fill in (
+    let at-fill = c .before .before .before in
+    let a = at-fill .before .before .before .before in
+    let f = at-fill .fill in (
       (
         a .pre .0,
         length-take-le _ (f .last .1 .1 .1 .0) (omega (arith, block-small _ _ _ (at-most-eight _ _ _ (a .pre .0 .small)), f .kept)),
@@ -64,10 +70,12 @@ same-length c = search needs
 
 returns : tie.Need-returns
 returns c =
-    let a = c .before .before .before .before .before .before .before .before .before .before in
+    let at-put = c .before .before in
+    let at-fill = at-put .before .before .before .before in
+    let a = at-fill .before .before .before .before in
     let n = sizeOf (a .args .nx) (a .args .ny) (a .args .nz) in
-    subst (λ (s : List ℕ). Put (a .args .out .now) 0 (printed (ceilingRow s) (blockText n s (record { t = a .args .t }))) (c .before .before .put-block .last .0) (c .before .before .put-block .result))
-    (samples-front (a .args .input .now) n _ _ (c .before .before .before .before .before .before .fill .ensures)) (c .before .before .put-block .ensures)
+    subst (λ (s : List ℕ). Put (a .args .out .now) 0 (printed (ceilingRow s) (blockText n s (record { t = a .args .t }))) (at-put .put-block .last .0) (at-put .put-block .result))
+    (samples-front (a .args .input .now) n _ _ (at-fill .fill .ensures)) (at-put .put-block .ensures)
 
 pub answer-spec : {M : Type 1} → statement M
 answer-spec =

@@ -1,6 +1,6 @@
 -- `glyph` meets its contract: a figure or a letter.
 -- Assumes nothing.
-use Rattle.lines.proofs.Digits.{glyph-low, glyph-high}
+use Rattle.reading.proofs.Digits.{glyph-low, glyph-high}
 use borrow.Author.Needs.{needs}
 use Rattle.lines.proofs.glyph.Statement.{statement}
 use Rattle.lines.proofs.glyph.Tie as tie

@@ -49,10 +49,11 @@ slice-aggregate-put-front-3 c = search needs
 
 put-front-requires : tie.Need-put-front-requires
 put-front-requires c κs =
-    let a = c .before .before .before .before .before .before .before .before .before .before .before .before .before .before .before .before in
-    let m = c .before .before .before .before .before .before .before .before .before .before in
+    let at-counted = c .before .before .before .before .before in
+    let m = at-counted .before .before .before .before .before in
+    let a = m .before .before .before .before .before .before in
     let f = accepted-front (a .args .nx) (a .args .ny) (a .args .nz) (a .args .t) (a .args .samples .now) _ _ _ _ _ _ _ (a .pre .0 .0) (a .pre .0 .1)
-    (length-replicate {A = ℕ} 2744 0) (length-replicate {A = Float} 4116 (ofBits binary64 0)) (length-replicate {A = ℕ} 3024 0) (m .mesh .ensures) _ (c .before .before .before .before .before .counted2 .given .1) (a .pre .0 .2) in (
+    (length-replicate {A = ℕ} 2744 0) (length-replicate {A = Float} 4116 (ofBits binary64 0)) (length-replicate {A = ℕ} 3024 0) (m .mesh .ensures) _ (at-counted .counted2 .given .1) (a .pre .0 .2) in (
       (f .few .0, f .few .1, a .pre .1),
       ((omega (arith, f .few .0, m .mesh .kept), omega (arith, f .few .0, m .mesh .kept), omega (arith, f .few .1, m .mesh .kept)), f .numbers),
     )
@@ -62,24 +63,26 @@ same-length c = search needs
 
 returns : tie.Need-returns
 returns c =
-    let a = c .before .before .before .before .before .before .before .before .before .before .before .before .before .before .before .before in
-    let m = c .before .before .before .before .before .before .before .before .before .before in
+    let at-counted = c .before .before .before .before .before in
+    let m = at-counted .before .before .before .before .before in
+    let a = m .before .before .before .before .before .before in
     let p = c .before .before .put-refusal in
     subst (λ (x : List ℕ). Put (a .args .out .now) 0 x (p .last .0) (p .result))
     (refused-text (a .args .nx) (a .args .ny) (a .args .nz) (a .args .t) (a .args .samples .now) _ _ _ _ _ _ _ (a .pre .0 .0) (a .pre .0 .1)
-    (length-replicate {A = ℕ} 2744 0) (length-replicate {A = Float} 4116 (ofBits binary64 0)) (length-replicate {A = ℕ} 3024 0) (m .mesh .ensures) _ (c .before .before .before .before .before .counted .given .1)) (p .ensures)
+    (length-replicate {A = ℕ} 2744 0) (length-replicate {A = Float} 4116 (ofBits binary64 0)) (length-replicate {A = ℕ} 3024 0) (m .mesh .ensures) _ (at-counted .counted .given .1)) (p .ensures)
 
 same-length-2 : tie.Need-same-length-2
 same-length-2 c = search needs
 
 returns-2 : tie.Need-returns-2
 returns-2 c =
-    let a = c .before .before .before .before .before .before .before .before .before .before .before .before .before .before .before .before .before .before .before in
-    let m = c .before .before .before .before .before .before .before .before .before .before .before .before .before in
+    let at-counted = c .before .before .before .before .before .before .before .before in
+    let m = at-counted .before .before .before .before .before in
+    let a = m .before .before .before .before .before .before in
     let p = c .before .before .put-front in
     subst (λ (x : List ℕ). Put (a .args .out .now) 0 x (p .last .0) (p .result))
     (accepted-front (a .args .nx) (a .args .ny) (a .args .nz) (a .args .t) (a .args .samples .now) _ _ _ _ _ _ _ (a .pre .0 .0) (a .pre .0 .1)
-    (length-replicate {A = ℕ} 2744 0) (length-replicate {A = Float} 4116 (ofBits binary64 0)) (length-replicate {A = ℕ} 3024 0) (m .mesh .ensures) _ (c .before .before .before .before .before .before .before .before .counted2 .given .1) (a .pre .0 .2) .text) (p .ensures)
+    (length-replicate {A = ℕ} 2744 0) (length-replicate {A = Float} 4116 (ofBits binary64 0)) (length-replicate {A = ℕ} 3024 0) (m .mesh .ensures) _ (at-counted .counted2 .given .1) (a .pre .0 .2) .text) (p .ensures)
 
 pub put-block-spec : {M : Type 1} → statement M
 put-block-spec =

@@ -19,24 +19,31 @@ mul-put-mesh : tie.Need-mul-put-mesh
 mul-put-mesh c = search needs
 
 slice-aggregate-put-mesh : tie.Need-slice-aggregate-put-mesh
-slice-aggregate-put-mesh c = sym (length-take-le _ (c .before .before .before .before .before .before .before .before .args .words .now) (c .before .before .before .before .before .before .before .before .pre .1 .0 .0))
+slice-aggregate-put-mesh c =
+    let entry = c .before .before .before .before .before .before .before .before in
+    sym (length-take-le _ (entry .args .words .now) (entry .pre .1 .0 .0))
 
 mul-put-mesh-2 : tie.Need-mul-put-mesh-2
 mul-put-mesh-2 c = search needs
 
 slice-aggregate-put-mesh-2 : tie.Need-slice-aggregate-put-mesh-2
-slice-aggregate-put-mesh-2 c = sym (length-take-le _ (c .before .before .before .before .before .before .before .before .before .args .offsets .now) (c .before .before .before .before .before .before .before .before .before .pre .1 .0 .1))
+slice-aggregate-put-mesh-2 c =
+    let entry = c .before .before .before .before .before .before .before .before .before in
+    sym (length-take-le _ (entry .args .offsets .now) (entry .pre .1 .0 .1))
 
 mul-put-mesh-3 : tie.Need-mul-put-mesh-3
 mul-put-mesh-3 c = search needs
 
 slice-aggregate-put-mesh-3 : tie.Need-slice-aggregate-put-mesh-3
-slice-aggregate-put-mesh-3 c = sym (length-take-le _ (c .before .before .before .before .before .before .before .before .before .before .args .quads .now) (c .before .before .before .before .before .before .before .before .before .before .pre .1 .0 .2))
+slice-aggregate-put-mesh-3 c =
+    let entry = c .before .before .before .before .before .before .before .before .before .before in
+    sym (length-take-le _ (entry .args .quads .now) (entry .pre .1 .0 .2))
 
 put-mesh-requires : tie.Need-put-mesh-requires
 put-mesh-requires c κs =
-    let p = c .before .before .before .before .before .before .before .before .before .before .pre in
-    let a = c .before .before .before .before .before .before .before .before .before .before .args in (
+    let entry = c .before .before .before .before .before .before .before .before .before .before in
+    let p = entry .pre in
+    let a = entry .args in (
       p .0,
       (
         (length-take-le _ (a .words .now) (p .1 .0 .0), length-take-le _ (a .offsets .now) (p .1 .0 .1), length-take-le _ (a .quads .now) (p .1 .0 .2)),

@@ -6,9 +6,9 @@ use native.Mathlib.Omega.{arith}
 use borrow.Author.Needs.{needs}
 use lib.ListN.{length}
 use Rattle.laws.specs.Below.{below}
-use Rattle.lines.specs.Output.{quadLineOf}
+use Rattle.lines.specs.Output.{quadLine}
 use Rattle.lines.specs.Steps.{Put}
-use Rattle.lines.proofs.Texts.{no-lines, line-more}
+use Rattle.lines.proofs.Texts.{no-lines, quad-more}
 use Rattle.lines.proofs.put_quads.Statement.{statement}
 use Rattle.lines.proofs.put_quads.Tie as tie
 use Rattle.lines.proofs.put_quads.Reads as reads
@@ -17,7 +17,7 @@ use Rattle.lines.proofs.put_quad.Reads as put-quad-reads
 
 abbrev Inv-loop : tie.InvT-loop
 Inv-loop out₀ at quads count next₀ q₀ out next q =
-    (q ≤ count) × (next ≡ at + 35 * q) × Put out₀ at (below (quadLineOf quads) q) out next × (length out ≡ length out₀)
+    (q ≤ count) × (next ≡ at + 35 * q) × Put out₀ at (below (quadLine quads) q) out next × (length out ≡ length out₀)
 
 abbrev μ-loop : tie.MeasureT-loop
 μ-loop out₀ at quads count next₀ q₀ out next q = count - q
@@ -62,7 +62,11 @@ shared-slice-read-put-quad-4 : tie.Need-shared-slice-read-put-quad-4 Inv-loop μ
 shared-slice-read-put-quad-4 c = search needs
 
 put-quad-requires : tie.Need-put-quad-requires Inv-loop μ-loop
-put-quad-requires c κs = omega (arith, c .before .before .before .before .before .loop-test .taken, c .before .before .before .before .before .before .loop .inv .1, c .before .before .before .before .before .before .loop .inv .3, c .before .before .before .before .before .before .before .before .before .pre .1)
+put-quad-requires c κs =
+    let at-test = c .before .before .before .before .before in
+    let at-loop = at-test .before in
+    let entry = at-loop .before .before .before in
+    omega (arith, at-test .loop-test .taken, at-loop .loop .inv .1, at-loop .loop .inv .3, entry .pre .1)
 
 add-q : tie.Need-add-q Inv-loop μ-loop
 add-q c = search needs
@@ -72,12 +76,15 @@ loop-less c = search needs
 
 loop-again : tie.Need-loop-again Inv-loop μ-loop
 loop-again c =
-    let i = c .before .before .before .before .before .before .before .before .before .loop .inv in
-    let p = c .before .before .put-quad .ensures in (
+    let at-put = c .before .before in
+    let at-loop = at-put .before .before .before .before .before .before .before in
+    let entry = at-loop .before .before .before in
+    let i = at-loop .loop .inv in
+    let p = at-put .put-quad .ensures in (
       search needs,
       omega (arith, i .1, p .1),
-      line-more (quadLineOf (c .before .before .before .before .before .before .before .before .before .before .before .before .args .quads .now)) _ (i .2) (p .0),
-      c .before .before .put-quad .kept .0 ∙ i .3,
+      quad-more (entry .args .quads .now) _ (i .2) (p .0),
+      at-put .put-quad .kept .0 ∙ i .3,
     )
 
 same-length : tie.Need-same-length Inv-loop μ-loop

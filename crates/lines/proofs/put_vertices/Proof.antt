@@ -6,9 +6,9 @@ use native.Mathlib.Omega.{arith}
 use borrow.Author.Needs.{needs}
 use lib.ListN.{length}
 use Rattle.laws.specs.Below.{below}
-use Rattle.lines.specs.Output.{vertexLineOf}
+use Rattle.lines.specs.Output.{vertexLine}
 use Rattle.lines.specs.Steps.{Put}
-use Rattle.lines.proofs.Texts.{no-lines, line-more}
+use Rattle.lines.proofs.Texts.{no-lines, vertex-more}
 use Rattle.lines.proofs.put_vertices.Statement.{statement}
 use Rattle.lines.proofs.put_vertices.Tie as tie
 use Rattle.lines.proofs.put_vertices.Reads as reads
@@ -17,7 +17,7 @@ use Rattle.lines.proofs.put_vertex.Reads as put-vertex-reads
 
 abbrev Inv-loop : tie.InvT-loop
 Inv-loop out₀ at words offsets count next₀ v₀ out next v =
-    (v ≤ count) × (next ≡ at + 63 * v) × Put out₀ at (below (vertexLineOf words offsets) v) out next × (length out ≡ length out₀)
+    (v ≤ count) × (next ≡ at + 63 * v) × Put out₀ at (below (vertexLine words offsets) v) out next × (length out ≡ length out₀)
 
 abbrev μ-loop : tie.MeasureT-loop
 μ-loop out₀ at words offsets count next₀ v₀ out next v = count - v
@@ -72,15 +72,14 @@ shared-slice-read-put-vertex-5 c = search needs
 
 put-vertex-requires : tie.Need-put-vertex-requires Inv-loop μ-loop
 put-vertex-requires c κs =
-    let l = c .before .before .before .before .before .before .before .loop in
-    let t = c .before .before .before .before .before .before .loop-test .taken in
-    let n = c .before .before .before .before .before .before .before .before .before .before .before .pre .1 in (
-      (
-        n (3 * l .v) (omega (arith, t, c .before .before .before .before .before .before .before .before .before .before .before .pre .0 .1)),
-        n (3 * l .v + 1) (omega (arith, t, c .before .before .before .before .before .before .before .before .before .before .before .pre .0 .1)),
-        n (3 * l .v + 2) (omega (arith, t, c .before .before .before .before .before .before .before .before .before .before .before .pre .0 .1)),
-      ),
-      omega (arith, t, l .inv .1, l .inv .3, c .before .before .before .before .before .before .before .before .before .before .before .pre .0 .2),
+    let at-test = c .before .before .before .before .before .before in
+    let at-loop = at-test .before in
+    let entry = at-loop .before .before .before .before in
+    let l = at-loop .loop in
+    let t = at-test .loop-test .taken in
+    let room = entry .pre .0 .1 in (
+      (entry .pre .1 (3 * l .v) (omega (arith, t, room)), entry .pre .1 (3 * l .v + 1) (omega (arith, t, room)), entry .pre .1 (3 * l .v + 2) (omega (arith, t, room))),
+      omega (arith, t, l .inv .1, l .inv .3, entry .pre .0 .2),
     )
 
 add-v : tie.Need-add-v Inv-loop μ-loop
@@ -91,12 +90,15 @@ loop-less c = search needs
 
 loop-again : tie.Need-loop-again Inv-loop μ-loop
 loop-again c =
-    let i = c .before .before .before .before .before .before .before .before .before .before .loop .inv in
-    let p = c .before .before .put-vertex .ensures in (
+    let at-put = c .before .before in
+    let at-loop = at-put .before .before .before .before .before .before .before .before in
+    let entry = at-loop .before .before .before .before in
+    let i = at-loop .loop .inv in
+    let p = at-put .put-vertex .ensures in (
       search needs,
       omega (arith, i .1, p .1),
-      line-more (vertexLineOf (c .before .before .before .before .before .before .before .before .before .before .before .before .before .before .args .words .now) (c .before .before .before .before .before .before .before .before .before .before .before .before .before .before .args .offsets .now)) _ (i .2) (p .0),
-      c .before .before .put-vertex .kept .0 ∙ i .3,
+      vertex-more (entry .args .words .now) (entry .args .offsets .now) _ (i .2) (p .0),
+      at-put .put-vertex .kept .0 ∙ i .3,
     )
 
 same-length : tie.Need-same-length Inv-loop μ-loop

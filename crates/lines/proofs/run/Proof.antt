@@ -8,8 +8,8 @@ use Rattle.lines.proofs.run.Tie as tie
 use Rattle.lines.proofs.run.Reads as reads
 use Rattle.lines.proofs.run.Lts as lts
 use Rattle.lines.proofs.answer.Reads as answer-reads
-use Rattle.lines.proofs.check.Reads as check-reads
-use Rattle.lines.proofs.number.Reads as number-reads
+use Rattle.reading.proofs.check.Reads as check-reads
+use Rattle.reading.proofs.number.Reads as number-reads
 use Rattle.lines.proofs.put_refusal.Reads as put-refusal-reads
 
 number-requires : tie.Need-number-requires
@@ -46,20 +46,41 @@ enum-told : tie.Need-enum-told
 enum-told c = search needs
 
 answer-requires : tie.Need-answer-requires
-answer-requires c κs = (
-  readable (c .before .before .before .before .before .before .before .before .before .args .input .now) _ _ _ _ (c .before .before .before .before .before .before .before .number .ensures) (c .before .before .before .before .before .before .number2 .ensures) (c .before .before .before .before .before .number3 .ensures) (c .before .before .before .before .number4 .ensures) (sym (c .before .before .before .check .ensures) ∙ c .before .enum-told .given .1),
-  search needs,
-)
+answer-requires c κs =
+    let at-check = c .before .before .before in
+    let at-t = at-check .before in
+    let at-nz = at-t .before in
+    let at-ny = at-nz .before in
+    let at-nx = at-ny .before in
+    let input = at-nx .before .before .args .input .now in (
+      readable input _ _ _ _ (at-nx .number .ensures) (at-ny .number2 .ensures) (at-nz .number3 .ensures) (at-t .number4 .ensures)
+          (sym (at-check .check .ensures) ∙ c .before .enum-told .given .1),
+      search needs,
+    )
 
 returns : tie.Need-returns
 returns c =
-    ran (c .before .before .before .before .before .before .before .before .before .before .before .args .input .now) (search needs) (c .put-refusal .ensures)
-    (output-refused (c .before .before .before .before .before .before .before .before .before .before .before .args .input .now) _ _ _ _ (c .before .before .before .before .before .before .before .before .before .number .ensures) (c .before .before .before .before .before .before .before .before .number2 .ensures) (c .before .before .before .before .before .before .before .number3 .ensures) (c .before .before .before .before .before .before .number4 .ensures) _ (sym (c .before .before .before .before .before .check .ensures) ∙ c .before .before .before .r .given .1))
+    let at-check = c .before .before .before .before .before in
+    let at-t = at-check .before in
+    let at-nz = at-t .before in
+    let at-ny = at-nz .before in
+    let at-nx = at-ny .before in
+    let input = at-nx .before .before .args .input .now in
+    ran input (search needs) (c .put-refusal .ensures)
+    (output-refused input _ _ _ _ (at-nx .number .ensures) (at-ny .number2 .ensures) (at-nz .number3 .ensures) (at-t .number4 .ensures) _
+    (sym (at-check .check .ensures) ∙ c .before .before .before .r .given .1))
 
 returns-2 : tie.Need-returns-2
 returns-2 c =
-    ran (c .before .before .before .before .before .before .before .before .before .before .args .input .now) (search needs) (c .answer .ensures)
-    (output-block (c .before .before .before .before .before .before .before .before .before .before .args .input .now) _ _ _ _ (c .before .before .before .before .before .before .before .before .number .ensures) (c .before .before .before .before .before .before .before .number2 .ensures) (c .before .before .before .before .before .before .number3 .ensures) (c .before .before .before .before .before .number4 .ensures) (sym (c .before .before .before .before .check .ensures) ∙ c .before .before .enum-told .given .1))
+    let at-check = c .before .before .before .before in
+    let at-t = at-check .before in
+    let at-nz = at-t .before in
+    let at-ny = at-nz .before in
+    let at-nx = at-ny .before in
+    let input = at-nx .before .before .args .input .now in
+    ran input (search needs) (c .answer .ensures)
+    (output-block input _ _ _ _ (at-nx .number .ensures) (at-ny .number2 .ensures) (at-nz .number3 .ensures) (at-t .number4 .ensures)
+    (sym (at-check .check .ensures) ∙ c .before .before .enum-told .given .1))
 
 pub run-spec : {M : Type 1} → statement M
 run-spec =

@@ -1,0 +1,44 @@
+-- Row 9: which axis is over 8, and that none is where the row passes.
+-- Assumes nothing.
+use Prim.Native.Nat.{ℕ, _*_, _≤_, _<_}
+use mathlib.Core.Path.{_≡_}
+use mathlib.Core.List.{[], _∷_}
+use native.Mathlib.Nat.{mul-le-mul}
+use native.Mathlib.Omega.{arith}
+use lib.Dec.{ltb}
+use borrow.Author.Tests.{lt-ltb, le-ltb, ltb-false}
+use Rattle.block.specs.declared.Checked.the-variants.{Passes, Refuses}
+use Rattle.block.specs.Rows.{lowest, lowestRow}
+use Rattle.block.proofs.Lowest.{row-clear}
+use Rattle.reading.specs.Input.{largeRow}
+
+module _ (nx ny nz : ℕ) where
+  pub first-large : 8 < nx → Refuses (record { number = 9; value = 0 }) ≡ largeRow nx ny nz
+  unfolding lowestRow lowest
+  first-large x = simp (lt-ltb 8 nx x)
+
+  pub second-large : nx ≤ 8 → 8 < ny → Refuses (record { number = 9; value = 1 }) ≡ largeRow nx ny nz
+  unfolding lowestRow lowest
+  second-large x y = simp (le-ltb 8 nx x, lt-ltb 8 ny y)
+
+  pub third-large : nx ≤ 8 → ny ≤ 8 → 8 < nz → Refuses (record { number = 9; value = 2 }) ≡ largeRow nx ny nz
+  unfolding lowestRow lowest
+  third-large x y z = simp (le-ltb 8 nx x, le-ltb 8 ny y, lt-ltb 8 nz z)
+
+  pub none-large : nx ≤ 8 → ny ≤ 8 → nz ≤ 8 → Passes ≡ largeRow nx ny nz
+  unfolding lowestRow lowest
+  none-large x y z = simp (le-ltb 8 nx x, le-ltb 8 ny y, le-ltb 8 nz z)
+
+-- a block that the program takes has at most 8 samples an axis, so at most 64 rows
+pub record AtMostEight (nx ny nz : ℕ) : Type 0 where
+  pub x : nx ≤ 8
+  pub y : ny ≤ 8
+  pub z : nz ≤ 8
+  pub rows : ny * nz ≤ 64
+
+pub at-most-eight : (nx ny nz : ℕ) → largeRow nx ny nz ≡ Passes → AtMostEight nx ny nz
+at-most-eight nx ny nz e =
+    let clear = row-clear (ltb 8) 9 (nx ∷ ny ∷ nz ∷ []) e in
+    let hy = ltb-false 8 ny (clear 1 (omega arith)) in
+    let hz = ltb-false 8 nz (clear 2 (omega arith)) in
+    record { x = ltb-false 8 nx (clear 0 (omega arith)); y = hy; z = hz; rows = mul-le-mul hy hz }
