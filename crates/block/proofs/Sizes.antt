@@ -79,6 +79,11 @@ axes-within nx ny nz e =
     let z = within nz (clear 2 (omega arith)) in
     record { x-low = x .0; x-high = x .1; y-low = y .0; y-high = y .1; z-low = z .0; z-high = z .1 }
 
+-- and the other way
+pub within-axes : (nx ny nz : ℕ) → Limits (record { nx = nx; ny = ny; nz = nz }) → axisRow nx ny nz ≡ Passes
+unfolding lowestRow lowest
+within-axes nx ny nz l = simp (in-limits nx (l .x-low) (l .x-high), in-limits ny (l .y-low) (l .y-high), in-limits nz (l .z-low) (l .z-high))
+
 -- every size that `Size::new` answers is that of the three axis lengths, and within its limits
 pub size-made : (nx ny nz : ℕ) (n : Size) → SizeMade nx ny nz (Made n) → (n ≡ record { nx = nx; ny = ny; nz = nz }) × Limits n
 unfolding inOrder decided

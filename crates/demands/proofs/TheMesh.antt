@@ -1,9 +1,8 @@
 -- Demand 2, from the very promise of `mesh`: an answer that is no refusal has the counts of the mesh, and the buffers hold its vertices, offsets and
--- quads at their front and what they held behind it. Assumes nothing.
-use Prim.Native.Nat.{ℕ, zero, suc, _*_, _<_}
-use mathlib.Core.Path.{_≡_, refl, sym, ap, _∙_}
-use mathlib.Core.List.{List, [], _∷_, List·Memᴰ, List·Memᴰ·head, List·Memᴰ·tail}
-use native.Mathlib.Nat.{not-suc-le-zero, le-of-suc-le-suc}
+-- quads at their front and what they held behind it.
+use Prim.Native.Nat.{ℕ, _+_, _*_, _<_}
+use mathlib.Core.Path.{_≡_, refl, ap, _∙_, subst}
+use mathlib.Core.List.{List}
 use native.Mathlib.Omega.{arith}
 use lib.Ieee.{nan}
 use lib.ListN.{length, getD, List·getD-append}
@@ -11,34 +10,31 @@ use Rattle.laws.specs.Below.{over}
 use Rattle.block.specs.declared.Cut.{Cut}
 use Rattle.block.specs.declared.Size.{Size}
 use Rattle.block.specs.declared.Checked.{Checked}
-use Rattle.block.specs.declared.Checked.the-variants.{Passes, Refuses}
-use Rattle.block.specs.Answer.{accepted, judged, decided}
+use Rattle.block.specs.declared.Checked.the-variants.{Passes}
+use Rattle.block.specs.Answer.{decided}
 use Rattle.block.specs.Rows.{axisRow}
 use Rattle.block.specs.Size.{Limits}
-use Rattle.block.proofs.Order.{order-first}
+use Rattle.block.proofs.Order.{order-first, accepted-exactly}
 use Rattle.block.proofs.Sizes.{axes-within}
 use Rattle.cube_rule.specs.Decider.{joined, loopsOf}
-use Rattle.cube_rule.proofs.Laws.{cube-laws}
+use Rattle.cube_rule.proofs.Doubtful.{doubtful-saddle}
+use Rattle.cube_rule.proofs.Laws.{cube-laws, cube-ruled}
 use Rattle.mesh_rule.specs.Buffers.{meshWords, meshOffsets, meshQuads}
-use Rattle.mesh_rule.specs.Mesh.{Quad, flat, vertices, quads}
+use Rattle.mesh_rule.specs.Grid.{cornersOf}
+use Rattle.mesh_rule.specs.Mesh.{quad, flat, vertices, quads}
+use Rattle.mesh_rule.specs.Orientation.{QuadOf}
 use Rattle.mesh_rule.proofs.Counts.{most-vertices, most-quads}
 use Rattle.mesh_rule.proofs.Offsets.{offsets-in-unit, mesh-offsets-length}
-use Rattle.mesh_rule.proofs.Quads.{quad-count, quad-inside}
+use Rattle.mesh_rule.proofs.Orientation.{each-quad}
+use Rattle.mesh_rule.proofs.Quads.{quad-count}
 use Rattle.mesh_rule.proofs.Words.{mesh-words-length}
 use Rattle.mesh.specs.declared.Totals.{Totals}
-use Rattle.mesh.specs.declared.Counted.the-variants as counted
 use Rattle.mesh.specs.Answer.{sizeOf, countsOf, meshVerdict, written}
 use Rattle.mesh.proofs.PlaneQuads.{flat-length}
 use Rattle.demands.specs.Answers.{MeshCall}
 use Rattle.demands.specs.Given.{MeshGiven}
 
 -- ---- an answer that is no refusal
-
--- the checks pass, and the answer is that of an accepted block
-pub accepted-by : {A : Type 0} (k : Checked) (a b : A) → accepted b ≡ judged k a → (k ≡ Passes) × (b ≡ a)
-unfolding decided
-accepted-by Passes a b e = (refl, cc)
-accepted-by (Refuses q) a b e = let z : _≡_ {A = ℕ} 0 1 = cc in absurd (omega arith)
 
 pub written-by : {A : Type 0} (k : Checked) (xs b c : List A) → k ≡ Passes → c ≡ written k xs b → c ≡ over xs b
 unfolding decided
@@ -49,29 +45,15 @@ pub over-front : {A : Type 0} (xs b : List A) (k : ℕ) (d : A) → k < length x
 unfolding over
 over-front xs b k d h = List·getD-append xs _ d k h
 
--- ---- every number of the quads
-
-flat-each : (P : ℕ → Type 0) (qs : List Quad) → ((q : Quad) → List·Memᴰ q qs → P (q .v0) × P (q .v1) × P (q .v2) × P (q .v3)) → (k : ℕ) → k < length (flat qs) → P (getD (flat qs) k 0)
-flat-each P [] h k l = absurd (not-suc-le-zero l)
-flat-each P (q ∷ qs) h zero l = h q (List·Memᴰ·head refl) .0
-flat-each P (q ∷ qs) h (suc zero) l = h q (List·Memᴰ·head refl) .1
-flat-each P (q ∷ qs) h (suc (suc zero)) l = h q (List·Memᴰ·head refl) .2
-flat-each P (q ∷ qs) h (suc (suc (suc zero))) l = h q (List·Memᴰ·head refl) .3
-flat-each P (q ∷ qs) h (suc (suc (suc (suc k)))) l =
-    flat-each P qs (λ x m. h x (List·Memᴰ·tail m)) k (le-of-suc-le-suc (le-of-suc-le-suc (le-of-suc-le-suc (le-of-suc-le-suc l))))
-
-module _ {nx ny nz : ℕ} {s : List ℕ} {t : ℕ} (a : MeshCall nx ny nz s t) where
+module _ {nx ny nz : ℕ} {s : List ℕ} {cut : Cut} (a : MeshCall nx ny nz s cut) where
   abbrev size : Size
   size = sizeOf nx ny nz
-
-  abbrev cut : Cut
-  cut = record { t = t }
 
   abbrev verdict : Checked
   verdict = meshVerdict nx ny nz s cut (length (a .words)) (length (a .offsets)) (length (a .quads))
 
   both : (verdict ≡ Passes) × (a .counts ≡ countsOf size s cut)
-  both = accepted-by verdict (countsOf size s cut) (a .counts) (sym (a .accepts) ∙ a .promise .answer)
+  both = accepted-exactly verdict (countsOf size s cut) _ (a .promise .answer) (a .counts) .0 (a .accepts)
 
   vertices-are : a .counts .vertices ≡ length (vertices loopsOf size s cut)
   vertices-are = ap (λ (x : Totals). x .vertices) (both .1)
@@ -82,11 +64,11 @@ module _ {nx ny nz : ℕ} {s : List ℕ} {t : ℕ} (a : MeshCall nx ny nz s t) w
   limits : Limits size
   limits = axes-within nx ny nz (order-first (axisRow nx ny nz) _ (both .0))
 
-  quads-in : a .quads-after ≡ over (flat (quads loopsOf size s cut)) (a .quads)
-  unfolding meshQuads
+  quads-in : a .quads-after ≡ over (meshQuads loopsOf size s cut) (a .quads)
   quads-in = written-by verdict (meshQuads loopsOf size s cut) (a .quads) (a .quads-after) (both .0) (a .promise .quads)
 
-  flat-long : length (flat (quads loopsOf size s cut)) ≡ 4 * a .counts .quads
+  flat-long : length (meshQuads loopsOf size s cut) ≡ 4 * a .counts .quads
+  unfolding meshQuads
   flat-long = flat-length (quads loopsOf size s cut) ∙ omega (arith, quads-are)
 
   offsets-in : a .offsets-after ≡ over (meshOffsets loopsOf size s cut) (a .offsets)
@@ -110,19 +92,26 @@ module _ {nx ny nz : ℕ} {s : List ℕ} {t : ℕ} (a : MeshCall nx ny nz s t) w
   offset-at k h = rw offsets-in (over-front (meshOffsets loopsOf size s cut) (a .offsets) k nan (rw offsets-long h))
 
   pub number-at : (k : ℕ) → k < 4 * a .counts .quads → getD (a .quads-after) k 0 ≡ getD (flat (quads loopsOf size s cut)) k 0
-  number-at k h = rw quads-in (over-front (flat (quads loopsOf size s cut)) (a .quads) k 0 (rw flat-long h))
+  unfolding meshQuads
+  number-at k h = rw quads-in (over-front (meshQuads loopsOf size s cut) (a .quads) k 0 (rw flat-long h))
+
+  -- the four numbers of a quad, as the buffer holds them
+  quad-is : (q : ℕ) → q < a .counts .quads
+      → quad (getD (flat (quads loopsOf size s cut)) (4 * q) 0) (getD (flat (quads loopsOf size s cut)) (4 * q + 1) 0) (getD (flat (quads loopsOf size s cut)) (4 * q + 2) 0) (getD (flat (quads loopsOf size s cut)) (4 * q + 3) 0)
+      ≡ quad (getD (a .quads-after) (4 * q) 0) (getD (a .quads-after) (4 * q + 1) 0) (getD (a .quads-after) (4 * q + 2) 0) (getD (a .quads-after) (4 * q + 3) 0)
+  quad-is q h = rw (number-at (4 * q) (omega arith), number-at (4 * q + 1) (omega arith), number-at (4 * q + 2) (omega arith), number-at (4 * q + 3) (omega arith)) refl
 
   pub mesh-given : MeshGiven a
   mesh-given = record {
     words = words-in;
     vertex-count = vertices-are;
+    loops = λ c. cube-ruled joined cut (cornersOf size s c);
+    saddles = λ c f u w v x four. doubtful-saddle cut _ _ _ _ four u w v x;
     offsets = offsets-in;
-    in-unit = λ k h. rw (offset-at k h) (offsets-in-unit size s cut (a .greys) k (rw offsets-long h));
+    in-unit = λ grey k h. rw (offset-at k h) (offsets-in-unit size s cut grey k (rw offsets-long h));
     quads = quads-in;
     quad-count = quads-are ∙ quad-count loopsOf size s cut;
-    below-count = λ k h.
-        rw (number-at k h, vertices-are)
-        (flat-each (λ (v : ℕ). v < length (vertices loopsOf size s cut)) (quads loopsOf size s cut) (λ x i. quad-inside loopsOf size s cut (cube-laws joined) i) k (rw flat-long h));
+    each-quad = λ q h. subst (QuadOf loopsOf size s cut) (quad-is q h) (each-quad size s cut q (omega (arith, h, quads-are)));
     most = (
       omega (arith, vertices-are, most-vertices loopsOf size s cut (cube-laws joined) limits),
       omega (arith, quads-are, most-quads loopsOf size s cut limits),
