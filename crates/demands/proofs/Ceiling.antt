@@ -25,7 +25,7 @@ use Rattle.mesh.specs.declared.Counted.{Counted}
 use Rattle.mesh.specs.Answer.{saidCounts, CountsAnswered, Meshed}
 use Rattle.reading.specs.Input.{firstLineRow, linesRow, largeRow, sizeRead, cutRead, samplesRead, inputVerdict}
 use Rattle.lines.specs.Output.{refusalLine, blockText, printed, outputOf, Ran}
-use Rattle.lines.proofs.Blocks.{samples-grey}
+use Rattle.reading.proofs.Samples.{samples-grey}
 use Rattle.demands.specs.Answers.{NotRefused, BelowCeiling}
 use Rattle.demands.specs.Ceiling.{NoCeilingPasses}
 
