@@ -2,7 +2,7 @@
 -- quads at their front and what they held behind it.
 use Prim.Native.Nat.{ℕ, _+_, _*_, _<_}
 use mathlib.Core.Path.{_≡_, refl, ap, _∙_, subst}
-use mathlib.Core.List.{List}
+use mathlib.Core.List.{List, List·Memᴰ}
 use native.Mathlib.Omega.{arith}
 use lib.Ieee.{nan}
 use lib.ListN.{length, getD, List·getD-append}
@@ -12,6 +12,7 @@ use Rattle.block.specs.declared.Size.{Size}
 use Rattle.block.specs.declared.Checked.{Checked}
 use Rattle.block.specs.declared.Checked.the-variants.{Passes}
 use Rattle.block.specs.Answer.{decided}
+use Rattle.block.specs.Numbering.{cubeCount}
 use Rattle.block.specs.Rows.{axisRow}
 use Rattle.block.specs.Size.{Limits}
 use Rattle.block.proofs.Order.{order-first, accepted-exactly}
@@ -19,15 +20,17 @@ use Rattle.block.proofs.Sizes.{axes-within}
 use Rattle.cube_rule.specs.Decider.{joined, loopsOf}
 use Rattle.cube_rule.proofs.Doubtful.{doubtful-saddle}
 use Rattle.cube_rule.proofs.Laws.{cube-laws, cube-ruled}
+use Rattle.cell.specs.Answer.{wordOf}
 use Rattle.mesh_rule.specs.Buffers.{meshWords, meshOffsets, meshQuads}
 use Rattle.mesh_rule.specs.Grid.{cornersOf}
-use Rattle.mesh_rule.specs.Mesh.{quad, flat, vertices, quads}
+use Rattle.mesh_rule.specs.Mesh.{quad, flat, cubeLoops, vertices, vertexOf, quads}
 use Rattle.mesh_rule.specs.Orientation.{QuadOf}
 use Rattle.mesh_rule.proofs.Counts.{most-vertices, most-quads}
 use Rattle.mesh_rule.proofs.Offsets.{offsets-in-unit, mesh-offsets-length}
 use Rattle.mesh_rule.proofs.Orientation.{each-quad}
 use Rattle.mesh_rule.proofs.Quads.{quad-count}
-use Rattle.mesh_rule.proofs.Words.{mesh-words-length}
+use Rattle.mesh_rule.proofs.Numbers.{vertex-is-loop}
+use Rattle.mesh_rule.proofs.Words.{mesh-words-length, words-at}
 use Rattle.mesh.specs.declared.Totals.{Totals}
 use Rattle.mesh.specs.Answer.{sizeOf, countsOf, meshVerdict, written}
 use Rattle.mesh.proofs.PlaneQuads.{flat-length}
@@ -95,6 +98,20 @@ module _ {nx ny nz : ℕ} {s : List ℕ} {cut : Cut} (a : MeshCall nx ny nz s cu
   unfolding meshQuads
   number-at k h = rw quads-in (over-front (meshQuads loopsOf size s cut) (a .quads) k 0 (rw flat-long h))
 
+  -- the two words of a vertex
+  vertex-given : (v : ℕ) → v < a .counts .vertices → (mask : ℕ) × (getD (a .words-after) (2 * v) 0 < cubeCount size)
+      × List·Memᴰ mask (cubeLoops loopsOf size s cut (getD (a .words-after) (2 * v) 0))
+      × (getD (a .words-after) (2 * v + 1) 0 ≡ wordOf (cornersOf size s (getD (a .words-after) (2 * v) 0)) mask)
+  vertex-given v h =
+      let l : v < length (vertices loopsOf size s cut) = omega (arith, h, vertices-are) in
+      let cube : getD (a .words-after) (2 * v) 0 ≡ vertexOf loopsOf size s cut v .cube = word-at (2 * v) (omega arith) ∙ words-at loopsOf size s cut v l .0 in
+      let is = vertex-is-loop loopsOf size s cut v l in (
+        vertexOf loopsOf size s cut v .mask,
+        rw cube (is .0),
+        rw cube (is .1),
+        rw cube (word-at (2 * v + 1) (omega arith) ∙ words-at loopsOf size s cut v l .1),
+      )
+
   -- the four numbers of a quad, as the buffer holds them
   quad-is : (q : ℕ) → q < a .counts .quads
       → quad (getD (flat (quads loopsOf size s cut)) (4 * q) 0) (getD (flat (quads loopsOf size s cut)) (4 * q + 1) 0) (getD (flat (quads loopsOf size s cut)) (4 * q + 2) 0) (getD (flat (quads loopsOf size s cut)) (4 * q + 3) 0)
@@ -105,6 +122,7 @@ module _ {nx ny nz : ℕ} {s : List ℕ} {cut : Cut} (a : MeshCall nx ny nz s cu
   mesh-given = record {
     words = words-in;
     vertex-count = vertices-are;
+    each-vertex = vertex-given;
     loops = λ c. cube-ruled joined cut (cornersOf size s c);
     saddles = λ c f u w v x four. doubtful-saddle cut _ _ _ _ four u w v x;
     offsets = offsets-in;

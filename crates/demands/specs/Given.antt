@@ -3,7 +3,7 @@ use Prim.Native.Nat.{ℕ, _+_, _*_, _≤_, _<_}
 use mathlib.Core.Path.{_≡_}
 use mathlib.Core.Bool.{true}
 use mathlib.Core.Logic.{_↔_}
-use mathlib.Core.List.{List}
+use mathlib.Core.List.{List, List·Memᴰ}
 use lib.Ieee.{nan}
 use lib.ListN.{length, getD}
 use Rattle.laws.specs.Below.{over}
@@ -11,7 +11,7 @@ use Rattle.laws.specs.Counting.{count}
 use Rattle.block.specs.declared.Cut.{Cut}
 use Rattle.block.specs.declared.Size.{Size}
 use Rattle.block.specs.Grey.{positive, SixteenBit}
-use Rattle.block.specs.Numbering.{X, Y, Z, sampleCount}
+use Rattle.block.specs.Numbering.{X, Y, Z, sampleCount, cubeCount}
 use Rattle.cube_rule.specs.Decider.{joined, loopsOf}
 use Rattle.cube_rule.specs.Edges.{cornerSample, patternOf}
 use Rattle.cube_rule.specs.Faces.{ringCorner}
@@ -19,6 +19,7 @@ use Rattle.cube_rule.specs.Links.{ringCount, decisions}
 use Rattle.cube_rule.specs.Rule.{Rule}
 use Rattle.cube_rule.specs.Saddle.{form, Saddle}
 use Rattle.place.specs.Unit.{InUnit}
+use Rattle.cell.specs.Answer.{wordOf}
 use Rattle.mesh_rule.specs.Buffers.{meshWords, meshOffsets, meshQuads}
 use Rattle.mesh_rule.specs.Grid.{cornersOf, crossedInner}
 use Rattle.mesh_rule.specs.Mesh.{quad, cubeLoops, vertices}
@@ -38,7 +39,11 @@ module _ {nx ny nz : ℕ} {s : List ℕ} {cut : Cut} (a : MeshCall nx ny nz s cu
     -- the vertices, one for each loop of each cube, in order: cube number and word. What stood behind them is kept
     pub words : a .words-after ≡ over (meshWords loopsOf size s cut) (a .words)
     pub vertex-count : a .counts .vertices ≡ length (vertices loopsOf size s cut)
-    -- the masks of a cube's vertices are its loops by THE RULE, its doubtful faces being decided by `joined`
+    -- the words of vertex v: a cube of the block, and the word of one of that cube's loops
+    pub each-vertex : (v : ℕ) → v < a .counts .vertices → (mask : ℕ) × (getD (a .words-after) (2 * v) 0 < cubeCount size)
+        × List·Memᴰ mask (cubeLoops loopsOf size s cut (getD (a .words-after) (2 * v) 0))
+        × (getD (a .words-after) (2 * v + 1) 0 ≡ wordOf (cornersOf size s (getD (a .words-after) (2 * v) 0)) mask)
+    -- the loops of a cube are those of THE RULE, its doubtful faces being decided by `joined`
     pub loops : (c : ℕ) → Rule (patternOf cut (cornersOf size s c)) (decisions joined cut (cornersOf size s c)) (cubeLoops loopsOf size s cut c)
     -- and that is by the saddle: where all four edges of a face are crossed, its positive corners are joined exactly if the form there is at least t
     pub saddles : (c f u w v x : ℕ)

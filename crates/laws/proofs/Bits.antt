@@ -1,6 +1,6 @@
 -- Masks: the bits of a mask made by a test, masks with equal bits, the bits of a meet, and how many bits there are.
 -- Assumes nothing.
-use mathlib.Core.Path.{_≡_, refl, ap, sym, _∙_}
+use mathlib.Core.Path.{_≡_, refl, ap, sym, _∙_, subst}
 use mathlib.Core.Logic.{_⊎_, inl, inr, ⊎-elim}
 use mathlib.Core.Bool.{Bool, true, false, false≢true}
 use Prim.Native.Nat.{ℕ, zero, suc, _+_, _*_, _-_, _/_, _%_, _^_, _≤_, _<_}
@@ -12,6 +12,7 @@ use lib.Bits.{bitAnd, and-shr, and-mod}
 use lib.Count.{ones, onesIn, ones-step}
 use lib.Pow.{pow-pos, pow-add, pow-lt, pow-mono}
 use Rattle.laws.specs.Bits.{bit, holds, maskOf}
+use Rattle.laws.proofs.Pack.{pack-lt, pack-mask}
 
 pub bit-le : (b : Bool) → bit b ≤ 1
 bit-le true = omega arith
@@ -24,13 +25,7 @@ shift-one e w h = ap (λ (x : ℕ). x % 2 ^ w) (one-mul (2 ^ e)) ∙ mod-eq-of-l
 -- ---- a mask made by a test
 
 pub mask-lt : (f : ℕ → Bool) (n : ℕ) → maskOf f n < 2 ^ n
-unfolding maskOf
-mask-lt f zero = omega arith
-mask-lt f (suc n) = rw pow-suc (go (f n) (mask-lt f n))
-  where
-    go : (b : Bool) → maskOf f n < 2 ^ n → maskOf f n + bit b * 2 ^ n < 2 ^ n * 2
-    go true h = rw one-mul (omega arith)
-    go false h = rw zero-mul (omega (arith, pow-pos n))
+mask-lt f n = subst (λ (m : ℕ). m < 2 ^ n) (pack-mask f n) (pack-lt (λ (i : ℕ). bit (f i)) (λ i. bit-le (f i)) n)
 
 -- a bit above e does not touch bit e
 above : (m n e : ℕ) → e < n → (m + 2 ^ n) / 2 ^ e % 2 ≡ m / 2 ^ e % 2

@@ -12,6 +12,7 @@ use lib.Count.{ones, ones-cat, ones-step}
 use lib.Pow.{ones-split, ones-lt, pow-pos, pow-add, high, low, shl-exact}
 use Rattle.laws.specs.Bits.{bit, maskOf}
 use Rattle.laws.specs.Pack.{pack, total}
+use Rattle.laws.specs.Counting.{count}
 
 -- ---- the word of the bits of f
 
@@ -82,6 +83,20 @@ pub pack-mask : (p : ℕ → Bool) (n : ℕ) → pack (λ i. bit (p i)) n ≡ ma
 unfolding pack maskOf
 pack-mask p zero = refl
 pack-mask p (suc n) = rw (pack-mask p n) (omega arith)
+
+-- and the sum of its answers is how many pass
+pub total-count : (p : ℕ → Bool) (n : ℕ) → total (λ i. bit (p i)) n ≡ count p n
+unfolding total count
+total-count p zero = refl
+total-count p (suc n) = rw (total-count p n) (omega arith)
+
+pub total-none : (f : ℕ → ℕ) → total f 0 ≡ 0
+unfolding total
+total-none f = refl
+
+pub total-one : (f : ℕ → ℕ) (n : ℕ) → total f (n + 1) ≡ f n + total f n
+unfolding total
+total-one f n = rw (add-one n)
 
 -- ---- operations on two words
 

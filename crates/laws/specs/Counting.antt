@@ -1,5 +1,4 @@
 -- How many numbers pass a test.
--- Assumes nothing.
 use Prim.Native.Nat.{ℕ, zero, suc, _+_}
 use mathlib.Core.Bool.{Bool}
 use Rattle.laws.specs.Bits.{bit}

@@ -1,5 +1,4 @@
 -- The first place at which a test fails.
--- Assumes nothing.
 use Prim.Native.Nat.{ℕ, zero, suc}
 use mathlib.Core.Bool.{Bool, cond}
 

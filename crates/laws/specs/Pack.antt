@@ -1,5 +1,5 @@
--- A word of bits made of a function from places to bits, and the sum of such a function.
--- Assumes nothing.
+-- A word of bits made of a function from places to bits, and the sum of a function: what the passes over words say. What is promised is said by
+-- `maskOf` and `count`; `pack-mask` and `total-count` lead from the one to the other. Assumes nothing.
 use Prim.Native.Nat.{ℕ, zero, suc, _+_, _*_, _^_}
 
 -- bit i of the word is f i, for i below n; each f i is 0 or 1

@@ -53,7 +53,7 @@ module _ (bytes : List ℕ) (nx ny nz t : ℕ) (ex : nx ≡ numberAt bytes 0 4) 
 
   -- none does, and row 4 decides
   pub output-block : inOrder (earlyRows bytes (sizeOf nx ny nz) (record { t = t })) ≡ Passes
-      → printed (ceilingRow (samplesRead bytes (sizeOf nx ny nz))) (textFor bytes (sizeOf nx ny nz) (record { t = t })) ≡ outputOf bytes
+      → printed (ceilingRow (samplesRead bytes (sizeOf nx ny nz))) (blockText (sizeOf nx ny nz) (samplesRead bytes (sizeOf nx ny nz)) (record { t = t })) ≡ outputOf bytes
   output-block e =
       sym (output-for bytes nx ny nz t ex ey ez et
       ∙ ap (λ (k : Checked). printed k (textFor bytes (sizeOf nx ny nz) (record { t = t })))

@@ -1,56 +1,21 @@
 -- The program may stop reading: what stands past the first 2,130 bytes of an input changes nothing.
 -- Assumes nothing.
-use Prim.Native.Nat.{ℕ, zero, suc, _+_, _*_, _/_, _%_, _≤_, _<_}
-use mathlib.Core.Path.{_≡_, refl, sym, ap, ap₂, _∙_}
-use mathlib.Core.Logic.{_⊎_, inl, inr}
-use mathlib.Core.Bool.{Bool, cond, _&&_}
+use Prim.Native.Nat.{ℕ, _*_, _≤_}
+use mathlib.Core.Path.{_≡_, refl}
 use mathlib.Core.List.{List, [], _∷_, _++_}
-use native.Mathlib.Nat.{mul-le-mul, div-lt-iff-lt-mul, mod-lt, zero-mul, not-suc-le-zero, mul-comm}
 use native.Mathlib.Omega.{arith}
-use lib.Dec.{eqb}
 use lib.ListN.{take}
-use lib.Seq.{getD-take}
-use Rattle.laws.proofs.Below.{below-same}
-use Rattle.laws.proofs.Leading.{leading-same}
-use Rattle.laws.proofs.Tests.{lt-or-ge}
 use Rattle.block.specs.declared.Cut.{Cut}
 use Rattle.block.specs.declared.Size.{Size}
 use Rattle.block.specs.declared.Refusal.{Refusal}
 use Rattle.block.specs.declared.Checked.{Checked}
 use Rattle.block.specs.declared.Checked.the-variants.{Passes, Refuses}
-use Rattle.block.specs.Answer.{inOrder, refuses}
-use Rattle.block.specs.Numbering.{sampleCount}
+use Rattle.block.specs.Answer.{inOrder}
 use Rattle.block.specs.Rows.{axisRow, ceilingRow}
-use Rattle.reading.specs.Text.{LF, ended, readAt, digitOf, isDigit, numberAt, lineRight}
-use Rattle.reading.specs.Input.{rowPlace, lineThere, rightLines, firstLineRow, linesRow, largeRow, samplesRead, sizeRead, cutRead, earlyRows}
-use Rattle.lines.specs.Output.{blockText, printed, outputOf}
-use Rattle.reading.specs.Steps.{sampleRead}
+use Rattle.reading.specs.Input.{firstLineRow, largeRow, samplesRead, sizeRead, cutRead, earlyRows}
 use Rattle.reading.proofs.Axes.{at-most-eight}
-use Rattle.reading.proofs.Reading.{rows-small, there-row, there-end}
-
--- a row of at most 8 samples and its LF, of at most 64 rows
-row-inside : (nx j : ℕ) → nx ≤ 8 → j < 64 → rowPlace nx j + 4 * nx ≤ 2128
-row-inside nx j hx hj = omega (arith, mul-le-mul (top j hj) (wide nx hx))
-  where
-    top : (j : ℕ) → j < 64 → j ≤ 63
-    top j h = omega arith
-
-    wide : (nx : ℕ) → nx ≤ 8 → 4 * nx + 1 ≤ 33
-    wide nx h = omega arith
-
--- a sample of such rows
-sample-inside : (nx rows i : ℕ) → nx ≤ 8 → rows ≤ 64 → i < nx * rows → rowPlace nx (i / nx) + 4 * (i % nx) + 4 ≤ 2130
-sample-inside nx rows i hx hr h =
-    let some = positive nx rows i h in
-    let row : i / nx < rows = div-lt-iff-lt-mul some .1 (rw (mul-comm nx rows) at h) in
-    last nx (i / nx) (i % nx) (row-inside nx (i / nx) hx (omega (arith, row))) (mod-lt i some)
-  where
-    positive : (nx rows i : ℕ) → i < nx * rows → 0 < nx
-    positive zero rows i h = absurd (not-suc-le-zero (rw (zero-mul rows) at h))
-    positive (suc nx) rows i h = omega arith
-
-    last : (nx j r : ℕ) → rowPlace nx j + 4 * nx ≤ 2128 → r < nx → rowPlace nx j + 4 * r + 4 ≤ 2130
-    last nx j r h l = omega arith
+use Rattle.reading.proofs.Prefix.{same-number, same-lines, same-samples, same-first}
+use Rattle.lines.specs.Output.{blockText, printed, outputOf}
 
 -- a third row that refuses leaves nothing to those behind it
 before : (a b : Checked) (r : Refusal) (ks ls : List Checked) (x y : List ℕ) → printed (inOrder (a ∷ b ∷ Refuses r ∷ ks)) x ≡ printed (inOrder (a ∷ b ∷ Refuses r ∷ ls)) y
@@ -59,73 +24,26 @@ before Passes Passes r ks ls x y = refl
 before Passes (Refuses q) r ks ls x y = refl
 before (Refuses q) b r ks ls x y = refl
 
-module _ (bytes : List ℕ) (B : ℕ) where
+module _ (bytes : List ℕ) (B : ℕ) (room : 2130 ≤ B) where
   abbrev first : List ℕ
   first = take B bytes
 
-  same-read : (p : ℕ) → p < B → readAt first p ≡ readAt bytes p
-  same-read p h = getD-take B bytes p ended h
+  -- the verdict, and the text where it passes
+  same-output : (n : Size) (cut : Cut) (k : Checked) → largeRow (n .nx) (n .ny) (n .nz) ≡ k
+      → printed (inOrder (earlyRows first n cut ++ ceilingRow (samplesRead first n) ∷ [])) (blockText n (samplesRead first n) cut)
+      ≡ printed (inOrder (earlyRows bytes n cut ++ ceilingRow (samplesRead bytes n) ∷ [])) (blockText n (samplesRead bytes n) cut)
+  same-output n cut Passes e =
+      let h = at-most-eight (n .nx) (n .ny) (n .nz) e in
+      rw (same-first bytes B room, same-lines bytes B room (n .nx) (n .ny * n .nz) (h .x) (h .rows), same-samples bytes B room n (h .x) (h .rows))
+  same-output n cut (Refuses r) e =
+      rw (same-first bytes B room, e) (before (firstLineRow bytes) (axisRow (n .nx) (n .ny) (n .nz)) r _ _ _ _)
 
-  same-number : (p k : ℕ) → p + k ≤ B → numberAt first p k ≡ numberAt bytes p k
-  unfolding numberAt
-  same-number p zero h = refl
-  same-number p (suc k) h =
-      ap₂ (λ (a b : ℕ). a * 16 + digitOf b % 16) (same-number p k (omega arith)) (same-read (p + k) (omega arith))
-
-  same-line : (p n : ℕ) → p + n < B → lineRight first p n ≡ lineRight bytes p n
-  unfolding lineRight
-  same-line p zero h = ap (λ (b : ℕ). eqb b LF) (same-read p (omega arith))
-  same-line p (suc n) h = ap₂ (λ (a b : Bool). a && b) (ap isDigit (same-read p (omega arith))) (same-line (p + 1) n (omega arith))
-
-  module _ (room : 2130 ≤ B) where
-    -- lines of at most 32 digits, at most 64 of them, and the end behind them
-    same-there : (nx rows j : ℕ) → nx ≤ 8 → rows ≤ 64 → j ≤ rows → lineThere first nx rows j ≡ lineThere bytes nx rows j
-    same-there nx rows j hx hr hj = go (lt-or-ge j rows)
-      where
-        place : rowPlace nx j < B
-        place = omega (arith, rows-small nx j hx (omega arith))
-
-        go : (j < rows) ⊎ (rows ≤ j) → lineThere first nx rows j ≡ lineThere bytes nx rows j
-        go (inl l) =
-            there-row first nx rows j l
-            ∙ same-line (rowPlace nx j) (4 * nx) (omega (arith, row-inside nx j hx (omega arith)))
-            ∙ sym (there-row bytes nx rows j l)
-        go (inr g) =
-            there-end first nx rows j g
-            ∙ ap (λ (b : ℕ). eqb b ended) (same-read (rowPlace nx j) place)
-            ∙ sym (there-end bytes nx rows j g)
-
-    same-lines : (nx rows : ℕ) → nx ≤ 8 → rows ≤ 64 → linesRow first nx rows ≡ linesRow bytes nx rows
-    unfolding rightLines
-    same-lines nx rows hx hr =
-        ap (λ (k : ℕ). cond (eqb k (rows + 1)) Passes (refuses 8 (k + 2)))
-        (leading-same (lineThere first nx rows) (lineThere bytes nx rows) (rows + 1) (λ j l. same-there nx rows j hx hr (omega arith)))
-
-    same-samples : (n : Size) → n .nx ≤ 8 → n .ny * n .nz ≤ 64 → samplesRead first n ≡ samplesRead bytes n
-    unfolding samplesRead
-    same-samples n hx hr =
-        below-same (λ (i : ℕ). sampleRead first (n .nx) i ∷ []) (λ (i : ℕ). sampleRead bytes (n .nx) i ∷ []) (sampleCount n)
-        (λ i l. ap (λ (v : ℕ). v ∷ []) (same-number _ 4 (omega (arith, sample-inside (n .nx) (n .ny * n .nz) i hx hr l))))
-
-    same-first : firstLineRow first ≡ firstLineRow bytes
-    same-first = ap (λ (b : Bool). cond b Passes (refuses 8 1)) (same-line 0 16 (omega arith))
-
-    -- the verdict, and the text where it passes
-    same-output : (n : Size) (cut : Cut) (k : Checked) → largeRow (n .nx) (n .ny) (n .nz) ≡ k
-        → printed (inOrder (earlyRows first n cut ++ ceilingRow (samplesRead first n) ∷ [])) (blockText n (samplesRead first n) cut)
-        ≡ printed (inOrder (earlyRows bytes n cut ++ ceilingRow (samplesRead bytes n) ∷ [])) (blockText n (samplesRead bytes n) cut)
-    same-output n cut Passes e =
-        let h = at-most-eight (n .nx) (n .ny) (n .nz) e in
-        rw (same-first, same-lines (n .nx) (n .ny * n .nz) (h .x) (h .rows), same-samples n (h .x) (h .rows))
-    same-output n cut (Refuses r) e =
-        rw (same-first, e) (before (firstLineRow bytes) (axisRow (n .nx) (n .ny) (n .nz)) r _ _ _ _)
-
-  -- the first 2,130 bytes, or more, are enough
-  pub prefix-enough : 2130 ≤ B → outputOf (take B bytes) ≡ outputOf bytes
-  unfolding outputOf
-  prefix-enough room =
-      rw (same-number 0 4 (omega arith), same-number 4 4 (omega arith), same-number 8 4 (omega arith), same-number 12 4 (omega arith))
-      (same-output room (sizeRead bytes) (cutRead bytes) _ refl)
+-- the first 2,130 bytes, or more, are enough
+pub prefix-enough : (bytes : List ℕ) (B : ℕ) → 2130 ≤ B → outputOf (take B bytes) ≡ outputOf bytes
+unfolding outputOf
+prefix-enough bytes B room =
+    rw (same-number bytes B 0 4 (omega arith), same-number bytes B 4 4 (omega arith), same-number bytes B 8 4 (omega arith), same-number bytes B 12 4 (omega arith))
+    (same-output bytes B room (sizeRead bytes) (cutRead bytes) _ refl)
 
 -- what the program reads: one buffer
 pub first-bytes : (bytes : List ℕ) → outputOf (take 4096 bytes) ≡ outputOf bytes

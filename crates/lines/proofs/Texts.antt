@@ -1,9 +1,9 @@
 -- Each kind of line, from the puts that write it, and its length; the lines of a whole mesh.
 -- Assumes nothing.
 use Prim.Native.Nat.{ℕ, zero, suc, _+_, _*_}
-use mathlib.Core.Path.{_≡_, _∙_}
-use mathlib.Core.List.{List, [], _∷_, _++_}
-use native.Mathlib.Nat.{mul-zero, mul-suc}
+use mathlib.Core.Path.{_≡_, sym, ap, _∙_}
+use mathlib.Core.List.{List, [], _∷_, _++_, append-assoc}
+use native.Mathlib.Nat.{add-zero, mul-zero, mul-suc}
 use native.Mathlib.Numerals.{add-one}
 use lib.ListN.{length, getD, length-append}
 use lib.Ieee.{Float, nan, toBits, binary64}
@@ -34,13 +34,21 @@ pub quad-length : (a b c d : ℕ) → length (quadFields a b c d) ≡ 35
 unfolding quadFields
 quad-length a b c d = simp (length-append, hex-length)
 
+-- the line that stands in the buffers, by its fields
+vertex-line : (words : List ℕ) (offsets : List Float) (v : ℕ)
+    → vertexFields (getD words (2 * v) 0) (getD words (2 * v + 1) 0) (getD offsets (3 * v) nan) (getD offsets (3 * v + 1) nan) (getD offsets (3 * v + 2) nan) ≡ vertexLine words offsets v
+unfolding vertexLine vertexFields below
+vertex-line words offsets v = simp (append-assoc, add-zero)
+
+quad-line : (quads : List ℕ) (q : ℕ) → quadFields (getD quads (4 * q) 0) (getD quads (4 * q + 1) 0) (getD quads (4 * q + 2) 0) (getD quads (4 * q + 3) 0) ≡ quadLine quads q
+unfolding quadLine quadFields below
+quad-line quads q = simp (append-assoc, add-zero)
+
 vertex-line-length : (words : List ℕ) (offsets : List Float) (v : ℕ) → length (vertexLine words offsets v) ≡ 63
-unfolding vertexLine vertexFields
-vertex-line-length words offsets v = vertex-length (getD words (2 * v) 0) (getD words (2 * v + 1) 0) (getD offsets (3 * v) nan) (getD offsets (3 * v + 1) nan) (getD offsets (3 * v + 2) nan)
+vertex-line-length words offsets v = ap length (sym (vertex-line words offsets v)) ∙ vertex-length _ _ _ _ _
 
 quad-line-length : (quads : List ℕ) (q : ℕ) → length (quadLine quads q) ≡ 35
-unfolding quadLine quadFields
-quad-line-length quads q = quad-length (getD quads (4 * q) 0) (getD quads (4 * q + 1) 0) (getD quads (4 * q + 2) 0) (getD quads (4 * q + 3) 0)
+quad-line-length quads q = ap length (sym (quad-line quads q)) ∙ quad-length _ _ _ _
 
 pub lines-length : (f : ℕ → List ℕ) (w : ℕ) → ((i : ℕ) → length (f i) ≡ w) → (n : ℕ) → length (below f n) ≡ w * n
 unfolding below
@@ -99,14 +107,12 @@ module _ {o₀ o₁ o₂ : List ℕ} {p₀ p₁ p₂ : ℕ} where
   pub vertex-more : (words : List ℕ) (offsets : List Float) (v : ℕ) → Put o₀ p₀ (below (vertexLine words offsets) v) o₁ p₁
       → Put o₁ p₁ (vertexFields (getD words (2 * v) 0) (getD words (2 * v + 1) 0) (getD offsets (3 * v) nan) (getD offsets (3 * v + 1) nan) (getD offsets (3 * v + 2) nan)) o₂ p₂
       → Put o₀ p₀ (below (vertexLine words offsets) (v + 1)) o₂ p₂
-  unfolding vertexLine vertexFields
-  vertex-more words offsets v a b = line-more (vertexLine words offsets) v a b
+  vertex-more words offsets v a b = line-more (vertexLine words offsets) v a (rw (vertex-line words offsets v) at b)
 
   pub quad-more : (quads : List ℕ) (q : ℕ) → Put o₀ p₀ (below (quadLine quads) q) o₁ p₁
       → Put o₁ p₁ (quadFields (getD quads (4 * q) 0) (getD quads (4 * q + 1) 0) (getD quads (4 * q + 2) 0) (getD quads (4 * q + 3) 0)) o₂ p₂
       → Put o₀ p₀ (below (quadLine quads) (q + 1)) o₂ p₂
-  unfolding quadLine quadFields
-  quad-more quads q a b = line-more (quadLine quads) q a b
+  quad-more quads q a b = line-more (quadLine quads) q a (rw (quad-line quads q) at b)
 
 pub mesh-put : (v q c : ℕ) (words : List ℕ) (offsets : List Float) (quads : List ℕ) {o₀ o₁ o₂ o₃ : List ℕ} {p₀ p₁ p₂ p₃ : ℕ} → c ≡ closedField (findingOf quads)
     → Put o₀ p₀ (headLine v q c) o₁ p₁ → Put o₁ p₁ (below (vertexLine words offsets) v) o₂ p₂ → Put o₂ p₂ (below (quadLine quads) q) o₃ p₃

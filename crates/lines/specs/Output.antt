@@ -33,13 +33,11 @@ headLine vertices quads closed = hexOf 2 0 ++ hexOf 8 vertices ++ hexOf 8 quads 
 -- "01, cube (8), mask (4), three offsets as f64 bits (16 each)": the vertex v of a mesh, as its buffers hold it
 unfoldable pub vertexLine : List ℕ → List Float → ℕ → List ℕ
 vertexLine words offsets v =
-    hexOf 2 1 ++ hexOf 8 (getD words (2 * v) 0) ++ hexOf 4 (getD words (2 * v + 1) 0) ++ hexOf 16 (toBits binary64 (getD offsets (3 * v) nan))
-    ++ hexOf 16 (toBits binary64 (getD offsets (3 * v + 1) nan)) ++ hexOf 16 (toBits binary64 (getD offsets (3 * v + 2) nan)) ++ LF ∷ []
+    hexOf 2 1 ++ hexOf 8 (getD words (2 * v) 0) ++ hexOf 4 (getD words (2 * v + 1) 0) ++ below (λ (a : ℕ). hexOf 16 (toBits binary64 (getD offsets (3 * v + a) nan))) 3 ++ LF ∷ []
 
 -- "02 and four vertex numbers (8 each)": the quad q
 unfoldable pub quadLine : List ℕ → ℕ → List ℕ
-quadLine quads q =
-    hexOf 2 2 ++ hexOf 8 (getD quads (4 * q) 0) ++ hexOf 8 (getD quads (4 * q + 1) 0) ++ hexOf 8 (getD quads (4 * q + 2) 0) ++ hexOf 8 (getD quads (4 * q + 3) 0) ++ LF ∷ []
+quadLine quads q = hexOf 2 2 ++ below (λ (i : ℕ). hexOf 8 (getD quads (4 * q + i) 0)) 4 ++ LF ∷ []
 
 -- a mesh of v vertices and q quads
 unfoldable pub meshText : ℕ → ℕ → List ℕ → List Float → List ℕ → List ℕ

@@ -10,7 +10,7 @@ ghost use mathlib.Core.List.{[], _∷_};
 ghost use Prim.Native.Nat.{_+_, _*_, _%_, _≤_, _<_};
 ghost use lib.ListN.{length, take};
 ghost use lib.Dec.{T};
-ghost use lib.Ieee.{Float, isNan};
+ghost use lib.Ieee.{isNan};
 ghost use Rattle.laws.specs.Below.{below};
 ghost use Rattle.block.specs.Rows.{ceilingRow};
 ghost use Rattle.reading.specs.Text.{hexOf, LF};

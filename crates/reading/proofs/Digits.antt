@@ -5,6 +5,7 @@ use mathlib.Core.Path.{_≡_, sym, _∙_}
 use mathlib.Core.Bool.{Bool, true, false, cond, _&&_}
 use native.Mathlib.Omega.{arith}
 use lib.Dec.{T, ltb, eqb}
+use lib.ListN.{getD}
 use borrow.Author.Tests.{lt-ltb, le-ltb, eqb-true}
 use Rattle.laws.proofs.Tests.{below, below-at, is-true}
 use Rattle.block.specs.Rows.{lowest}
@@ -68,5 +69,5 @@ module _ (d : ℕ) (h : d < 16) where
   glyph-high g = sym (glyph-is ∙ rw (le-ltb d 10 g))
 
   -- a digit that is written is read as it was
-  pub digit-back : digitOf (glyph d) ≡ d
+  pub digit-back : digitOf (getD digits d 0) ≡ d
   digit-back = eqb-true _ _ (is-true _ (and-right (eqb (glyph d) (glyphBy d)) _ both-at))

@@ -3,5 +3,7 @@ pub mod Line
 pub mod Reading
 pub mod Axes
 pub mod Verdicts
+pub mod Samples
+pub mod Prefix
 pub mod Rules
 pub mod Fixed

@@ -9,7 +9,7 @@ use native.Mathlib.Omega.{arith}
 use lib.Dec.{eqb}
 use lib.ListN.{length, getD}
 use borrow.Author.Tests.{lt-ltb, le-ltb, eq-eqb, ne-eqb}
-use Rattle.laws.proofs.Leading.{HoldsTo, leading-at, leading-all}
+use Rattle.laws.proofs.Leading.{leading-at, leading-all}
 use Rattle.block.specs.declared.Checked.the-variants.{Passes, Refuses}
 use Rattle.block.proofs.Rows.{given-small}
 use Rattle.reading.specs.Text.{ended, readAt, digitOf, numberAt, lineRight}
@@ -78,11 +78,12 @@ module _ (bytes : List ℕ) (nx rows : ℕ) where
   pub there-end : (j : ℕ) → rows ≤ j → lineThere bytes nx rows j ≡ eqb (readAt bytes (rowPlace nx j)) ended
   there-end j h = rw (le-ltb j rows h)
 
-  pub wrong-line : (j : ℕ) → j ≤ rows → HoldsTo (lineThere bytes nx rows) j → lineThere bytes nx rows j ≡ false → j ≡ rightLines bytes nx rows
+  -- the first wrong line, and none
+  pub wrong-line : (j : ℕ) → j ≤ rows → ((i : ℕ) → i < j → lineThere bytes nx rows i ≡ true) → lineThere bytes nx rows j ≡ false → j ≡ rightLines bytes nx rows
   unfolding rightLines
   wrong-line j h a e = sym (leading-at (lineThere bytes nx rows) (rows + 1) j (omega arith) a e)
 
-  pub all-lines : (j : ℕ) → j ≡ rows + 1 → HoldsTo (lineThere bytes nx rows) j → j ≡ rightLines bytes nx rows
+  pub all-lines : (j : ℕ) → j ≡ rows + 1 → ((i : ℕ) → i < j → lineThere bytes nx rows i ≡ true) → j ≡ rightLines bytes nx rows
   unfolding rightLines
   all-lines j h a = h ∙ sym (leading-all (lineThere bytes nx rows) (rows + 1) (rw h at a))
 

@@ -12,7 +12,7 @@ use Rattle.block.specs.Rows.{ceilingRow}
 use Rattle.lines.specs.Output.{printed, blockText}
 use Rattle.lines.specs.Steps.{Put}
 use Rattle.reading.proofs.Axes.{at-most-eight}
-use Rattle.lines.proofs.Blocks.{block-small, samples-grey, samples-front}
+use Rattle.reading.proofs.Samples.{block-small, samples-grey, samples-front}
 use borrow.Author.Needs.{needs}
 use Rattle.lines.proofs.answer.Statement.{statement}
 use Rattle.lines.proofs.answer.Tie as tie
