@@ -116,19 +116,19 @@ first-has P (Refuses q ∷ ks) h r e = h .0 r e
 
 -- ---- answers: what is judged is refused as the checks say, and else accepted with what it is
 
-refused-there : {A : Type 0} (k : Checked) (a : A) (r : Refusal) → judged k a ≡ refused r → k ≡ Refuses r
+pub refused-says : {A : Type 0} (k : Checked) (a : A) (r : Refusal) → refused r ≡ judged k a → k ≡ Refuses r
 unfolding decided
-refused-there Passes a r e = absurd (accepted-refused e)
-refused-there (Refuses q) a r e = cc
+refused-says Passes a r e = absurd (accepted-refused (sym e))
+refused-says (Refuses q) a r e = cc
 
 refused-back : {A : Type 0} (k : Checked) (a : A) (r : Refusal) → k ≡ Refuses r → judged k a ≡ refused r
 unfolding decided
 refused-back k a r e = rw e
 
-accepted-there : {A : Type 0} (k : Checked) (a b : A) → judged k a ≡ accepted b → (k ≡ Passes) × (b ≡ a)
+pub accepted-says : {A : Type 0} (k : Checked) (a b : A) → accepted b ≡ judged k a → (k ≡ Passes) × (b ≡ a)
 unfolding decided
-accepted-there Passes a b e = (refl, cc)
-accepted-there (Refuses q) a b e = absurd (accepted-refused (sym e))
+accepted-says Passes a b e = (refl, cc)
+accepted-says (Refuses q) a b e = absurd (accepted-refused e)
 
 accepted-back : {A : Type 0} (k : Checked) (a b : A) → k ≡ Passes → b ≡ a → judged k a ≡ accepted b
 unfolding decided
@@ -136,7 +136,7 @@ accepted-back k a b e f = rw (e, f)
 
 module _ {A : Type 0} (k : Checked) (a : A) (said : Answer A) (promise : said ≡ judged k a) where
   pub refused-exactly : (r : Refusal) → (said ≡ refused r) ↔ (k ≡ Refuses r)
-  refused-exactly r = (λ e. refused-there k a r (sym promise ∙ e), λ e. promise ∙ refused-back k a r e)
+  refused-exactly r = (λ e. refused-says k a r (sym e ∙ promise), λ e. promise ∙ refused-back k a r e)
 
   pub accepted-exactly : (b : A) → (said ≡ accepted b) ↔ ((k ≡ Passes) × (b ≡ a))
-  accepted-exactly b = (λ e. accepted-there k a b (sym promise ∙ e), λ h. promise ∙ accepted-back k a b (h .0) (h .1))
+  accepted-exactly b = (λ e. accepted-says k a b (sym e ∙ promise), λ h. promise ∙ accepted-back k a b (h .0) (h .1))

@@ -20,6 +20,7 @@ use Rattle.block.specs.Answer.{Answer, accepted, refused, inOrder, decid
 use Rattle.block.specs.Rows.{shortest, longest, outOfLimits, axisRow, lowestRow, lowest}
 use Rattle.block.specs.Size.{saidSize, sizeAnswer, SizeMade, Limits}
 use Rattle.block.proofs.Lowest.{row-clear}
+use Rattle.block.proofs.Order.{order-last, refused-says, accepted-says}
 
 -- no two answers say the same
 pub said-size-injective : Injective saidSize
@@ -84,14 +85,15 @@ pub within-axes : (nx ny nz : ℕ) → Limits (record { nx = nx; ny = ny; nz = n
 unfolding lowestRow lowest
 within-axes nx ny nz l = simp (in-limits nx (l .x-low) (l .x-high), in-limits ny (l .y-low) (l .y-high), in-limits nz (l .z-low) (l .z-high))
 
+-- what row 1 says, by what `Size::new` answered
+pub axis-refused : (nx ny nz a : ℕ) → SizeMade nx ny nz (BadAxis a) → axisRow nx ny nz ≡ Refuses (record { number = 1; value = a })
+axis-refused nx ny nz a e = sym (order-last (axisRow nx ny nz)) ∙ refused-says _ _ _ e
+
+pub axis-passed : (nx ny nz : ℕ) (n : Size) → SizeMade nx ny nz (Made n) → axisRow nx ny nz ≡ Passes
+axis-passed nx ny nz n e = sym (order-last (axisRow nx ny nz)) ∙ accepted-says _ _ _ e .0
+
 -- every size that `Size::new` answers is that of the three axis lengths, and within its limits
 pub size-made : (nx ny nz : ℕ) (n : Size) → SizeMade nx ny nz (Made n) → (n ≡ record { nx = nx; ny = ny; nz = nz }) × Limits n
-unfolding inOrder decided
-size-made nx ny nz n e = go (axisRow nx ny nz) refl e
-  where
-    size : Size
-    size = record { nx = nx; ny = ny; nz = nz }
-
-    go : (k : Checked) → axisRow nx ny nz ≡ k → accepted n ≡ judged (inOrder (k ∷ [])) size → (n ≡ size) × Limits n
-    go Passes p q = let same : n ≡ size = cc in (same, rw same (axes-within nx ny nz p))
-    go (Refuses r) p q = let z : _≡_ {A = ℕ} 0 1 = cc in absurd (omega arith)
+size-made nx ny nz n e =
+    let same : n ≡ record { nx = nx; ny = ny; nz = nz } = accepted-says _ _ _ e .1 in
+    (same, rw same (axes-within nx ny nz (axis-passed nx ny nz n e)))

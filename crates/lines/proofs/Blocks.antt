@@ -11,13 +11,13 @@ use Rattle.block.specs.declared.Size.{Size}
 use Rattle.block.specs.declared.Refusal.{Refusal}
 use Rattle.block.specs.declared.Checked.{Checked}
 use Rattle.block.specs.declared.Checked.the-variants.{Passes, Refuses}
-use Rattle.block.specs.Answer.{inOrder}
+use Rattle.block.specs.Answer.{inOrder, decided}
 use Rattle.block.specs.Rows.{axisRow, countRow, thresholdRow, ceilingRow}
-use Rattle.block.proofs.Order.{order-passes}
+use Rattle.block.proofs.Order.{order-passes, refused-says, accepted-says}
 use Rattle.block.proofs.Rows.{count-passes}
 use Rattle.cube_rule.specs.Decider.{loopsOf}
 use Rattle.mesh_rule.specs.Buffers.{meshWords, meshOffsets, meshQuads}
-use Rattle.block.specs.Grey.{SixteenBit}
+use Rattle.block.specs.Grey.{cutOf, SixteenBit}
 use Rattle.mesh_rule.proofs.Offsets.{offset-numbers, mesh-offsets-length}
 use Rattle.mesh_rule.proofs.Words.{mesh-words-length}
 use Rattle.mesh_rule.proofs.Small.{few-vertices, few-quads}
@@ -27,11 +27,10 @@ use Rattle.mesh.specs.declared.Counted.the-variants as counted
 use Rattle.mesh.specs.Answer.{sizeOf, vertexCount, quadCount, countsOf, meshVerdict, written, Meshed}
 use Rattle.mesh.proofs.RoomRows.{roomy}
 use Rattle.mesh.proofs.Tallies.{quads-all-length}
-use Rattle.lines.specs.Output.{refusalLine, meshText, blockText, printed}
-use Rattle.lines.specs.Steps.{Numbers, Readable}
+use Rattle.lines.specs.Output.{refusalLine, meshText, blockText}
+use Rattle.lines.specs.Steps.{Numbers, Readable, printed}
 use Rattle.reading.proofs.Axes.{AtMostEight, at-most-eight}
 use Rattle.reading.proofs.Samples.{front}
-use Rattle.reading.proofs.Verdicts.{refused-by, accepted-by}
 
 -- ---- the mesh
 
@@ -42,7 +41,7 @@ ceiling-decides Passes ks e = e
 ceiling-decides (Refuses r) ks e = refl
 
 written-front : {A : Type 0} (k : Checked) (xs b c : List A) (m : ℕ) → k ≡ Passes → c ≡ written k xs b → length xs ≡ m → take m c ≡ xs
-unfolding written
+unfolding decided
 written-front k xs b c m e d l = rw (d, e) (front xs b m l)
 
 -- what is at the front of the buffers of an accepted block
@@ -53,12 +52,12 @@ pub record Front (n : Size) (s : List ℕ) (cut : Cut) (w : List ℕ) (o : List 
 
 module _ (nx ny nz t : ℕ) (s w : List ℕ) (o : List Float) (q : List ℕ) (r : Counted) (w′ : List ℕ) (o′ : List Float) (q′ : List ℕ)
     (read : Readable nx ny nz t) (count : length s ≡ nx * (ny * nz)) (lw : length w ≡ 2744) (lo : length o ≡ 4116) (lq : length q ≡ 3024)
-    (m : Meshed nx ny nz s t w o q r w′ o′ q′) where
+    (m : Meshed nx ny nz s (cutOf t) w o q r w′ o′ q′) where
   abbrev size : Size
   size = sizeOf nx ny nz
 
   abbrev cut : Cut
-  cut = record { t = t }
+  cut = cutOf t
 
   abbrev verdict : Checked
   verdict = meshVerdict nx ny nz s cut (length w) (length o) (length q)
@@ -75,20 +74,20 @@ module _ (nx ny nz t : ℕ) (s w : List ℕ) (o : List Float) (q : List ℕ) (r 
   is-ceiling : verdict ≡ ceilingRow s
   is-ceiling =
       order-passes (axisRow nx ny nz) _ (read .axes)
-      ∙ order-passes (countRow size s) _ (count-passes size s count)
+      ∙ order-passes (countRow size (length s)) _ (count-passes size (length s) count)
       ∙ order-passes (thresholdRow cut) _ (read .cut)
       ∙ ceiling-decides (ceilingRow s) _
       (roomy (vertexCount size s cut) (quadCount size s cut) (length w) (length o) (length q) (omega (arith, few-v, lw)) (omega (arith, few-v, lo)) (omega (arith, few-q, lq)))
 
   -- refused
   pub refused-text : (x : Refusal) → r ≡ counted.Refused x → refusalLine x ≡ printed (ceilingRow s) (blockText size s cut)
-  unfolding printed
-  refused-text x e = rw (sym is-ceiling ∙ refused-by verdict (countsOf size s cut) x (rw e at (m .answer)))
+  unfolding decided
+  refused-text x e = rw (sym is-ceiling ∙ refused-says verdict (countsOf size s cut) x (rw e at (m .answer)))
 
   -- accepted
   module _ (c : Totals) (e : r ≡ counted.Counts c) where
     both : (verdict ≡ Passes) × (c ≡ countsOf size s cut)
-    both = accepted-by verdict (countsOf size s cut) c (rw e at (m .answer))
+    both = accepted-says verdict (countsOf size s cut) c (rw e at (m .answer))
 
     vertices-are : c .vertices ≡ vertexCount size s cut
     vertices-are = ap (λ (x : Totals). x .vertices) (both .1)
@@ -107,7 +106,7 @@ module _ (nx ny nz t : ℕ) (s w : List ℕ) (o : List Float) (q : List ℕ) (r 
 
     accepted-text : meshText (c .vertices) (c .quads) (take (2 * c .vertices) w′) (take (3 * c .vertices) o′) (take (4 * c .quads) q′)
         ≡ printed (ceilingRow s) (blockText size s cut)
-    unfolding printed
+    unfolding decided
     accepted-text = rw (words-are, offsets-are, quad-numbers-are, vertices-are, quads-are, sym is-ceiling ∙ both .0)
 
     pub accepted-front : SixteenBit s → Front size s cut w′ o′ q′ c

@@ -9,7 +9,7 @@ use borrow.Author.Tests.{eq-eqb}
 use Rattle.block.specs.declared.Refusal.{Refusal}
 use Rattle.block.specs.declared.Checked.{Checked}
 use Rattle.block.specs.declared.Checked.the-variants.{Passes}
-use Rattle.block.specs.Answer.{Answer, accepted, refused, inOrder, judged}
+use Rattle.block.specs.Answer.{Answer, accepted, refused, inOrder, judged, decided}
 use Rattle.closed.specs.declared.Closure.{Closure}
 use Rattle.closed.specs.declared.Closure.the-variants.{Closed, Open, Refused}
 use Rattle.closed.specs.Closed.{Finding, allSound, openAt, findingOf, lengthRow, saidClosure, ClosedAnswered}
@@ -18,7 +18,7 @@ use Rattle.lines.specs.Output.{closedField}
 module _ (quads : List ℕ) (four : length quads % 4 ≡ 0) where
   -- such a list is not refused
   said-finding : (r : Closure) → ClosedAnswered quads r → saidClosure r ≡ accepted (findingOf quads)
-  unfolding inOrder judged
+  unfolding inOrder decided
   said-finding r e = subst (λ (k : Checked). saidClosure r ≡ judged (inOrder (k ∷ [])) (findingOf quads)) passes e
     where
       passes : lengthRow quads ≡ Passes

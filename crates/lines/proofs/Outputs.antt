@@ -13,7 +13,7 @@ use Rattle.block.specs.declared.Size.{Size}
 use Rattle.block.specs.declared.Refusal.{Refusal}
 use Rattle.block.specs.declared.Checked.{Checked}
 use Rattle.block.specs.declared.Checked.the-variants.{Passes, Refuses}
-use Rattle.block.specs.Answer.{inOrder}
+use Rattle.block.specs.Answer.{inOrder, decided}
 use Rattle.block.specs.Rows.{lowest, axisRow, ceilingRow}
 use Rattle.block.proofs.Order.{order-first, order-rest, order-last, orders-refuse, orders-pass}
 use Rattle.cube_rule.specs.Decider.{loopsOf}
@@ -22,8 +22,8 @@ use Rattle.mesh_rule.specs.Buffers.{meshWords, meshOffsets, meshQuads}
 use Rattle.mesh.specs.Answer.{sizeOf, vertexCount, quadCount}
 use Rattle.reading.specs.Text.{digits, numberAt, lineRight}
 use Rattle.reading.specs.Input.{firstLineRow, largeRow, sizeRead, cutRead, samplesRead, earlyRows, inputVerdict}
-use Rattle.lines.specs.Output.{refusalLine, blockText, printed, outputOf, Ran}
-use Rattle.lines.specs.Steps.{Put, Readable}
+use Rattle.lines.specs.Output.{refusalLine, blockText, outputOf, Ran}
+use Rattle.lines.specs.Steps.{Put, Readable, printed}
 use Rattle.reading.proofs.Axes.{AtMostEight, at-most-eight}
 use Rattle.lines.proofs.Texts.{refusal-length, mesh-length}
 use Rattle.lines.proofs.Writing.{put-over, put-length}
@@ -45,7 +45,7 @@ output-for bytes nx ny nz t ex ey ez et = rw (ex, ey, ez, et)
 module _ (bytes : List ℕ) (nx ny nz t : ℕ) (ex : nx ≡ numberAt bytes 0 4) (ey : ny ≡ numberAt bytes 4 4) (ez : nz ≡ numberAt bytes 8 4) (et : t ≡ numberAt bytes 12 4) where
   -- a row before row 4 refuses
   pub output-refused : (r : Refusal) → inOrder (earlyRows bytes (sizeOf nx ny nz) (record { t = t })) ≡ Refuses r → refusalLine r ≡ outputOf bytes
-  unfolding printed
+  unfolding decided
   output-refused r e =
       sym (output-for bytes nx ny nz t ex ey ez et
       ∙ ap (λ (k : Checked). printed k (textFor bytes (sizeOf nx ny nz) (record { t = t })))
@@ -74,7 +74,7 @@ text-fits n s cut h =
 
 -- no output is longer
 pub output-fits : (bytes : List ℕ) → length (outputOf bytes) ≤ 112917
-unfolding outputOf printed
+unfolding outputOf decided
 output-fits bytes = go (inputVerdict bytes) refl
   where
     go : (k : Checked) → inputVerdict bytes ≡ k → length (printed k (textFor bytes (sizeRead bytes) (cutRead bytes))) ≤ 112917
@@ -103,5 +103,5 @@ run-fixed bytes out a b p q = ap₂ (λ (n : ℕ) (l : List ℕ). (n, l)) (p .co
 -- ---- the paper's example
 
 pub empty-input : outputOf [] ≡ refusalLine (record { number = 8; value = 1 })
-unfolding outputOf printed inOrder lineRight digits lowest
+unfolding outputOf decided inOrder lineRight digits lowest
 empty-input = refl

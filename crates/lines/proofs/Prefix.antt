@@ -10,16 +10,17 @@ use Rattle.block.specs.declared.Size.{Size}
 use Rattle.block.specs.declared.Refusal.{Refusal}
 use Rattle.block.specs.declared.Checked.{Checked}
 use Rattle.block.specs.declared.Checked.the-variants.{Passes, Refuses}
-use Rattle.block.specs.Answer.{inOrder}
+use Rattle.block.specs.Answer.{inOrder, decided}
 use Rattle.block.specs.Rows.{axisRow, ceilingRow}
 use Rattle.reading.specs.Input.{firstLineRow, largeRow, samplesRead, sizeRead, cutRead, earlyRows}
 use Rattle.reading.proofs.Axes.{at-most-eight}
 use Rattle.reading.proofs.Prefix.{same-number, same-lines, same-samples, same-first}
-use Rattle.lines.specs.Output.{blockText, printed, outputOf}
+use Rattle.lines.specs.Output.{blockText, outputOf}
+use Rattle.lines.specs.Steps.{printed}
 
 -- a third row that refuses leaves nothing to those behind it
 before : (a b : Checked) (r : Refusal) (ks ls : List Checked) (x y : List ℕ) → printed (inOrder (a ∷ b ∷ Refuses r ∷ ks)) x ≡ printed (inOrder (a ∷ b ∷ Refuses r ∷ ls)) y
-unfolding inOrder printed
+unfolding inOrder decided
 before Passes Passes r ks ls x y = refl
 before Passes (Refuses q) r ks ls x y = refl
 before (Refuses q) b r ks ls x y = refl

@@ -8,8 +8,7 @@ use Rattle.laws.specs.Below.{below, over}
 use Rattle.block.specs.declared.Cut.{Cut}
 use Rattle.block.specs.declared.Size.{Size}
 use Rattle.block.specs.declared.Refusal.{Refusal}
-use Rattle.block.specs.declared.Checked.{Checked}
-use Rattle.block.specs.declared.Checked.the-variants.{Passes, Refuses}
+use Rattle.block.specs.Answer.{decided}
 use Rattle.cube_rule.specs.Decider.{loopsOf}
 use Rattle.mesh_rule.specs.Buffers.{meshWords, meshOffsets, meshQuads}
 use Rattle.mesh.specs.Answer.{vertexCount, quadCount}
@@ -48,14 +47,9 @@ meshText v q words offsets quads =
 abbrev pub blockText : Size → List ℕ → Cut → List ℕ
 blockText n s cut = meshText (vertexCount n s cut) (quadCount n s cut) (meshWords loopsOf n s cut) (meshOffsets loopsOf n s cut) (meshQuads loopsOf n s cut)
 
--- what is written where the checks say k: the text, or a refusal
-unfoldable pub printed : Checked → List ℕ → List ℕ
-printed Passes text = text
-printed (Refuses r) text = refusalLine r
-
--- the program's output for its input
+-- the program's output for its input: this text, or the line of a refusal
 unfoldable pub outputOf : List ℕ → List ℕ
-outputOf bytes = printed (inputVerdict bytes) (blockText (sizeRead bytes) (samplesRead bytes (sizeRead bytes)) (cutRead bytes))
+outputOf bytes = decided (inputVerdict bytes) (blockText (sizeRead bytes) (samplesRead bytes (sizeRead bytes)) (cutRead bytes)) refusalLine
 
 -- `run` prints these bytes: it answers how many they are, and its buffer, out at entry and out′ at exit, has them at the front
 pub record Prints (bytes out : List ℕ) (r : ℕ) (out′ : List ℕ) : Type 0 where

@@ -1,5 +1,6 @@
 // The program (document 01, "The program"): an input is read, and its mesh or a refusal is written as lines of upper-case hexadecimal.
 use block::Checked;
+use block::Cut;
 use block::Refusal;
 use closed::Closure;
 use mesh::Counted;
@@ -19,8 +20,8 @@ ghost use Rattle.reading.specs.Input.{samplesRead};
 ghost use Rattle.closed.specs.Closed.{findingOf};
 ghost use Rattle.mesh.specs.Answer.{sizeOf};
 ghost use Rattle.block.specs.Grey.{SixteenBit};
-ghost use Rattle.lines.specs.Output.{refusalLine, headLine, vertexLine, quadLine, closedField, meshText, blockText, printed, Ran};
-ghost use Rattle.lines.specs.Steps.{Put, Numbers, Readable, vertexFields, quadFields};
+ghost use Rattle.lines.specs.Output.{refusalLine, headLine, vertexLine, quadLine, closedField, meshText, blockText, Ran};
+ghost use Rattle.lines.specs.Steps.{Put, Numbers, Readable, vertexFields, quadFields, printed};
 
 // The longest output: a head line, four vertices in each of 7·7·7 cubes, and a quad for each of 3·7·6·6 inner edges.
 pub const ROOM: usize = 112917;
@@ -216,7 +217,7 @@ fn put_block(out: &mut [u8], nx: u32, ny: u32, nz: u32, samples: &[u16], t: u16)
     let mut words = [0u32; 2744];
     let mut offsets = [0.0f64; 4116];
     let mut quads = [0u32; 3024];
-    let counted = mesh::mesh(nx, ny, nz, samples, t, &mut words, &mut offsets, &mut quads);
+    let counted = mesh::mesh(nx, ny, nz, samples, Cut { t: t }, &mut words, &mut offsets, &mut quads);
     match counted {
         Counted::Refused(r) => put_refusal(out, r),
         Counted::Counts(totals) => put_front(out, totals, &words, &offsets, &quads),

@@ -23,29 +23,11 @@ use Rattle.block.specs.Rows.{axisRow, countRow}
 use Rattle.block.specs.Size.{SizeMade, Limits}
 use Rattle.block.proofs.Order.{passes-refuses, order-refuses, order-passes, order-first, order-rest}
 use Rattle.block.proofs.Accepted.{accepted-by}
-use Rattle.block.proofs.Sizes.{size-made}
+use Rattle.block.proofs.Sizes.{axis-refused, axis-passed, size-made}
 use Rattle.mesh.specs.declared.Counted.{Counted}
 use Rattle.mesh.specs.declared.Counted.the-variants as counted
 use Rattle.mesh.specs.Answer.{countsOf, saidCounts, sizeOf, blockRows, roomRows, CountsAnswered, written, MeshedBy, Meshed}
 use Rattle.mesh.specs.Steps.{Block, Meshable}
-
--- ---- what row 1 says, by what `Size::new` answered
-
-pub axis-refused : (nx ny nz a : ℕ) → SizeMade nx ny nz (BadAxis a) → axisRow nx ny nz ≡ Refuses (record { number = 1; value = a })
-unfolding inOrder decided
-axis-refused nx ny nz a e = go (axisRow nx ny nz) e
-  where
-    go : (k : Checked) → refused (record { number = 1; value = a }) ≡ judged (inOrder (k ∷ [])) (sizeOf nx ny nz) → k ≡ Refuses (record { number = 1; value = a })
-    go Passes e = let z : _≡_ {A = ℕ} 0 1 = cc in absurd (omega arith)
-    go (Refuses r) e = cc
-
-pub axis-passed : (nx ny nz : ℕ) (n : Size) → SizeMade nx ny nz (Made n) → axisRow nx ny nz ≡ Passes
-unfolding inOrder decided
-axis-passed nx ny nz n e = go (axisRow nx ny nz) e
-  where
-    go : (k : Checked) → accepted n ≡ judged (inOrder (k ∷ [])) (sizeOf nx ny nz) → k ≡ Passes
-    go Passes e = refl
-    go (Refuses r) e = let z : _≡_ {A = ℕ} 0 1 = cc in absurd (omega arith)
 
 -- ---- a refused axis refuses the call, and leaves every buffer
 

@@ -38,7 +38,7 @@ pub record AtMostEight (nx ny nz : ℕ) : Type 0 where
 
 pub at-most-eight : (nx ny nz : ℕ) → largeRow nx ny nz ≡ Passes → AtMostEight nx ny nz
 at-most-eight nx ny nz e =
-    let clear = row-clear (ltb 8) 9 (nx ∷ ny ∷ nz ∷ []) e in
+    let clear = row-clear (ltb 8) 0 9 (nx ∷ ny ∷ nz ∷ []) e in
     let hy = ltb-false 8 ny (clear 1 (omega arith)) in
     let hz = ltb-false 8 nz (clear 2 (omega arith)) in
     record { x = ltb-false 8 nx (clear 0 (omega arith)); y = hy; z = hz; rows = mul-le-mul hy hz }

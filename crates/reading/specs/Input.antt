@@ -10,6 +10,7 @@ use Rattle.block.specs.declared.Size.{Size}
 use Rattle.block.specs.declared.Checked.{Checked}
 use Rattle.block.specs.declared.Checked.the-variants.{Passes}
 use Rattle.block.specs.Answer.{refuses, inOrder}
+use Rattle.block.specs.Grey.{cutOf}
 use Rattle.block.specs.Numbering.{sampleCount}
 use Rattle.block.specs.Rows.{lowestRow, axisRow, thresholdRow, ceilingRow}
 use Rattle.reading.specs.Text.{ended, readAt, numberAt, lineRight}
@@ -47,7 +48,7 @@ module _ (bytes : List ℕ) where
   sizeRead = record { nx = numberAt bytes 0 4; ny = numberAt bytes 4 4; nz = numberAt bytes 8 4 }
 
   abbrev pub cutRead : Cut
-  cutRead = record { t = numberAt bytes 12 4 }
+  cutRead = cutOf (numberAt bytes 12 4)
 
   -- "Line 1 is read, then refusals 1, 9, 3 are tried, then the rows, then the end of input, then 4."
   abbrev pub earlyRows : Size → Cut → List Checked

@@ -2,7 +2,7 @@
 -- Assumes nothing.
 use mathlib.Core.Path.{sym, subst}
 use Rattle.block.specs.Size.{SizeMade}
-use Rattle.reading.proofs.Verdicts.{axis-refused, axis-passed}
+use Rattle.block.proofs.Sizes.{axis-refused, axis-passed}
 use borrow.Author.Needs.{needs}
 use Rattle.reading.proofs.check_axes.Statement.{statement}
 use Rattle.reading.proofs.check_axes.Tie as tie
