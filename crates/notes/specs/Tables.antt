@@ -16,8 +16,8 @@ unfoldable pub whichOf : List ℕ → ℕ
 whichOf ws = bitOr (getD ws 1 0) (getD ws 3 0) % 65536 + 65536 * (bitOr (getD ws 2 0) (getD ws 3 0) % 65536)
 
 -- the number that a row's numbers give the vertex of cube x at the edge e
-unfoldable pub numberAt : List ℕ → ℕ → ℕ → ℕ
-numberAt numbers x e =
+unfoldable pub vertexIn : List ℕ → ℕ → ℕ → ℕ
+vertexIn numbers x e =
     (getD numbers (2 * x) 0 + (getD numbers (2 * x + 1) 0 % 65536 / 2 ^ e % 2 + 2 * (getD numbers (2 * x + 1) 0 / 65536 / 2 ^ e % 2))) % 4294967296
 
 -- what stands in a place of a cube with the words ws: what is noted, or what stood there if it has no vertex

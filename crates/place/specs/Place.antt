@@ -13,15 +13,12 @@ use Rattle.cube_rule.specs.Edges.{lower, upper, axisOf, cornerOn, cornerSample}
 use Rattle.place.specs.declared.Offset.{Offset}
 use Rattle.place.specs.Crossing.{float, fraction}
 
--- 0, 1 and −0 as floats
+-- 0 and 1 as floats
 abbrev pub plusZero : Float
 plusZero = fin false 0 (pos 0)
 
 abbrev pub one : Float
 one = fin false 1 (pos 0)
-
-abbrev pub minusZero : Float
-minusZero = fin true 0 (pos 0)
 
 -- "0, 1 or the fraction (the crossing's local coordinate)": on the axis a, of a crossing of the edge e at the fraction f
 unfoldable pub local : ℕ → ℕ → Float → Float

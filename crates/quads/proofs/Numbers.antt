@@ -34,7 +34,7 @@ use Rattle.mesh_rule.proofs.Holders.{first-lt}
 use Rattle.mesh_rule.proofs.Inner.{CrossedIn}
 use Rattle.mesh_rule.proofs.Numbers.{one-for-each-loop, corners-of-number}
 use Rattle.cube_vertices.specs.Cubes.{namesBy}
-use Rattle.notes.specs.Tables.{whichOf, numberAt}
+use Rattle.notes.specs.Tables.{whichOf, vertexIn}
 use Rattle.quads.specs.Writing.{RowTable}
 
 -- ---- which vertex has an edge
@@ -214,8 +214,8 @@ module _ {D : Decider} {loopsOf : Cut → List ℕ → List ℕ} (laws : CubeLaw
   in-box : cubeNumber n x y z < cubeCount n
   in-box = index-lt (n .nx - 1) (n .ny - 1) x y z (h .cube-in .0) (h .cube-in .1) (n .nz - 1) (h .cube-in .2)
 
-  pub numbered-vertex : numberAt numbers x e ≡ vertexAt loopsOf n s cut x y z e
-  unfolding numberAt vertexNumber
+  pub numbered-vertex : vertexIn numbers x e ≡ vertexAt loopsOf n s cut x y z e
+  unfolding vertexIn vertexNumber
   numbered-vertex =
       ap₂ (λ (f w : ℕ). (f + (w % 65536 / 2 ^ e % 2 + 2 * (w / 65536 / 2 ^ e % 2))) % 4294967296) (t .first x (h .cube-in .0) some) (t .which x (h .cube-in .0) some)
       ∙ ap (λ (d : ℕ). (before + d) % 4294967296) (which-digits names e (omega (arith, h .edge-lt)) ∙ which)

@@ -15,7 +15,7 @@ use Rattle.laws.proofs.Stores.{sets-join, sets-length}
 use Rattle.laws.proofs.Visit.{Left, below-none, below-one}
 use Rattle.mesh_rule.specs.Mesh.{quad, turned, flat}
 use Rattle.rows.specs.Rows.{picked}
-use Rattle.notes.specs.Tables.{numberAt}
+use Rattle.notes.specs.Tables.{vertexIn}
 use Rattle.rows.proofs.Visits.{bitsOf, picked-next, picked-end, picked-room}
 use Rattle.quads.specs.Writing.{quadBy, Wrote}
 
@@ -43,7 +43,7 @@ wrote-as {xs} {ys} {from} {end} {b} {w} e h = subst (λ (zs : List ℕ). Wrote z
 -- ---- the quad of an edge, by its four numbers
 
 pub edge-wrote : (e back sign : ℕ) (n0 n1 n2 n3 : List ℕ) (up x from : ℕ) (b : List ℕ) {v0 v1 v2 v3 : ℕ} {w : List ℕ}
-    → v0 ≡ numberAt n0 (x - back) (e + 3) → v1 ≡ numberAt n1 x (e + 2) → v2 ≡ numberAt n2 x e → v3 ≡ numberAt n3 (x - back) (e + 1)
+    → v0 ≡ vertexIn n0 (x - back) (e + 3) → v1 ≡ vertexIn n1 x (e + 2) → v2 ≡ vertexIn n2 x e → v3 ≡ vertexIn n3 (x - back) (e + 1)
     → w ≡ sets b from (flat (turned (eqb up sign) (quad v0 v1 v2 v3) ∷ [])) → w ≡ sets b from (quadBy e back sign n0 n1 n2 n3 up x)
 unfolding quadBy
 edge-wrote e back sign n0 n1 n2 n3 up x from b e0 e1 e2 e3 h = rw (← e0, ← e1, ← e2, ← e3) h

@@ -18,7 +18,7 @@ use Rattle.mesh_rule.specs.Layers.{rowCube}
 use Rattle.mesh_rule.specs.Mesh.{quad, turned, flat, quadAt, cubeLoops, verticesBefore}
 use Rattle.cube_vertices.specs.Cubes.{namesBy}
 use Rattle.rows.specs.Rows.{picked}
-use Rattle.notes.specs.Tables.{numberAt, Numbered}
+use Rattle.notes.specs.Tables.{vertexIn, Numbered}
 use Rattle.quads.specs.declared.Along.{Along}
 use Rattle.quads.specs.declared.Along.the-variants.{AxisX, AxisY, AxisZ}
 use Rattle.quads.specs.declared.Order.{Order}
@@ -78,7 +78,7 @@ orderOf along = record { e = edgeOf along; back = backOf along; sign = orderSign
 -- the quad of the edge from x by four tables; `up` is the sign of its lower sample
 unfoldable pub quadBy : ℕ → ℕ → ℕ → List ℕ → List ℕ → List ℕ → List ℕ → ℕ → ℕ → List ℕ
 quadBy e back sign n0 n1 n2 n3 up x =
-    flat (turned (eqb up sign) (quad (numberAt n0 (x - back) (e + 3)) (numberAt n1 x (e + 2)) (numberAt n2 x e) (numberAt n3 (x - back) (e + 1))) ∷ [])
+    flat (turned (eqb up sign) (quad (vertexIn n0 (x - back) (e + 3)) (vertexIn n1 x (e + 2)) (vertexIn n2 x e) (vertexIn n3 (x - back) (e + 1))) ∷ [])
 
 -- those of the 64 edges from x on whose bits are set
 abbrev pub wordBy : ℕ → ℕ → ℕ → List ℕ → List ℕ → List ℕ → List ℕ → ℕ → ℕ → ℕ → List ℕ

@@ -8,7 +8,7 @@ ghost use lib.ListN.{length};
 ghost use lib.Seq.{sets};
 ghost use Rattle.laws.specs.Bits.{holds};
 ghost use Rattle.mesh_rule.specs.Mesh.{quad, turned, flat};
-ghost use Rattle.notes.specs.Tables.{numberAt};
+ghost use Rattle.notes.specs.Tables.{vertexIn};
 ghost use Rattle.quads.specs.Edges.{edgesOf, edgeCount};
 ghost use Rattle.quads.specs.Writing.{orderOf, quadBy, wordBy, rowBy, Reach, Tables, Wrote};
 
@@ -98,7 +98,7 @@ fn put_quad(quads: &mut [u32], from: usize, positive: bool, v0: u32, v1: u32, v2
 // The number of the vertex of the cube x at the edge e, by the row's table.
 fn number(numbers: &[u32], x: usize, e: u32) -> u32
     requires { ⌜ (2 * x + 2 ≤ length (now numbers)) × (e < 16) ⌝ }
-    ensures { λ r. ⌜ r ≡ numberAt (now (numbers .entry)) x e ⌝ }
+    ensures { λ r. ⌜ r ≡ vertexIn (now (numbers .entry)) x e ⌝ }
 {
     let w = numbers[2 * x + 1];
     let which = (w % 65536 >> e) % 2 + 2 * ((w / 65536 >> e) % 2);

@@ -1,12 +1,12 @@
 -- `number` meets its contract: two places of the table.
 -- Assumes nothing.
-use Rattle.notes.specs.Tables.{numberAt}
+use Rattle.notes.specs.Tables.{vertexIn}
 use borrow.Author.Needs.{needs}
 use Rattle.quads.proofs.number.Statement.{statement}
 use Rattle.quads.proofs.number.Tie as tie
 
 returns : tie.Need-returns
-unfolding numberAt
+unfolding vertexIn
 returns c = c .wrapping-add-u32 .ensures
 
 pub number-spec : {M : Type 1} → statement M
