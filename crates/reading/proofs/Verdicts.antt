@@ -12,7 +12,7 @@ use Rattle.block.specs.declared.Checked.{Checked}
 use Rattle.block.specs.declared.Checked.the-variants.{Passes, Refuses}
 use Rattle.block.specs.Answer.{given, inOrder}
 use Rattle.block.specs.Grey.{noThreshold, isCeiling}
-use Rattle.block.specs.Rows.{outOfLimits, axisRow, thresholdRow, ceilingRow}
+use Rattle.block.specs.Rows.{lowest, outOfLimits, axisRow, thresholdRow, ceilingRow}
 use Rattle.block.proofs.Order.{order-refuses, order-passes, order-last, first-has}
 use Rattle.block.proofs.Rows.{holds-where, holds-unless, lowest-refusal}
 use Rattle.reading.specs.Text.{lineRight}
@@ -83,16 +83,16 @@ run-numbers bytes =
 pub run-values : (bytes : List ℕ) (x : Refusal) → inputVerdict bytes ≡ Refuses x → x .value ≤ 4294967295
 run-values bytes =
     first-has (λ (x : Refusal). x .value ≤ 4294967295) _ (
-      λ x e. value (holds-unless (lineRight bytes 0 16) 8 1 x e),
+      λ x e. value x 1 (holds-unless (lineRight bytes 0 16) 8 1 x e),
       (
-        λ x e. value (lowest-refusal 1 outOfLimits axes x e .1),
+        λ x e. value x (lowest outOfLimits axes) (lowest-refusal 1 outOfLimits axes x e .1),
         (
-          λ x e. value (lowest-refusal 9 (ltb 8) axes x e .1),
+          λ x e. value x (lowest (ltb 8) axes) (lowest-refusal 9 (ltb 8) axes x e .1),
           (
-            λ x e. value (holds-where (noThreshold (cutRead bytes)) 3 (cutRead bytes .t) x e),
+            λ x e. value x (cutRead bytes .t) (holds-where (noThreshold (cutRead bytes)) 3 (cutRead bytes .t) x e),
             (
-              λ x e. value (holds-unless (eqb (rightLines bytes (n .nx) (n .ny * n .nz)) (n .ny * n .nz + 1)) 8 (rightLines bytes (n .nx) (n .ny * n .nz) + 2) x e),
-              (λ x e. value (lowest-refusal 4 isCeiling (samplesRead bytes n) x e .1), tt),
+              λ x e. value x (rightLines bytes (n .nx) (n .ny * n .nz) + 2) (holds-unless (eqb (rightLines bytes (n .nx) (n .ny * n .nz)) (n .ny * n .nz + 1)) 8 (rightLines bytes (n .nx) (n .ny * n .nz) + 2) x e),
+              (λ x e. value x (lowest isCeiling (samplesRead bytes n)) (lowest-refusal 4 isCeiling (samplesRead bytes n) x e .1), tt),
             ),
           ),
         ),
@@ -105,5 +105,5 @@ run-values bytes =
     axes : List ℕ
     axes = sizeRead bytes .nx ∷ sizeRead bytes .ny ∷ sizeRead bytes .nz ∷ []
 
-    value : {x : Refusal} {m : ℕ} {v : ℕ} → x ≡ record { number = m; value = given v } → x .value ≤ 4294967295
-    value {x} {m} {v} e = omega (arith, ap (λ (r : Refusal). r .value) e)
+    value : (x : Refusal) {m : ℕ} (v : ℕ) → x ≡ record { number = m; value = given v } → x .value ≤ 4294967295
+    value x v e = omega (arith, ap (λ (r : Refusal). r .value) e)
