@@ -39,10 +39,6 @@ module _ {f : ℕ → List ℕ} {m c from : ℕ} {part : List ℕ} (row : RowOf 
   number-of : {v : ℕ} (p : Place f m from v) → getD part (2 * v) 0 ≡ c + p .cube
   number-of p = ap (λ (q : ℕ). getD part (2 * q) 0) (p .is) ∙ row .cube (p .cube) (p .nth) (p .cube-lt) (p .nth-lt)
 
-  -- a vertex of a later cube comes later
-  after : {v u : ℕ} (p : Place f m from v) (q : Place f m from u) → p .cube < q .cube → v < u
-  after p q h = omega (arith, p .is, q .is, p .nth-lt, length-below f (q .cube) (p .cube) h)
-
   -- the vertex v, of the cube x
   module _ {v : ℕ} (p : Place f m from v) where
     abbrev x : ℕ
