@@ -4,7 +4,6 @@ use mathlib.Core.Path.{_≡_, refl, sym, ap, _∙_}
 use mathlib.Core.Bool.{Bool}
 use mathlib.Core.List.{List}
 use Prim.Native.Nat.{ℕ, _/_, _%_, _^_, _<_}
-use native.Mathlib.Omega.{arith}
 use lib.Bits.{bitXor}
 use lib.ListN.{getD}
 use Rattle.laws.specs.Bits.{bit, differ, holds}
@@ -12,6 +11,7 @@ use Rattle.laws.proofs.Pack.{pack-cong, pack-mask}
 use Rattle.laws.proofs.Words.{digit-holds}
 use Rattle.laws.proofs.Bits.{holds-mask}
 use Rattle.cube_rule.specs.Plain.{mixed}
+use Rattle.cube_rule.proofs.Alike.{mixed-same}
 use Rattle.planes.specs.Planes.{activeOf, patternAt}
 use Rattle.planes.proofs.BitSays.{Says, says-or, says-xor}
 
@@ -37,19 +37,6 @@ module _ (i : ℕ) (e : List ℕ) where
   pattern-holds c h =
       ap (λ (p : ℕ). holds p c) (pack-cong (λ c. getD e c 0 / 2 ^ i % 2) (λ c. bit (sign c)) 8 (λ c h. digit-holds (getD e c 0) i) ∙ pack-mask sign 8)
       ∙ holds-mask sign 8 c h
-
-mixed-same : (s t : ℕ → Bool) → ((c : ℕ) → c < 8 → s c ≡ t c) → mixed s ≡ mixed t
-mixed-same s t h =
-    rw (
-      h 0 (omega arith),
-      h 1 (omega arith),
-      h 2 (omega arith),
-      h 3 (omega arith),
-      h 4 (omega arith),
-      h 5 (omega arith),
-      h 6 (omega arith),
-      h 7 (omega arith),
-    )
 
 -- an active cube has a sign pattern of mixed signs
 pub active-bit : (e : List ℕ) (i : ℕ) → holds (activeOf e) i ≡ mixed (holds (patternAt e i))
