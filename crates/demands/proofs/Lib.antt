@@ -6,5 +6,6 @@ pub mod Refusals
 pub mod Ceiling
 pub mod Told
 pub mod TheMesh
+pub mod FoundMesh
 pub mod StandIn
 pub mod Idle
