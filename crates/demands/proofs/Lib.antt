@@ -5,5 +5,6 @@ pub mod Allowed
 pub mod Ceiling
 pub mod Told
 pub mod TheMesh
+pub mod FoundMesh
 pub mod StandIn
 pub mod Idle

@@ -119,7 +119,7 @@ module _ (loopsOf : Cut → List ℕ → List ℕ) (n : Size) (s : List ℕ) (cu
 
   -- each crossed inner edge has its quad
   pub quad-of-edge : (a : Axis) (i j k : ℕ) → inner n a i j k ≡ true → crossedFrom n s cut a i j k ≡ true
-      → List·Memᴰ (quadOf a i j k) (quads loopsOf n s cut)
+      → List·Memᴰ (turned (metal n s cut i j k) (around loopsOf n s cut a i j k)) (quads loopsOf n s cut)
   unfolding quads along
   quad-of-edge X i j k h x = Memᴰ·append-left (along Z) (Memᴰ·append-left (along Y) (in-along X i j k h x))
   quad-of-edge Y i j k h x = Memᴰ·append-left (along Z) (Memᴰ·append-right (along X) (in-along Y i j k h x))
