@@ -5,6 +5,5 @@ pub mod Allowed
 pub mod Ceiling
 pub mod Told
 pub mod TheMesh
-pub mod FoundMesh
 pub mod StandIn
 pub mod Idle
