@@ -84,20 +84,6 @@ unfolding pack maskOf
 pack-mask p zero = refl
 pack-mask p (suc n) = rw (pack-mask p n) (omega arith)
 
--- and the sum of its answers is how many pass
-pub total-count : (p : ℕ → Bool) (n : ℕ) → total (λ i. bit (p i)) n ≡ count p n
-unfolding total count
-total-count p zero = refl
-total-count p (suc n) = rw (total-count p n) (omega arith)
-
-pub total-none : (f : ℕ → ℕ) → total f 0 ≡ 0
-unfolding total
-total-none f = refl
-
-pub total-one : (f : ℕ → ℕ) (n : ℕ) → total f (n + 1) ≡ f n + total f n
-unfolding total
-total-one f n = rw (add-one n)
-
 -- ---- operations on two words
 
 module _ (op : ℕ → ℕ → ℕ) (op0 : op 0 0 ≡ 0)
