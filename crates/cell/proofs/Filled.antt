@@ -10,13 +10,8 @@ use native.Mathlib.Omega.{arith}
 use lib.Dec.{eqb, eqb·suc-zero}
 use lib.ListN.{length, getD, List·getD-eq-default}
 use Rattle.laws.specs.Filled.{filled}
-use Rattle.laws.proofs.Filled.{filled-at}
+use Rattle.laws.proofs.Filled.{filled-at, mem-at}
 use Rattle.laws.proofs.Tests.{lt-or-ge}
-
-mem-at : (xs : List ℕ) (i : ℕ) → i < length xs → List·Memᴰ (getD xs i 0) xs
-mem-at [] i h = absurd (not-suc-le-zero h)
-mem-at (x ∷ xs) zero h = List·Memᴰ·head refl
-mem-at (x ∷ xs) (suc i) h = List·Memᴰ·tail (mem-at xs i (le-of-suc-le-suc h))
 
 -- what stands in a place is zero, or one of the masks
 pub place-mask : (ms : List ℕ) (i : ℕ) → 0 < getD (filled 4 0 ms) i 0 → List·Memᴰ (getD (filled 4 0 ms) i 0) ms

@@ -29,7 +29,7 @@ use Rattle.mesh_rule.specs.Layers.{pairs}
 use Rattle.cube_vertices.specs.Cubes.{namesBy, wordsBy, offsetsBy, Stored, CubeWritten}
 use Rattle.cube_vertices.specs.declared.Spot.{Spot}
 use Rattle.notes.specs.Tables.{whichOf}
-use Rattle.cube_vertices.proofs.Stored.{pairs-length, triples-length}
+use Rattle.mesh_rule.proofs.Words.{pairs-length, triples-length}
 
 -- an answer with loops is of no other case (1: Refused)
 pub no-other-found : (r : Found) (n : ℕ) → r ≡ found.Loops n → OneOf (1 ∷ []) (tagOf the-type r) → ⊥

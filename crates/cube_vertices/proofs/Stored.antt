@@ -10,23 +10,14 @@ use lib.Seq.{sets, take-suc}
 use lib.Ieee.{Float}
 use Rattle.laws.proofs.Stores.{sets-join, sets-length}
 use Rattle.place.specs.declared.Offset.{Offset}
+use Rattle.mesh_rule.proofs.Words.{pairs-length, triples-length}
 use Rattle.mesh_rule.specs.Buffers.{triples}
 use Rattle.mesh_rule.specs.Layers.{pairs}
 use Rattle.cube_vertices.specs.Cubes.{Stored}
 
--- a vertex takes two words
-pub pairs-length : (c : ℕ) (ws : List ℕ) → length (pairs c ws) ≡ 2 * length ws
-pairs-length c [] = refl
-pairs-length c (w ∷ ws) = omega (arith, pairs-length c ws)
-
 pairs-append : (c : ℕ) (xs ys : List ℕ) → pairs c (xs ++ ys) ≡ pairs c xs ++ pairs c ys
 pairs-append c [] ys = refl
 pairs-append c (x ∷ xs) ys = ap (λ (l : List ℕ). c ∷ x ∷ l) (pairs-append c xs ys)
-
--- and three coordinates
-pub triples-length : (os : List Offset) → length (triples os) ≡ 3 * length os
-triples-length [] = refl
-triples-length (o ∷ os) = omega (arith, triples-length os)
 
 triples-append : (xs ys : List Offset) → triples (xs ++ ys) ≡ triples xs ++ triples ys
 triples-append [] ys = refl

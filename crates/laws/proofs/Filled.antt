@@ -1,9 +1,9 @@
 -- Places that are filled one after the other.
--- Assumes nothing.
-use mathlib.Core.Path.{_≡_, sym, ap, _∙_}
+use mathlib.Core.Path.{_≡_, refl, sym, ap, _∙_}
 use mathlib.Core.Logic.{_⊎_, inl, inr, ⊎-elim}
-use mathlib.Core.List.{List, [], _∷_, _++_, append-assoc}
-use Prim.Native.Nat.{ℕ, suc, _+_, _-_, _≤_, _<_}
+use mathlib.Core.List.{List, [], _∷_, _++_, append-assoc, List·Memᴰ, List·Memᴰ·head, List·Memᴰ·tail}
+use Prim.Native.Nat.{ℕ, zero, suc, _+_, _-_, _≤_, _<_}
+use native.Mathlib.Nat.{not-suc-le-zero, le-of-suc-le-suc}
 use native.Mathlib.Omega.{arith}
 use lib.ListN.{length, set, getD, replicate, length-append, length-replicate, getD-replicate, List·getD-append, List·getD-eq-default}
 use lib.Seq.{set-append-seam, getD-append-add}
@@ -40,3 +40,9 @@ module _ {A : Type 0} (n : ℕ) (d : A) where
           ∙ getD-append-add xs (replicate (n - length xs) d) (i - length xs) d
           ∙ rest (n - length xs) (i - length xs)
           ∙ sym (List·getD-eq-default xs d g)
+
+-- what stands in a place of a list is one of its elements
+pub mem-at : (xs : List ℕ) (i : ℕ) → i < length xs → List·Memᴰ (getD xs i 0) xs
+mem-at [] i h = absurd (not-suc-le-zero h)
+mem-at (x ∷ xs) zero h = List·Memᴰ·head refl
+mem-at (x ∷ xs) (suc i) h = List·Memᴰ·tail (mem-at xs i (le-of-suc-le-suc h))

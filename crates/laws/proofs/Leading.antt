@@ -13,8 +13,8 @@ use Rattle.laws.specs.Leading.{leading}
 abbrev pub HoldsTo : (ℕ → Bool) → ℕ → Type 0
 HoldsTo f m = (i : ℕ) → i < m → f i ≡ true
 
-pub holds-none : (f : ℕ → Bool) → HoldsTo f 0
-holds-none f i h = absurd (not-suc-le-zero h)
+pub holds-to-none : (f : ℕ → Bool) → HoldsTo f 0
+holds-to-none f i h = absurd (not-suc-le-zero h)
 
 pub holds-more : (f : ℕ → Bool) (m : ℕ) → HoldsTo f m → f m ≡ true → HoldsTo f (m + 1)
 holds-more f m a e i h = go (eq-or-lt-of-le (le-of-suc-le-suc (rw (add-one m) at h)))

@@ -10,6 +10,7 @@ pub mod Below
 pub mod Counting
 pub mod Over
 pub mod Stores
+pub mod Puts
 pub mod Pack
 pub mod Words
 pub mod Visit

@@ -3,6 +3,7 @@ pub mod Index
 pub mod Fixed
 pub mod Filled
 pub mod Below
+pub mod Put
 pub mod Pack
 pub mod Leading
 pub mod Counting

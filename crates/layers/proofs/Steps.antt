@@ -15,9 +15,10 @@ use Rattle.vertices.specs.Layers.{RowWritten}
 use Rattle.quads.specs.declared.Along.{Along}
 use Rattle.quads.specs.declared.Along.the-variants.{AxisX, AxisY, AxisZ}
 use Rattle.quads.specs.Edges.{edgeCount}
-use Rattle.quads.specs.Writing.{rowBy, Wrote}
+use Rattle.laws.specs.Put.{Put}
+use Rattle.quads.specs.Writing.{rowBy}
 use Rattle.quads.proofs.Counts.{row-counted}
-use Rattle.quads.proofs.Writes.{wrote-none, wrote-as}
+use Rattle.laws.proofs.Puts.{put-none, put-as}
 use Rattle.layers.specs.declared.Marks.{Marks}
 use Rattle.rows.specs.declared.Row.{Row}
 use Rattle.layers.specs.Steps.{half, hasQuads, stepBy, stepX, stepY, stepZ, QuadsReady, QuadsMore, RowStepped, RowCounted}
@@ -55,8 +56,8 @@ module _ (along : Along) (a b : List ℕ) (nx j : ℕ) (lower : Bool) where
       go false = refl
 
 -- nothing is written
-pub wrote-nothing : {xs : List ℕ} (from : ℕ) (b : List ℕ) → xs ≡ [] → Wrote xs from b b from
-wrote-nothing from b e = wrote-as (sym e) (wrote-none from b)
+pub put-nothing : {xs : List ℕ} (from : ℕ) (b : List ℕ) → xs ≡ [] → Put b from xs b from
+put-nothing from b e = put-as (sym e) (put-none b from)
 
 -- ---- along all three
 
@@ -70,13 +71,13 @@ module _ {row : Row} {a b below : List ℕ} {m : Marks} {room : ℕ} (r : QuadsR
   pub z-room : m .z + length (stepZ a b (row .nx) (row .j) (row .lower) prev own) ≤ room
   z-room = omega (arith, r .room-z, step-length AxisZ a b (row .nx) (row .j) (row .lower) prev prev own own [] [] [] [])
 
-pub quads-more : {xs ys zs : List ℕ} {m : Marks} {q q₁ q₂ q₃ : List ℕ} {x y z : ℕ} → Wrote xs (m .x) q q₁ x → Wrote ys (m .y) q₁ q₂ y → Wrote zs (m .z) q₂ q₃ z
+pub quads-more : {xs ys zs : List ℕ} {m : Marks} {q q₁ q₂ q₃ : List ℕ} {x y z : ℕ} → Put q (m .x) xs q₁ x → Put q₁ (m .y) ys q₂ y → Put q₂ (m .z) zs q₃ z
     → QuadsMore xs ys zs m (record { v = m .v; x = x; y = y; z = z }) q q₃
 quads-more {xs} {ys} {zs} {m} g h f = record {
-  x-is = g .place;
-  y-is = h .place;
-  z-is = f .place;
-  quads-are = f .words ∙ ap (λ (l : List ℕ). sets l (m .z) zs) (h .words ∙ ap (λ (l : List ℕ). sets l (m .y) ys) (g .words));
+  x-is = g .behind;
+  y-is = h .behind;
+  z-is = f .behind;
+  quads-are = f .stored ∙ ap (λ (l : List ℕ). sets l (m .z) zs) (h .stored ∙ ap (λ (l : List ℕ). sets l (m .y) ys) (g .stored));
 }
 
 -- the same tables, told in another way

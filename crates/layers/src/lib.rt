@@ -8,7 +8,8 @@ ghost use mathlib.Core.List.{[]};
 ghost use Prim.Native.Nat.{_+_, _*_, _<_, _≤_};
 ghost use lib.ListN.{length};
 ghost use Rattle.cube_rule.specs.Decider.{loopsOf};
-ghost use Rattle.quads.specs.Writing.{Tables, Wrote};
+ghost use Rattle.laws.specs.Put.{Put};
+ghost use Rattle.quads.specs.Writing.{Tables};
 ghost use Rattle.rows.specs.Rows.{RowReady};
 ghost use Rattle.vertices.specs.Layers.{RowRoom};
 ghost use Rattle.layers.specs.Steps.{half, hasQuads, stepBy, RowFits, QuadsReady, RowQuads, RowStepped, RowFew, RowCounted};
@@ -58,7 +59,7 @@ fn write_along(
     quads: &mut [u32],
 ) -> usize
     requires { ⌜ (2 ≤ piece .nx) × (piece .nx ≤ 256) × (piece .j < 255) × (length (now a) ≡ 1280) × (length (now b) ≡ 1280) × Tables (piece .nx) (now n0) (now n1) (now n2) (now n3) × (piece .from + length (stepBy (piece .along) (now a) (now b) (piece .nx) (piece .j) (piece .lower) (now n0) (now n1) (now n2) (now n3)) ≤ length (now quads)) ⌝ }
-    ensures { λ r. ⌜ Wrote (stepBy (piece .along) (now (a .entry)) (now (b .entry)) (piece .nx) (piece .j) (piece .lower) (now (n0 .entry)) (now (n1 .entry)) (now (n2 .entry)) (now (n3 .entry))) (piece .from) (now (quads .entry)) (now (quads .exit)) r ⌝ }
+    ensures { λ r. ⌜ Put (now (quads .entry)) (piece .from) (stepBy (piece .along) (now (a .entry)) (now (b .entry)) (piece .nx) (piece .j) (piece .lower) (now (n0 .entry)) (now (n1 .entry)) (now (n2 .entry)) (now (n3 .entry))) (now (quads .exit)) r ⌝ }
 {
     let along = piece.along;
     if !has_quads(along, piece.j, piece.lower) {

@@ -23,10 +23,11 @@ use Rattle.mesh.specs.Answer.{sizeOf, vertexCount, quadCount}
 use Rattle.reading.specs.Text.{digits, numberAt, lineRight}
 use Rattle.reading.specs.Input.{firstLineRow, largeRow, sizeRead, cutRead, samplesRead, earlyRows, inputVerdict}
 use Rattle.lines.specs.Output.{refusalLine, blockText, outputOf, Ran}
-use Rattle.lines.specs.Steps.{Put, Readable, printed}
+use Rattle.laws.specs.Put.{Put}
+use Rattle.lines.specs.Steps.{Readable, printed}
 use Rattle.reading.proofs.Axes.{AtMostEight, at-most-eight}
 use Rattle.lines.proofs.Texts.{refusal-length, mesh-length}
-use Rattle.lines.proofs.Writing.{put-over, put-length}
+use Rattle.laws.proofs.Puts.{put-over, put-length}
 
 -- ---- by the verdict
 

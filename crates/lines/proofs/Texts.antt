@@ -12,8 +12,9 @@ use Rattle.block.specs.declared.Refusal.{Refusal}
 use Rattle.closed.specs.Closed.{findingOf}
 use Rattle.reading.specs.Text.{LF, hexOf}
 use Rattle.lines.specs.Output.{refusalLine, closedField, headLine, vertexLine, quadLine, meshText}
-use Rattle.lines.specs.Steps.{Put, vertexFields, quadFields}
-use Rattle.lines.proofs.Writing.{put-none, put-then}
+use Rattle.laws.specs.Put.{Put}
+use Rattle.lines.specs.Steps.{vertexFields, quadFields}
+use Rattle.laws.proofs.Puts.{put-none, put-then}
 use Rattle.reading.proofs.Rules.{hex-length}
 
 -- ---- lengths

@@ -8,32 +8,13 @@ use native.Mathlib.Numerals.{add-one}
 use native.Mathlib.Omega.{arith}
 use lib.ListN.{length, set, length-append}
 use lib.Pow.{shr-shr}
-use Rattle.laws.proofs.Stores.{sets-join, sets-length, sets-over}
-use Rattle.laws.specs.Below.{over}
+use Rattle.laws.specs.Put.{Put}
+use Rattle.laws.proofs.Puts.{put-none, put-then}
 use Rattle.reading.specs.Text.{hexOf}
 use Rattle.reading.specs.Steps.{glyph}
-use Rattle.lines.specs.Steps.{Put}
-
-pub put-none : (out : List ℕ) (at : ℕ) → Put out at [] out at
-put-none out at = record { stored = refl; behind = sym (add-zero at) }
-
--- one text and then another
-pub put-then : {out at xs mid next out′ next′ : _} (ys : List ℕ) → Put out at xs mid next → Put mid next ys out′ next′ → Put out at (xs ++ ys) out′ next′
-put-then {out} {at} {xs} {mid} {next} {out′} {next′} ys p q = record {
-  stored = sets-join out at mid out′ next xs ys (p .stored) (p .behind) (q .stored);
-  behind = q .behind ∙ omega (arith, p .behind, length-append xs ys);
-}
 
 pub put-one : (out : List ℕ) (at b : ℕ) → Put out at (b ∷ []) (set out at b) (at + 1)
 put-one out at b = record { stored = refl; behind = refl }
-
--- a buffer keeps its length
-pub put-length : {out at xs out′ next : _} → Put out at xs out′ next → length out′ ≡ length out
-put-length {out} {at} {xs} {out′} {next} p = sets-length out at out′ xs (p .stored)
-
--- a text at the start
-pub put-over : {out xs out′ next : _} → Put out 0 xs out′ next → length xs ≤ length out → out′ ≡ over xs out
-put-over {out} {xs} {out′} {next} p h = p .stored ∙ sets-over out xs h
 
 -- ---- digits
 

@@ -7,7 +7,6 @@ use mathlib.Core.List.{List, [], _∷_, _++_}
 use lib.Dec.{T}
 use lib.Ieee.{Float, isNan, nan, toBits, binary64}
 use lib.ListN.{length, getD}
-use lib.Seq.{sets}
 use Rattle.block.specs.declared.Checked.{Checked}
 use Rattle.block.specs.declared.Checked.the-variants.{Passes}
 use Rattle.block.specs.Answer.{decided}
@@ -15,11 +14,6 @@ use Rattle.block.specs.Rows.{axisRow, thresholdRow}
 use Rattle.reading.specs.Text.{LF, hexOf}
 use Rattle.reading.specs.Input.{largeRow}
 use Rattle.lines.specs.Output.{refusalLine}
-
--- the text has been put at a place of the buffer, and the next place is behind it
-pub record Put (out : List ℕ) (at : ℕ) (text : List ℕ) (out′ : List ℕ) (next : ℕ) : Type 0 where
-  pub stored : out′ ≡ sets out at text
-  pub behind : next ≡ at + length text
 
 -- what is written where the checks say k: the text, or a refusal
 abbrev pub printed : Checked → List ℕ → List ℕ

@@ -21,7 +21,8 @@ ghost use Rattle.closed.specs.Closed.{findingOf};
 ghost use Rattle.mesh.specs.Answer.{sizeOf};
 ghost use Rattle.block.specs.Grey.{SixteenBit};
 ghost use Rattle.lines.specs.Output.{refusalLine, headLine, vertexLine, quadLine, closedField, meshText, blockText, Ran};
-ghost use Rattle.lines.specs.Steps.{Put, Numbers, Readable, vertexFields, quadFields, printed};
+ghost use Rattle.laws.specs.Put.{Put};
+ghost use Rattle.lines.specs.Steps.{Numbers, Readable, vertexFields, quadFields, printed};
 
 // The longest output: a head line, four vertices in each of 7·7·7 cubes, and a quad for each of 3·7·6·6 inner edges.
 pub const ROOM: usize = 112917;

@@ -15,6 +15,7 @@ use Rattle.cube_rule.specs.Decider.{loopsOf}
 use Rattle.place.specs.declared.Offset.{Offset}
 use Rattle.place.specs.Place.{placeOf}
 use Rattle.cell.specs.Answer.{wordOf}
+use Rattle.mesh_rule.proofs.Words.{pairs-length, triples-length}
 use Rattle.mesh_rule.specs.Grid.{cornersOf}
 use Rattle.mesh_rule.specs.Mesh.{verticesOf, verticesBefore, cubeLoops}
 use Rattle.mesh_rule.specs.Buffers.{triples}
@@ -32,14 +33,6 @@ length-scaled f g m zero h = omega arith
 length-scaled f g m (suc n) h =
     length-append (below f n) (f n) ∙ ap₂ (λ (x y : ℕ). x + y) (length-scaled f g m n h) (h n)
     ∙ sym (mul-add m (length (below g n)) (length (g n))) ∙ ap (λ (x : ℕ). m * x) (sym (length-append (below g n) (g n)))
-
-pairs-length : (c : ℕ) (ws : List ℕ) → length (pairs c ws) ≡ 2 * length ws
-pairs-length c [] = refl
-pairs-length c (w ∷ ws) = omega (arith, pairs-length c ws)
-
-triples-length : (os : List Offset) → length (triples os) ≡ 3 * length os
-triples-length [] = refl
-triples-length (o ∷ os) = omega (arith, triples-length os)
 
 -- all layers are all cubes
 pub layers-all : (n : Size) (k : ℕ) → k + 1 ≡ n .nz → layerSize n * k ≡ cubeCount n

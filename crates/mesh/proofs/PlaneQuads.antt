@@ -33,10 +33,10 @@ unfolding below
 flat-below f zero = refl
 flat-below f (suc m) = flat-append (below f m) (f m) ∙ ap (λ (l : List ℕ). l ++ flat (f m)) (flat-below f m)
 
-below-none : {A : Type 0} (f : ℕ → List A) (m : ℕ) → ((p : ℕ) → p < m → f p ≡ []) → below f m ≡ []
+below-empty : {A : Type 0} (f : ℕ → List A) (m : ℕ) → ((p : ℕ) → p < m → f p ≡ []) → below f m ≡ []
 unfolding below
-below-none {A} f zero h = refl
-below-none {A} f (suc m) h = ap₂ (λ (x y : List A). x ++ y) (below-none f m (λ p l. h p (omega arith))) (h m (omega arith))
+below-empty {A} f zero h = refl
+below-empty {A} f (suc m) h = ap₂ (λ (x y : List A). x ++ y) (below-empty f m (λ p l. h p (omega arith))) (h m (omega arith))
 
 module _ (n : Size) (s : List ℕ) (cut : Cut) where
   pub quads-flat : (a : Axis) (m : ℕ) → flat (quadsBefore loopsOf n s cut a m) ≡ quadsUpTo loopsOf n s cut a m
@@ -56,7 +56,7 @@ module _ (n : Size) (s : List ℕ) (cut : Cut) where
   -- an outer plane has none
   pub plane-quads-none : (a : Axis) (k : ℕ) → Outer n s cut a k → planeQuads loopsOf n s cut a k ≡ []
   unfolding quadAt
-  plane-quads-none a k o = below-none (λ (x : ℕ). quadsFrom loopsOf n s cut a (planeSize n * k + x)) (planeSize n) none
+  plane-quads-none a k o = below-empty (λ (x : ℕ). quadsFrom loopsOf n s cut a (planeSize n * k + x)) (planeSize n) none
     where
       none : (p : ℕ) → p < planeSize n → quadsFrom loopsOf n s cut a (planeSize n * k + p) ≡ []
       none p l =

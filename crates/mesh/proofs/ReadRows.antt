@@ -11,7 +11,7 @@ use Rattle.laws.proofs.Below.{below-add, getD-below, length-below, split}
 use Rattle.laws.proofs.Tests.{lt-or-ge}
 use Rattle.mesh_rule.specs.Layers.{pairs}
 use Rattle.notes.specs.Tables.{RowOf}
-use Rattle.cube_vertices.proofs.Stored.{pairs-length}
+use Rattle.mesh_rule.proofs.Words.{pairs-length}
 use Rattle.mesh.proofs.Layers.{length-scaled}
 
 pairs-number : (c : ℕ) (ws : List ℕ) (l : ℕ) → l < length ws → getD (pairs c ws) (2 * l) 0 ≡ c

@@ -8,6 +8,7 @@ use native.Mathlib.Omega.{arith}
 use lib.Dec.{ltb}
 use lib.ListN.{length}
 use borrow.Author.Tests.{lt-ltb, le-ltb}
+use Rattle.laws.proofs.Tests.{and-false}
 use Rattle.laws.specs.Bits.{bit}
 use Rattle.laws.proofs.Below.{at-most}
 use Rattle.laws.specs.Counting.{count}
@@ -34,10 +35,6 @@ count-lower zero = refl
 count-lower (suc n) =
     rw (le-ltb (n + 1) (suc n) (omega arith))
     (omega (arith, count-all (λ (c : ℕ). ltb (c + 1) (suc n)) n (λ c l. lt-ltb (c + 1) (suc n) (omega arith))))
-
-and-false : (b : Bool) → (b && false) ≡ false
-and-false true = refl
-and-false false = refl
 
 count-between : (n : ℕ) → count (between n) n ≡ n - 2
 unfolding count

@@ -5,10 +5,11 @@ use Prim.Native.Nat.{ℕ, zero, suc, _+_, _-_, _≤_, _<_}
 use mathlib.Core.Path.{_≡_, refl, ap, sym, _∙_}
 use mathlib.Core.Logic.{_⊎_, inl, inr}
 use mathlib.Core.Bool.{true}
-use mathlib.Core.List.{List, [], _∷_, map, List·Memᴰ, List·Memᴰ·head, List·Memᴰ·tail}
+use mathlib.Core.List.{List, [], _∷_, map, List·Memᴰ}
 use native.Mathlib.Nat.{not-suc-le-zero, le-of-suc-le-suc}
 use native.Mathlib.Omega.{arith}
 use lib.ListN.{length, getD, length-map}
+use Rattle.laws.proofs.Filled.{mem-at}
 use Rattle.laws.specs.Bits.{holds}
 use Rattle.laws.proofs.Below.{length-below, getD-below, split}
 use Rattle.laws.proofs.Bits.{bit-le}
@@ -32,11 +33,6 @@ mapped : (c : ℕ) (ms : List ℕ) (p : ℕ) (d : Vertex) → p < length ms
 mapped c [] p d h = absurd (not-suc-le-zero h)
 mapped c (m ∷ ms) zero d h = refl
 mapped c (m ∷ ms) (suc p) d h = mapped c ms p d (le-of-suc-le-suc h)
-
-mem-at : (ms : List ℕ) (p : ℕ) → p < length ms → List·Memᴰ (getD ms p 0) ms
-mem-at [] p h = absurd (not-suc-le-zero h)
-mem-at (m ∷ ms) zero h = List·Memᴰ·head refl
-mem-at (m ∷ ms) (suc p) h = List·Memᴰ·tail (mem-at ms p (le-of-suc-le-suc h))
 
 -- the cube (i,j,k) has the corners (i,j,k) to (i+1,j+1,k+1)
 pub corners-of-number : (n : Size) (s : List ℕ) (i j k : ℕ) → i < n .nx - 1 → j < n .ny - 1 → cornersOf n s (cubeNumber n i j k) ≡ cornersAt n s i j k

@@ -26,7 +26,7 @@ use Rattle.mesh_rule.specs.Grid.{cornersAt, cornersOf}
 use Rattle.mesh_rule.specs.Mesh.{Vertex, vertices, cubeLoops}
 use Rattle.mesh_rule.specs.Buffers.{triples, meshOffsets}
 use Rattle.mesh_rule.specs.Layers.{cubeOffsets}
-use Rattle.mesh_rule.proofs.Words.{offsets-by-cube}
+use Rattle.mesh_rule.proofs.Words.{offsets-by-cube, triples-length}
 
 -- ---- the corners of a cube are samples
 
@@ -78,10 +78,6 @@ module _ (n : Size) (s : List ℕ) (cut : Cut) where
   offset-numbers g k h = unit-number (getD (meshOffsets loopsOf n s cut) k nan) (offsets-in-unit g k h)
 
 -- ---- how many there are
-
-triples-length : (os : List Offset) → length (triples os) ≡ 3 * length os
-triples-length [] = refl
-triples-length (o ∷ os) = omega (arith, triples-length os)
 
 -- three for each vertex
 pub mesh-offsets-length : (n : Size) (s : List ℕ) (cut : Cut) → length (meshOffsets loopsOf n s cut) ≡ 3 * length (vertices loopsOf n s cut)

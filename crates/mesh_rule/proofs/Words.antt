@@ -20,6 +20,16 @@ use Rattle.mesh_rule.specs.Mesh.{Vertex, vertices, verticesBefore, verti
 use Rattle.mesh_rule.specs.Buffers.{flatVertices, triples, meshWords, meshOffsets}
 use Rattle.mesh_rule.specs.Layers.{pairs, cubeWords, cubeOffsets}
 
+-- ---- a vertex takes two words and three coordinates
+
+pub pairs-length : (c : ℕ) (ws : List ℕ) → length (pairs c ws) ≡ 2 * length ws
+pairs-length c [] = refl
+pairs-length c (w ∷ ws) = omega (arith, pairs-length c ws)
+
+pub triples-length : (os : List Offset) → length (triples os) ≡ 3 * length os
+triples-length [] = refl
+triples-length (o ∷ os) = omega (arith, triples-length os)
+
 -- ---- lists made from the vertices, cube by cube
 
 -- what is made of all vertices is made of those of each cube in turn

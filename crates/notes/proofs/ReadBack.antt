@@ -17,9 +17,9 @@ use Rattle.laws.proofs.Tests.{lt-or-ge}
 use Rattle.notes.specs.Tables.{whichOf, Numbered, wordFor, isFirst, fourFor, RowOf, inRow, notedVertex, notedFrom, RowNoted}
 use Rattle.notes.proofs.Notes.{OneNoted, one-noted}
 
-and-false : (a : Bool) {b : Bool} → b ≡ false → (a && b) ≡ false
-and-false true h = h
-and-false false h = refl
+and-not : (a : Bool) {b : Bool} → b ≡ false → (a && b) ≡ false
+and-not true h = h
+and-not false h = refl
 
 -- a vertex of the row: the cube that it is of, and its place among the cube's
 pub record Place (f : ℕ → List ℕ) (m from v : ℕ) : Type 0 where
@@ -121,7 +121,7 @@ module _ {f : ℕ → List ℕ} {m c from : ℕ} {part : List ℕ} (row : RowOf 
           go (inr g) = outside (lt-or-ge (2 * (v + i) + 1) (length part)) ∙ sym (List·getD-eq-default (f x) 0 g)
             where
               outside : (2 * (v + i) + 1 < length part) ⊎ (length part ≤ 2 * (v + i) + 1) → wordFor part (getD part (2 * v) 0) (v + i) ≡ 0
-              outside (inl l) = none (and-false (ltb (2 * (v + i) + 1) (length part)) (ne-eqb _ _ (far g l)))
+              outside (inl l) = none (and-not (ltb (2 * (v + i) + 1) (length part)) (ne-eqb _ _ (far g l)))
               outside (inr h) = none (ap (λ (b : Bool). b && eqb (getD part (2 * (v + i)) 0) (getD part (2 * v) 0)) (le-ltb _ _ h))
 
       pub which-is : whichOf (fourFor part v) ≡ whichOf (f x)
@@ -291,10 +291,10 @@ module _ {m c from first v : ℕ} {part old at : List ℕ} (s : NotedTo m c from
   -- of the cube d
   module _ (d : ℕ) (e : d ≡ getD part (2 * v) 0) where
     pub noted-before : d < c → RowNoted m c from first part old at v
-    noted-before h = noted-end (and-false (ltb (2 * v + 1) (length part)) (ap (λ (b : Bool). b && ltb (getD part (2 * v) 0) (c + m)) (lt-leb c (getD part (2 * v) 0) (omega (arith, e)))))
+    noted-before h = noted-end (and-not (ltb (2 * v + 1) (length part)) (ap (λ (b : Bool). b && ltb (getD part (2 * v) 0) (c + m)) (lt-leb c (getD part (2 * v) 0) (omega (arith, e)))))
 
     pub noted-behind : c + m ≤ d → RowNoted m c from first part old at v
-    noted-behind h = noted-end (and-false (ltb (2 * v + 1) (length part)) (and-false (leb c (getD part (2 * v) 0)) (le-ltb (getD part (2 * v) 0) (c + m) (omega (arith, e)))))
+    noted-behind h = noted-end (and-not (ltb (2 * v + 1) (length part)) (and-not (leb c (getD part (2 * v) 0)) (le-ltb (getD part (2 * v) 0) (c + m) (omega (arith, e)))))
 
     -- one vertex more
     module _ (inside : 2 * v + 1 < length part) (ge : c ≤ d) (lt : d - c < m) (at′ : List ℕ)

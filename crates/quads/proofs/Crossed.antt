@@ -13,7 +13,7 @@ use lib.Dec.{ltb}
 use lib.ListN.{getD}
 use Rattle.laws.specs.Bits.{bit}
 use Rattle.laws.proofs.Bits.{bit-le}
-use Rattle.laws.proofs.Tests.{lt-or-ge}
+use Rattle.laws.proofs.Tests.{lt-or-ge, and-false}
 use Rattle.laws.proofs.Words.{Word, word-same, word-xor, word-bit}
 use Rattle.block.specs.declared.Cut.{Cut}
 use Rattle.block.specs.declared.Size.{Size}
@@ -24,7 +24,7 @@ use Rattle.mesh_rule.proofs.Inner.{both, Mid, mid-between}
 use Rattle.signs.specs.Signs.{Plane, rowSign}
 use Rattle.planes.specs.Planes.{alongX, alongY, alongZ, limitOf, innerOf}
 use Rattle.planes.proofs.Edges.{along-x-is, along-y-is, along-z-is, further-word}
-use Rattle.planes.proofs.Masks.{word-limited, word-inner}
+use Rattle.planes.proofs.Masks.{word-limited, word-inner, below-last}
 use Rattle.signs.proofs.Planes.{word-at}
 use Rattle.signs.proofs.Rows.{row-bit}
 use Rattle.quads.specs.declared.Along.{Along}
@@ -36,17 +36,6 @@ use Rattle.quads.specs.Edges.{alongAxis, crossedOn, firstRow, RowIn, Pla
 and-true : (a : Bool) → (a && true) ≡ a
 and-true true = refl
 and-true false = refl
-
-and-false : (a : Bool) → (a && false) ≡ false
-and-false true = refl
-and-false false = refl
-
-below-last : (x n : ℕ) → ltb x (n - 1) ≡ ltb (x + 1) n
-below-last x n = go (lt-or-ge (x + 1) n)
-  where
-    go : (x + 1 < n) ⊎ (n ≤ x + 1) → ltb x (n - 1) ≡ ltb (x + 1) n
-    go (inl l) = lt-ltb x (n - 1) (omega arith) ∙ sym (lt-ltb (x + 1) n l)
-    go (inr g) = le-ltb x (n - 1) (omega arith) ∙ sym (le-ltb (x + 1) n g)
 
 -- ---- which edges of a row are inner
 

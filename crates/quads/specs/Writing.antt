@@ -8,7 +8,6 @@ use mathlib.Core.Bool.{Bool, not}
 use mathlib.Core.List.{List, [], _∷_}
 use lib.Dec.{eqb}
 use lib.ListN.{length, getD}
-use lib.Seq.{sets}
 use Rattle.laws.specs.Below.{below}
 use Rattle.block.specs.declared.Cut.{Cut}
 use Rattle.block.specs.declared.Size.{Size}
@@ -103,11 +102,6 @@ pub record Tables (nx : ℕ) (n0 n1 n2 n3 : List ℕ) : Type 0 where
   pub n1-row : 2 * nx ≤ length n1 + 2
   pub n2-row : 2 * nx ≤ length n2 + 2
   pub n3-row : 2 * nx ≤ length n3 + 2
-
--- xs is written from a place on, and `end` is the place behind it
-pub record Wrote (xs : List ℕ) (from : ℕ) (before after : List ℕ) (end : ℕ) : Type 0 where
-  pub words : after ≡ sets before from xs
-  pub place : end ≡ from + length xs
 
 -- ---- in a block
 

@@ -10,7 +10,8 @@ ghost use Rattle.laws.specs.Bits.{holds};
 ghost use Rattle.mesh_rule.specs.Mesh.{quad, turned, flat};
 ghost use Rattle.notes.specs.Tables.{vertexIn};
 ghost use Rattle.quads.specs.Edges.{edgesOf, edgeCount};
-ghost use Rattle.quads.specs.Writing.{orderOf, quadBy, wordBy, rowBy, Reach, Tables, Wrote};
+ghost use Rattle.quads.specs.Writing.{orderOf, quadBy, wordBy, rowBy, Reach, Tables};
+ghost use Rattle.laws.specs.Put.{Put};
 
 // The axis along which edges run.
 pub enum Along {
@@ -140,7 +141,7 @@ fn emit(
     from: usize,
 ) -> usize
     requires { ⌜ (order .e ≤ 8) × (run .x ≤ 192) × ((i : ℕ) → i < 64 → holds (run .d) i ≡ true → Reach (order .back) (run .x + i) (now n0) (now n1) (now n2) (now n3)) × (from + length (wordBy (order .e) (order .back) (order .sign) (now n0) (now n1) (now n2) (now n3) (run .d) (run .up) (run .x)) ≤ length (now quads)) ⌝ }
-    ensures { λ r. ⌜ Wrote (wordBy (order .e) (order .back) (order .sign) (now (n0 .entry)) (now (n1 .entry)) (now (n2 .entry)) (now (n3 .entry)) (run .d) (run .up) (run .x)) from (now (quads .entry)) (now (quads .exit)) r ⌝ }
+    ensures { λ r. ⌜ Put (now (quads .entry)) from (wordBy (order .e) (order .back) (order .sign) (now (n0 .entry)) (now (n1 .entry)) (now (n2 .entry)) (now (n3 .entry)) (run .d) (run .up) (run .x)) (now (quads .exit)) r ⌝ }
 {
     let mut w = run.d;
     let mut i: usize = 0;
@@ -197,7 +198,7 @@ pub fn write_row(
     quads: &mut [u32],
 ) -> usize
     requires { ⌜ (2 ≤ line .nx) × (line .nx ≤ 256) × (line .j < 255) × (length (now a) ≡ 1280) × (length (now b) ≡ 1280) × Tables (line .nx) (now n0) (now n1) (now n2) (now n3) × (line .from + length (rowBy (line .along) (now a) (now b) (line .nx) (line .j) (now n0) (now n1) (now n2) (now n3)) ≤ length (now quads)) ⌝ }
-    ensures { λ r. ⌜ Wrote (rowBy (line .along) (now (a .entry)) (now (b .entry)) (line .nx) (line .j) (now (n0 .entry)) (now (n1 .entry)) (now (n2 .entry)) (now (n3 .entry))) (line .from) (now (quads .entry)) (now (quads .exit)) r ⌝ }
+    ensures { λ r. ⌜ Put (now (quads .entry)) (line .from) (rowBy (line .along) (now (a .entry)) (now (b .entry)) (line .nx) (line .j) (now (n0 .entry)) (now (n1 .entry)) (now (n2 .entry)) (now (n3 .entry))) (now (quads .exit)) r ⌝ }
 {
     let along = line.along;
     let nx = line.nx;

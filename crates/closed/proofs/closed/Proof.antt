@@ -11,7 +11,7 @@ use native.Mathlib.Omega.{arith}
 use borrow.Author.Needs.{needs}
 use borrow.Author.Tests.{not-true, not-false}
 use lib.ListN.{length, getD}
-use Rattle.laws.proofs.Leading.{HoldsTo, holds-none, holds-more}
+use Rattle.laws.proofs.Leading.{HoldsTo, holds-to-none, holds-more}
 use Rattle.closed.specs.Closed.{sideSound, allSound, openAt}
 use Rattle.closed.specs.Steps.{usesBefore}
 use Rattle.closed.proofs.Search.{uses-none, uses-more, side-judged, finding-all, finding-open, answer-refused, answer-found}
@@ -55,7 +55,7 @@ returns : tie.Need-returns Inv-uses μ-uses Inv-sides μ-sides Inv-quads μ-quad
 returns c = answer-refused (c .before .before .args .quads .now) (c .if1 .taken)
 
 quads-holds : tie.Need-quads-holds Inv-uses μ-uses Inv-sides μ-sides Inv-quads μ-quads
-quads-holds c = (search needs, holds-none _)
+quads-holds c = (search needs, holds-to-none _)
 
 sides-holds : tie.Need-sides-holds Inv-uses μ-uses Inv-sides μ-sides Inv-quads μ-quads
 sides-holds c = (search needs, rw add-zero (c .before .quads .inv .1))

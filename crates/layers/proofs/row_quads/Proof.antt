@@ -6,7 +6,7 @@ use mathlib.Core.List.{List}
 use native.Mathlib.Omega.{arith}
 use borrow.Author.Needs.{needs}
 use denote.Ref.{now}
-use Rattle.quads.proofs.Writes.{wrote-length}
+use Rattle.laws.proofs.Puts.{put-length}
 use Rattle.layers.proofs.Halves.{lentHalf, lentOther, lent-half, lent-other, lent-long, other-long, halves-reach}
 use Rattle.layers.proofs.Steps.{x-room, y-room, z-room, quads-more, more-as}
 use Rattle.layers.proofs.row_quads.Statement.{statement}
@@ -54,7 +54,7 @@ write-along-requires-2 c κs =
       f .a-long,
       f .a-long,
       halves-reach _ (f .long) (lent-long j _ lb) (lent-long j _ lb) (lent-long j _ lh) (lent-long j _ lh),
-      omega (arith, y-room (s .pre .0) (old s) (under s) (prev s) (own s), wrote-length (c .before .before .before .write-along .ensures)),
+      omega (arith, y-room (s .pre .0) (old s) (under s) (prev s) (own s), put-length (c .before .before .before .write-along .ensures)),
     )
 
 write-along-requires-3 : tie.Need-write-along-requires-3
@@ -69,7 +69,7 @@ write-along-requires-3 c κs =
       f .a-long,
       f .b-long,
       halves-reach _ (f .long) (other-long j _ lh) (other-long j _ lh) (lent-long j _ lh) (lent-long j _ lh),
-      omega (arith, z-room (s .pre .0) (old s) (under s) (prev s) (own s), wrote-length (c .before .before .before .before .before .before .before .write-along .ensures), wrote-length (c .before .before .before .write-along2 .ensures)),
+      omega (arith, z-room (s .pre .0) (old s) (under s) (prev s) (own s), put-length (c .before .before .before .before .before .before .before .write-along .ensures), put-length (c .before .before .before .write-along2 .ensures)),
     )
 
 returns : tie.Need-returns

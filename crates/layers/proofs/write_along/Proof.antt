@@ -8,9 +8,9 @@ use borrow.Author.Tests.{not-true, not-false}
 use denote.Ref.{now}
 use lib.ListN.{length}
 use Rattle.quads.specs.Writing.{rowBy}
-use Rattle.quads.proofs.Writes.{wrote-as}
+use Rattle.laws.proofs.Puts.{put-as}
 use Rattle.layers.specs.Steps.{stepBy}
-use Rattle.layers.proofs.Steps.{step-none, step-some, wrote-nothing}
+use Rattle.layers.proofs.Steps.{step-none, step-some, put-nothing}
 use Rattle.layers.proofs.write_along.Statement.{statement}
 use Rattle.layers.proofs.write_along.Tie as tie
 
@@ -18,7 +18,7 @@ returns : tie.Need-returns
 returns c =
     let a = c .before .before .before .before .before .before .before .before .before .args in
     let p = a .piece in
-    wrote-nothing _ _
+    put-nothing _ _
     (step-none (p .along) (now (a .a)) (now (a .b)) (p .nx) (p .j) (p .lower) (now (a .n0)) (now (a .n1)) (now (a .n2)) (now (a .n3)) (c .before .has-quads .ensures) (not-true _ (c .if1 .taken)))
 
 -- the quads are those of the row
@@ -37,7 +37,7 @@ write-row-requires c κs =
     (r .0, r .1, r .2, r .3, r .4, r .5, subst (λ (xs : List ℕ). s .args .piece .from + length xs ≤ length (now (s .args .quads))) (some (c .before)) (r .6))
 
 returns-2 : tie.Need-returns-2
-returns-2 c = wrote-as (sym (some (c .before .before .before .before))) (c .before .before .write-row .ensures)
+returns-2 c = put-as (sym (some (c .before .before .before .before))) (c .before .before .write-row .ensures)
 
 pub write-along-spec : {M : Type 1} → statement M
 write-along-spec = tie.close (tie.spec (λ c κs. search needs) returns write-row-requires (λ c. search needs) returns-2)

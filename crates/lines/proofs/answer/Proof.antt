@@ -10,7 +10,8 @@ use Rattle.block.specs.Grey.{SixteenBit}
 use Rattle.block.proofs.Sizes.{axes-within}
 use Rattle.block.specs.Rows.{ceilingRow}
 use Rattle.lines.specs.Output.{blockText}
-use Rattle.lines.specs.Steps.{Put, printed}
+use Rattle.laws.specs.Put.{Put}
+use Rattle.lines.specs.Steps.{printed}
 use Rattle.reading.proofs.Axes.{at-most-eight}
 use Rattle.reading.proofs.Samples.{block-small, samples-grey, samples-front}
 use borrow.Author.Needs.{needs}

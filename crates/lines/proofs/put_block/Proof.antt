@@ -6,7 +6,7 @@ use lib.ListN.{length-replicate}
 use lib.Ieee.{Float, ofBits, binary64}
 use Prim.Native.Nat.{ℕ}
 use mathlib.Core.List.{List}
-use Rattle.lines.specs.Steps.{Put}
+use Rattle.laws.specs.Put.{Put}
 use Rattle.lines.proofs.Blocks.{refused-text, accepted-front}
 use borrow.Author.Needs.{needs}
 use Rattle.lines.proofs.put_block.Statement.{statement}

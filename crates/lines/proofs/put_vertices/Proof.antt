@@ -7,7 +7,7 @@ use borrow.Author.Needs.{needs}
 use lib.ListN.{length}
 use Rattle.laws.specs.Below.{below}
 use Rattle.lines.specs.Output.{vertexLine}
-use Rattle.lines.specs.Steps.{Put}
+use Rattle.laws.specs.Put.{Put}
 use Rattle.lines.proofs.Texts.{no-lines, vertex-more}
 use Rattle.lines.proofs.put_vertices.Statement.{statement}
 use Rattle.lines.proofs.put_vertices.Tie as tie

@@ -10,9 +10,10 @@ use Rattle.laws.specs.Below.{below}
 use Rattle.laws.proofs.Visit.{Left, left-next}
 use Rattle.rows.specs.Rows.{picked}
 use Rattle.rows.proofs.Visits.{bitsOf, visit-start, visit-set, visit-in}
-use Rattle.quads.specs.Writing.{quadBy, Wrote}
+use Rattle.quads.specs.Writing.{quadBy}
+use Rattle.laws.specs.Put.{Put}
 use Rattle.quads.proofs.RowQuads.{quad-four}
-use Rattle.quads.proofs.Writes.{wrote-length, words-none, emit-room, emit-next, emit-end}
+use Rattle.quads.proofs.Writes.{put-length, words-none, emit-room, emit-next, emit-end}
 use borrow.Author.Needs.{needs}
 use native.Mathlib.Omega.{arith}
 use Rattle.quads.proofs.emit.Statement.{statement}
@@ -20,7 +21,7 @@ use Rattle.quads.proofs.emit.Tie as tie
 
 abbrev Inv-loop : tie.InvT-loop
 Inv-loop order run n0 n1 n2 n3 quads₀ from w₀ i₀ p₀ quads w i p =
-    Left (bitsOf (run .d)) 64 i w × Wrote (below (picked (run .d) (λ (i : ℕ). quadBy (order .e) (order .back) (order .sign) n0 n1 n2 n3 (run .up / 2 ^ i % 2) (run .x + i))) i) from quads₀ quads p
+    Left (bitsOf (run .d)) 64 i w × Put quads₀ from (below (picked (run .d) (λ (i : ℕ). quadBy (order .e) (order .back) (order .sign) n0 n1 n2 n3 (run .up / 2 ^ i % 2) (run .x + i))) i) quads p
 
 abbrev μ-loop : tie.MeasureT-loop
 μ-loop order run n0 n1 n2 n3 quads₀ from w₀ i₀ p₀ quads w i p = 64 - i
@@ -58,7 +59,7 @@ put-edge-requires c κs =
     (c .before .before .before .before .before .before .before .before .before .before .pre .0, c .before .before .before .before .before .before .before .before .before .before .pre .2 _ (in-word i) (visit-set _ (i .before .loop .inv .0) (i .loop-test .taken)), room i)
 
 add-p : tie.Need-add-p Inv-loop μ-loop
-add-p c = omega (arith, room (c .before .before .before .before .before .before), wrote-length (c .before .before .before .before .before .before .before .loop .inv .1), c .before .before .before .before .before .before .before .before .before .before .before .before .before .good)
+add-p c = omega (arith, room (c .before .before .before .before .before .before), put-length (c .before .before .before .before .before .before .before .loop .inv .1), c .before .before .before .before .before .before .before .before .before .before .before .before .before .good)
 
 shr-w : tie.Need-shr-w Inv-loop μ-loop
 shr-w c = omega (arith, in-word (c .before .before .before .before .before .before))
@@ -76,7 +77,7 @@ loop-again c =
     (left-next (h .inv .0) ne, emit-next _ (quadOf (c .before .before .before .before .before .before .before .before .before .before .before .before .before)) (h .inv .0) (h .inv .1) ne (quad-four _ _ _ _ _ _ _ _ _) _ (c .before .before .put-edge .ensures))
 
 same-length : tie.Need-same-length Inv-loop μ-loop
-same-length c = wrote-length (c .before .loop .inv .1)
+same-length c = put-length (c .before .loop .inv .1)
 
 returns : tie.Need-returns Inv-loop μ-loop
 returns c = emit-end _ (quadOf (c .before .before .before .before .before .before .before)) (c .before .loop .inv .0) (c .before .loop .inv .1) (c .loop-test .left)

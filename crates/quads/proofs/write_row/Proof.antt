@@ -8,9 +8,10 @@ use lib.ListN.{length, getD}
 use Rattle.laws.specs.Below.{below}
 use Rattle.quads.specs.declared.Order.{Order}
 use Rattle.quads.specs.Edges.{wordsIn, edgesOf}
-use Rattle.quads.specs.Writing.{orderOf, wordBy, Wrote}
+use Rattle.quads.specs.Writing.{orderOf, wordBy}
+use Rattle.laws.specs.Put.{Put}
 use Rattle.quads.proofs.RowQuads.{edge-reach}
-use Rattle.quads.proofs.Writes.{wrote-length, wrote-as, words-none, words-more, words-room}
+use Rattle.quads.proofs.Writes.{put-length, put-as, words-none, words-more, words-room}
 use borrow.Author.Needs.{needs}
 use native.Mathlib.Omega.{arith}
 use Rattle.quads.proofs.write_row.Statement.{statement}
@@ -23,7 +24,7 @@ runBy o n0 n1 n2 n3 d up x = wordBy (o .e) (o .back) (o .sign) n0 n1 n2 n3 d up 
 abbrev Inv-loop : tie.InvT-loop
 Inv-loop a b n0 n1 n2 n3 quads₀ along nx j order w₀ p₀ quads w p =
     (w ≤ wordsIn nx)
-    × Wrote (below (λ (w : ℕ). runBy (orderOf along) n0 n1 n2 n3 (edgesOf along a b nx j w) (getD a (5 * j + w) 0) (64 * w)) w) p₀ quads₀ quads p
+    × Put quads₀ p₀ (below (λ (w : ℕ). runBy (orderOf along) n0 n1 n2 n3 (edgesOf along a b nx j w) (getD a (5 * j + w) 0) (64 * w)) w) quads p
 
 abbrev μ-loop : tie.MeasureT-loop
 μ-loop a b n0 n1 n2 n3 quads₀ along nx j order w₀ p₀ quads w p = wordsIn nx - w
@@ -84,13 +85,13 @@ loop-less : tie.Need-loop-less Inv-loop μ-loop
 loop-less c = omega (arith, c .before .before .before .before .before .before .loop-test .taken)
 
 loop-again : tie.Need-loop-again Inv-loop μ-loop
-loop-again c = (omega (arith, c .before .before .before .before .before .before .loop-test .taken), words-more (wordOf (c .before .before .before .before .before .before .before .before .before .before .before .before .before .before .before .before)) (c .before .before .before .before .before .before .before .loop .inv .1) (wrote-as (told (c .before .before .before .before .before)) (c .before .before .emit .ensures)))
+loop-again c = (omega (arith, c .before .before .before .before .before .before .loop-test .taken), words-more (wordOf (c .before .before .before .before .before .before .before .before .before .before .before .before .before .before .before .before)) (c .before .before .before .before .before .before .before .loop .inv .1) (put-as (told (c .before .before .before .before .before)) (c .before .before .emit .ensures)))
 
 same-length : tie.Need-same-length Inv-loop μ-loop
-same-length c = wrote-length (c .before .loop .inv .1)
+same-length c = put-length (c .before .loop .inv .1)
 
 returns : tie.Need-returns Inv-loop μ-loop
-returns c = wrote-as (ap (below (wordOf (c .before .before .before .before .before .before .before .before .before .before))) (all (c .before .loop .inv .0) (c .loop-test .left))) (c .before .loop .inv .1)
+returns c = put-as (ap (below (wordOf (c .before .before .before .before .before .before .before .before .before .before))) (all (c .before .loop .inv .0) (c .loop-test .left))) (c .before .loop .inv .1)
   where
     all : {w nx : ℕ} → w ≤ wordsIn nx → nx ≤ 64 * w → w ≡ wordsIn nx
     all p q = omega arith

@@ -4,7 +4,7 @@ use Prim.Native.Nat.{_+_, _-_, _≤_}
 use native.Mathlib.Omega.{arith}
 use borrow.Author.Needs.{needs}
 use borrow.Author.Tests.{not-true, not-false}
-use Rattle.laws.proofs.Leading.{HoldsTo, holds-none, holds-more}
+use Rattle.laws.proofs.Leading.{HoldsTo, holds-to-none, holds-more}
 use Rattle.reading.proofs.Line.{rightAt, found-in, wrong-at, all-right}
 use Rattle.reading.proofs.right_bytes.Statement.{statement}
 use Rattle.reading.proofs.right_bytes.Tie as tie
@@ -20,7 +20,7 @@ abbrev μ-loop : tie.MeasureT-loop
 μ-loop input at n column₀ column = n + 1 - column
 
 loop-holds : tie.Need-loop-holds Inv-loop μ-loop
-loop-holds c = (search needs, holds-none _)
+loop-holds c = (search needs, holds-to-none _)
 
 add-read-at : tie.Need-add-read-at Inv-loop μ-loop
 add-read-at c = search needs

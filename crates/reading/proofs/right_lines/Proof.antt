@@ -5,7 +5,7 @@ use mathlib.Core.Path.{sym, _∙_}
 use native.Mathlib.Omega.{arith}
 use borrow.Author.Needs.{needs}
 use borrow.Author.Tests.{not-true, not-false}
-use Rattle.laws.proofs.Leading.{HoldsTo, holds-none, holds-more}
+use Rattle.laws.proofs.Leading.{HoldsTo, holds-to-none, holds-more}
 use Rattle.reading.specs.Input.{lineThere}
 use Rattle.reading.proofs.Reading.{wrong-line, all-lines}
 use Rattle.reading.proofs.right_lines.Statement.{statement}
@@ -21,7 +21,7 @@ abbrev μ-loop : tie.MeasureT-loop
 μ-loop input nx rows j₀ j = rows + 1 - j
 
 loop-holds : tie.Need-loop-holds Inv-loop μ-loop
-loop-holds c = (search needs, holds-none _)
+loop-holds c = (search needs, holds-to-none _)
 
 line-there-requires : tie.Need-line-there-requires Inv-loop μ-loop
 line-there-requires c κs = (c .before .before .before .pre .0, omega (arith, c .loop-test .taken, c .before .before .before .pre .1))
