@@ -32,6 +32,9 @@ module _ (s t : ℕ → Bool) (corners : (c : ℕ) → c < 8 → s c ≡ t c) wh
         corners 7 (omega arith),
       )
 
+  pub mixed-same : mixed s ≡ mixed t
+  mixed-same = ap (λ (xs : List Bool). mixed (at xs)) eight-same
+
   pub plain-same : plain s ≡ plain t
   unfolding plain
   plain-same = ap (λ (xs : List Bool). plain (at xs)) eight-same

@@ -6,7 +6,7 @@ use mathlib.Core.List.{List, [], _∷_}
 use lib.ListN.{getD}
 use Rattle.laws.specs.Bits.{differ, holds, maskOf}
 use Rattle.block.specs.declared.Cut.{Cut}
-use Rattle.block.specs.Grey.{positive}
+use Rattle.block.specs.Grey.{positive, apart}
 
 -- "Corner of a cube: x + 2y + 4z, each 0 or 1": the coordinate of a corner on an axis, 0 for x, 1 for y, 2 for z
 abbrev pub cornerOn : ℕ → ℕ → ℕ
@@ -46,4 +46,4 @@ crossedMask pattern = maskOf (crossed pattern) 12
 
 -- the same of a cube's samples
 abbrev pub crossedAt : Cut → List ℕ → ℕ → Bool
-crossedAt cut corners e = differ (positive cut (cornerSample corners (lower e))) (positive cut (cornerSample corners (upper e)))
+crossedAt cut corners e = apart cut (cornerSample corners (lower e)) (cornerSample corners (upper e))

@@ -77,10 +77,16 @@ module _ (nx ny nz : ℕ) (s : List ℕ) (cut : Cut) (w : List ℕ) (o : List Fl
   answered = counted-of (judged verdict (countsOf (sizeOf nx ny nz) s cut))
 
   pub mesh-allows : (r : Counted) × (w′ : List ℕ) × (o′ : List Float) × (q′ : List ℕ) × Meshed nx ny nz s cut w o q r w′ o′ q′
-  mesh-allows =
-      (answered .0, (written verdict (meshWords loopsOf (sizeOf nx ny nz) s cut) w,
-      (written verdict (meshOffsets loopsOf (sizeOf nx ny nz) s cut) o,
-      (written verdict (meshQuads loopsOf (sizeOf nx ny nz) s cut) q, record { answer = answered .1; words = refl; offsets = refl; quads = refl }))))
+  mesh-allows = (
+    answered .0,
+    (
+      written verdict (meshWords loopsOf (sizeOf nx ny nz) s cut) w,
+      (
+        written verdict (meshOffsets loopsOf (sizeOf nx ny nz) s cut) o,
+        (written verdict (meshQuads loopsOf (sizeOf nx ny nz) s cut) q, record { answer = answered .1; words = refl; offsets = refl; quads = refl }),
+      ),
+    ),
+  )
 
   -- where no row holds, there is a call that answers the counts
   pub mesh-call : meshVerdict nx ny nz s cut (length w) (length o) (length q) ≡ Passes → MeshCall nx ny nz s cut

@@ -218,7 +218,16 @@ fn put_block(out: &mut [u8], nx: u32, ny: u32, nz: u32, samples: &[u16], t: u16)
     let mut words = [0u32; 2744];
     let mut offsets = [0.0f64; 4116];
     let mut quads = [0u32; 3024];
-    let counted = mesh::mesh(nx, ny, nz, samples, Cut { t: t }, &mut words, &mut offsets, &mut quads);
+    let counted = mesh::mesh(
+        nx,
+        ny,
+        nz,
+        samples,
+        Cut { t: t },
+        &mut words,
+        &mut offsets,
+        &mut quads,
+    );
     match counted {
         Counted::Refused(r) => put_refusal(out, r),
         Counted::Counts(totals) => put_front(out, totals, &words, &offsets, &quads),

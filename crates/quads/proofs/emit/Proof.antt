@@ -12,8 +12,9 @@ use Rattle.rows.specs.Rows.{picked}
 use Rattle.rows.proofs.Visits.{bitsOf, visit-start, visit-set, visit-in}
 use Rattle.quads.specs.Writing.{quadBy}
 use Rattle.laws.specs.Put.{Put}
+use Rattle.laws.proofs.Puts.{put-length}
 use Rattle.quads.proofs.RowQuads.{quad-four}
-use Rattle.quads.proofs.Writes.{put-length, words-none, emit-room, emit-next, emit-end}
+use Rattle.quads.proofs.Writes.{words-none, emit-room, emit-next, emit-end}
 use borrow.Author.Needs.{needs}
 use native.Mathlib.Omega.{arith}
 use Rattle.quads.proofs.emit.Statement.{statement}

@@ -10,8 +10,9 @@ use Rattle.quads.specs.declared.Order.{Order}
 use Rattle.quads.specs.Edges.{wordsIn, edgesOf}
 use Rattle.quads.specs.Writing.{orderOf, wordBy}
 use Rattle.laws.specs.Put.{Put}
+use Rattle.laws.proofs.Puts.{put-length, put-as}
 use Rattle.quads.proofs.RowQuads.{edge-reach}
-use Rattle.quads.proofs.Writes.{put-length, put-as, words-none, words-more, words-room}
+use Rattle.quads.proofs.Writes.{words-none, words-more, words-room}
 use borrow.Author.Needs.{needs}
 use native.Mathlib.Omega.{arith}
 use Rattle.quads.proofs.write_row.Statement.{statement}
