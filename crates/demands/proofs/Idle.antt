@@ -28,7 +28,8 @@ use Rattle.cube_rule.specs.Decider.{loopsOf}
 use Rattle.mesh_rule.specs.Buffers.{meshWords, meshOffsets}
 use Rattle.mesh_rule.specs.Grid.{metal, OffEdges, AtLeastThree}
 use Rattle.mesh_rule.specs.Mesh.{flat, quads}
-use Rattle.mesh_rule.proofs.Checkerboard.{hollow, hollow-vertices, hollow-length, hollow-at, board, board-vertices, board-length, board-grey}
+use Rattle.mesh_rule.specs.Boards.{board, hollow}
+use Rattle.mesh_rule.proofs.Checkerboard.{hollow-vertices, hollow-length, hollow-at, board-vertices, board-length, board-grey}
 use Rattle.mesh.specs.declared.Totals.{Totals}
 use Rattle.mesh.specs.declared.Counted.{Counted}
 use Rattle.mesh.specs.Answer.{sizeOf, vertexCount, quadCount, countsOf, blockRows, vertexRow, quadRow, saidCounts, countsVerdict, CountsAnswered, meshVerdict, Meshed}
