@@ -12,11 +12,17 @@ use Rattle.layers.proofs.row_step.Statement.{statement}
 use Rattle.layers.proofs.row_step.Tie as tie
 
 -- the vertices are asked for, and then they are written
+abbrev entry : tie.After-slice-known4 → tie.Start
+entry k = k .before .before .before .before .before .before .before .before .before
+
 abbrev start : tie.After-write-row-arg3 → tie.Start
-start c = c .before .before .before .before .before .before .before .before .before .before .before .before .before
+start c = entry (c .before .before .before .before)
 
 abbrev begin : tie.After-write-row → tie.Start
 begin d = start (d .before)
+
+abbrev vertices-written : tie.After-row-quads-arg2 → tie.After-write-row
+vertices-written c = c .before .before .before .before .before .before .before .before
 
 abbrev tab : tie.After-write-row → List ℕ
 tab d = now (begin d .args .here)
@@ -46,20 +52,21 @@ write-row-requires c κs =
 
 row-quads-requires : tie.Need-row-quads-requires
 row-quads-requires c κs =
-    let d = c .before .before .before .before .before .before .before .before in
+    let d = vertices-written c in
     let s = begin d in
     (ready-as (d .write-row .result) (s .pre .2), put-long (s .args .row .j) (tab d) (noted d) (s .pre .3) (long d))
 
 returns : tie.Need-returns
 returns c =
-    let d = c .before .before .before .before .before .before .before .before .before .before .before in
+    let q = c .before .before in
+    let d = vertices-written (q .before) in
     let s = begin d in
     let j = s .args .row .j in
     record {
       long = put-long j (tab d) (noted d) (s .pre .3) (long d);
       prev-kept = put-other j (tab d) (noted d) (s .pre .3) (long d);
-      written = written-as (lent-half j (tab d)) (sym (put-here j (tab d) (noted d) (s .pre .3) (long d))) (sym (c .before .before .row-quads .ensures .0)) (d .write-row .ensures);
-      more = quads-as (d .write-row .result) (c .before .before .row-quads .ensures .1);
+      written = written-as (lent-half j (tab d)) (sym (put-here j (tab d) (noted d) (s .pre .3) (long d))) (sym (q .row-quads .ensures .0)) (d .write-row .ensures);
+      more = quads-as (d .write-row .result) (q .row-quads .ensures .1);
     }
 
 pub row-step-spec : {M : Type 1} → statement M

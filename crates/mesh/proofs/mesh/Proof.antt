@@ -21,16 +21,23 @@ enum-known-made c = search needs
 enum-known-made-2 : tie.Need-enum-known-made-2
 enum-known-made-2 c = search needs
 
+-- the places that the proof names: the entry, the size asked
+abbrev start : tie.After-new → tie.Start
+start n = n .before .before .before .before .before
+
+abbrev asked : tie.After-made2 → tie.After-new
+asked m = m .before .before
+
 mesh-of-requires : tie.Need-mesh-of-requires
 mesh-of-requires c κs =
-    let n = c .before .before .before .before .before .before in
-    let a = n .before .before .before .before .before in
-    size-made (a .args .nx) (a .args .ny) (a .args .nz) _ (subst (SizeMade (a .args .nx) (a .args .ny) (a .args .nz)) (c .before .before .before .before .made2 .given .1) (n .new .ensures)) .1
+    let m = c .before .before .before .before in
+    let a = start (asked m) in
+    size-made (a .args .nx) (a .args .ny) (a .args .nz) _ (subst (SizeMade (a .args .nx) (a .args .ny) (a .args .nz)) (m .made2 .given .1) (asked m .new .ensures)) .1
 
 returns : tie.Need-returns
 returns c =
     let n = c .before .before .before in
-    let a = n .before .before .before .before .before in
+    let a = start n in
     mesh-bad-axis (a .args .nx) (a .args .ny) (a .args .nz) (a .args .samples .now) (a .args .cut) _ (a .args .words .now) (a .args .offsets .now) (a .args .quads .now)
     (subst (SizeMade (a .args .nx) (a .args .ny) (a .args .nz)) (c .before .made .given .1) (n .new .ensures))
 
@@ -45,10 +52,11 @@ same-length-3 c = search needs
 
 returns-2 : tie.Need-returns-2
 returns-2 c =
-    let n = c .before .before .before .before .before .before .before .before .before .before .before .before .before in
-    let a = n .before .before .before .before .before in
-    mesh-made (a .args .nx) (a .args .ny) (a .args .nz) (a .args .samples .now) (a .args .cut) _ (a .args .words .now) (a .args .offsets .now) (a .args .quads .now) (c .before .before .before .before .before .before .mesh-of .result) _ _ _
-    (subst (SizeMade (a .args .nx) (a .args .ny) (a .args .nz)) (c .before .before .before .before .before .before .before .before .before .before .before .made2 .given .1) (n .new .ensures)) (c .before .before .before .before .before .before .mesh-of .ensures)
+    let r = c .before .before .before .before .before .before in
+    let m = r .before .before .before .before .before in
+    let a = start (asked m) in
+    mesh-made (a .args .nx) (a .args .ny) (a .args .nz) (a .args .samples .now) (a .args .cut) _ (a .args .words .now) (a .args .offsets .now) (a .args .quads .now) (r .mesh-of .result) _ _ _
+    (subst (SizeMade (a .args .nx) (a .args .ny) (a .args .nz)) (m .made2 .given .1) (asked m .new .ensures)) (r .mesh-of .ensures)
 
 pub mesh-spec : {M : Type 1} → statement M
 mesh-spec =

@@ -27,37 +27,49 @@ enum-known-checked c = search needs
 
 returns : tie.Need-returns
 returns c =
-    let a = c .before .before .before .before .before .before .before .before in
-    early-refused (a .args .size) (a .args .samples .now) (a .args .cut) (a .args .words .now) (a .args .offsets .now) (a .args .quads .now) _ (sym (c .before .before .before .check .ensures) ∙ c .before .checked .given .1)
+    let h = c .before .before .before in
+    let a = h .before .before .before .before .before in
+    early-refused (a .args .size) (a .args .samples .now) (a .args .cut) (a .args .words .now) (a .args .offsets .now) (a .args .quads .now) _
+    (sym (h .check .ensures) ∙ c .before .checked .given .1)
 
 enum-told : tie.Need-enum-told
 enum-told c = search needs
 
+-- the places that the proof names: the entry, rows 2 to 4 passed, the counts made, rows 5 and 6 passed
+abbrev start : tie.After-enum-told → tie.Start
+start c = c .before .before .before .before .before .before .before
+
+abbrev checked : tie.After-total → tie.After-enum-told
+checked c = c .before .before
+
+abbrev counted : tie.After-enum-told2 → tie.After-total
+counted c = c .before .before .before
+
 -- rows 2 to 4 passed
-passed : (c : tie.After-enum-told) → let a = c .before .before .before .before .before .before .before in
+passed : (c : tie.After-enum-told) → let a = start c in
     inOrder (blockRows (a .args .size) (a .args .samples .now) (a .args .cut)) ≡ Passes
 passed c = sym (c .before .before .check .ensures) ∙ c .enum-told .given .1
 
 tally-block-requires : tie.Need-tally-block-requires
 tally-block-requires c κs =
-    let a = c .before .before .before .before .before .before .before in
+    let a = start c in
     block-of (a .args .size) (a .args .samples .now) (a .args .cut) (a .pre) (passed c)
 
 total-requires : tie.Need-total-requires
 total-requires c κs =
-    let a = c .before .before .before .before .before .before .before .before in
+    let a = start (c .before) in
     tallied-few (a .args .size) (a .args .samples .now) (a .args .cut) (c .tally-block .result) (a .pre) (c .tally-block .ensures)
 
 -- the counts are those of the mesh
-counts-are : (c : tie.After-total) → let a = c .before .before .before .before .before .before .before .before .before in
+counts-are : (c : tie.After-total) → let a = start (checked c) in
     c .total .result ≡ countsOf (a .args .size) (a .args .samples .now) (a .args .cut)
 counts-are c =
-    let a = c .before .before .before .before .before .before .before .before .before in
+    let a = start (checked c) in
     tallied-counts (a .args .size) (a .args .samples .now) (a .args .cut) (c .before .tally-block .result) (c .total .result) (c .before .tally-block .ensures) (c .total .ensures .0) (c .total .ensures .1)
 
 room-requires : tie.Need-room-requires
 room-requires c κs =
-    let a = c .before .before .before .before .before .before .before .before .before in
+    let a = start (checked c) in
     let few = tallied-few (a .args .size) (a .args .samples .now) (a .args .cut) (c .before .tally-block .result) (a .pre) (c .before .tally-block .ensures) in
     (omega (arith, few .0, c .total .ensures .0), omega (arith, few .1, c .total .ensures .1))
 
@@ -66,18 +78,23 @@ enum-known-fits c = search needs
 
 returns-2 : tie.Need-returns-2
 returns-2 c =
-    let a = c .before .before .before .before .before .before .before .before .before .before .before .before .before in
-    late-refused (a .args .size) (a .args .samples .now) (a .args .cut) (a .args .words .now) (a .args .offsets .now) (a .args .quads .now) (passed (c .before .before .before .before .before .before)) (c .before .before .before .before .total .result) (counts-are (c .before .before .before .before)) _ (sym (c .before .before .before .room .ensures) ∙ c .before .fits2 .given .1)
+    let n = c .before .before .before .before in
+    let a = start (checked n) in
+    late-refused (a .args .size) (a .args .samples .now) (a .args .cut) (a .args .words .now) (a .args .offsets .now) (a .args .quads .now) (passed (checked n)) (n .total .result) (counts-are n) _
+    (sym (c .before .before .before .room .ensures) ∙ c .before .fits2 .given .1)
 
 enum-told-2 : tie.Need-enum-told-2
 enum-told-2 c = search needs
 
 write-block-requires : tie.Need-write-block-requires
 write-block-requires c κs =
-    let a = c .before .before .before .before .before .before .before .before .before .before .before .before .before .before .before in (
-      meshable-of (a .args .size) (a .args .samples .now) (a .args .cut) (a .pre) (passed (c .before .before .before .before .before .before .before .before)),
-      c .before .before .before .before .before .before .before .tally-block .ensures,
-      roomy-of (a .args .size) (a .args .samples .now) (a .args .cut) (a .args .words .now) (a .args .offsets .now) (a .args .quads .now) (c .before .before .before .before .before .before .total .result) (counts-are (c .before .before .before .before .before .before)) (sym (c .before .before .before .before .before .room .ensures) ∙ c .before .before .before .enum-told2 .given .1),
+    let e = c .before .before .before in
+    let n = counted e in
+    let a = start (checked n) in (
+      meshable-of (a .args .size) (a .args .samples .now) (a .args .cut) (a .pre) (passed (checked n)),
+      n .before .tally-block .ensures,
+      roomy-of (a .args .size) (a .args .samples .now) (a .args .cut) (a .args .words .now) (a .args .offsets .now) (a .args .quads .now) (n .total .result) (counts-are n)
+          (sym (e .before .before .room .ensures) ∙ e .enum-told2 .given .1),
     )
 
 same-length : tie.Need-same-length
@@ -91,8 +108,12 @@ same-length-3 c = search needs
 
 returns-3 : tie.Need-returns-3
 returns-3 c =
-    let a = c .before .before .before .before .before .before .before .before .before .before .before .before .before .before .before .before .before .before .before .before .before .before in
-    passed-by (a .args .size) (a .args .samples .now) (a .args .cut) (a .args .words .now) (a .args .offsets .now) (a .args .quads .now) (passed (c .before .before .before .before .before .before .before .before .before .before .before .before .before .before .before)) (c .before .before .before .before .before .before .before .before .before .before .before .before .before .total .result) (counts-are (c .before .before .before .before .before .before .before .before .before .before .before .before .before)) (sym (c .before .before .before .before .before .before .before .before .before .before .before .before .room .ensures) ∙ c .before .before .before .before .before .before .before .before .before .before .enum-told2 .given .1) _ _ _ (c .before .before .before .before .before .before .write-block .ensures)
+    let w = c .before .before .before .before .before .before in
+    let e = w .before .before .before .before in
+    let n = counted e in
+    let a = start (checked n) in
+    passed-by (a .args .size) (a .args .samples .now) (a .args .cut) (a .args .words .now) (a .args .offsets .now) (a .args .quads .now) (passed (checked n)) (n .total .result) (counts-are n)
+    (sym (e .before .before .room .ensures) ∙ e .enum-told2 .given .1) _ _ _ (w .write-block .ensures)
 
 pub mesh-of-spec : {M : Type 1} → statement M
 mesh-of-spec =

@@ -13,22 +13,30 @@ mul-if1 : tie.Need-mul-if1
 mul-if1 c = search needs
 
 returns : tie.Need-returns
-returns c = sym (short-words (c .before .args .vertices) (c .before .args .quads) (c .before .args .words) (c .before .args .offsets) (c .before .args .lent) (omega arith) (c .if1 .taken))
+returns c =
+    let a = c .before .args in
+    sym (short-words (a .vertices) (a .quads) (a .words) (a .offsets) (a .lent) (omega arith) (c .if1 .taken))
 
 mul-if2 : tie.Need-mul-if2
 mul-if2 c = search needs
 
 returns-2 : tie.Need-returns-2
-returns-2 c = sym (short-offsets (c .before .before .args .vertices) (c .before .before .args .quads) (c .before .before .args .words) (c .before .before .args .offsets) (c .before .before .args .lent) (omega arith) (c .before .if1 .left) (c .if2 .taken))
+returns-2 c =
+    let a = c .before .before .args in
+    sym (short-offsets (a .vertices) (a .quads) (a .words) (a .offsets) (a .lent) (omega arith) (c .before .if1 .left) (c .if2 .taken))
 
 mul-if3 : tie.Need-mul-if3
 mul-if3 c = search needs
 
 returns-3 : tie.Need-returns-3
-returns-3 c = sym (short-quads (c .before .before .before .args .vertices) (c .before .before .before .args .quads) (c .before .before .before .args .words) (c .before .before .before .args .offsets) (c .before .before .before .args .lent) (omega arith) (c .before .before .if1 .left) (c .before .if2 .left) (c .if3 .taken))
+returns-3 c =
+    let a = c .before .before .before .args in
+    sym (short-quads (a .vertices) (a .quads) (a .words) (a .offsets) (a .lent) (omega arith) (c .before .before .if1 .left) (c .before .if2 .left) (c .if3 .taken))
 
 returns-4 : tie.Need-returns-4
-returns-4 c = sym (roomy (c .before .before .before .args .vertices) (c .before .before .before .args .quads) (c .before .before .before .args .words) (c .before .before .before .args .offsets) (c .before .before .before .args .lent) (c .before .before .if1 .left) (c .before .if2 .left) (c .if3 .left))
+returns-4 c =
+    let a = c .before .before .before .args in
+    sym (roomy (a .vertices) (a .quads) (a .words) (a .offsets) (a .lent) (c .before .before .if1 .left) (c .before .if2 .left) (c .if3 .left))
 
 pub room-spec : {M : Type 1} → statement M
 room-spec = tie.close (tie.spec mul-if1 returns mul-if2 returns-2 mul-if3 returns-3 returns-4)

@@ -10,18 +10,36 @@ use Rattle.mesh.proofs.RowSteps.{step-ready, row-more}
 use Rattle.mesh.proofs.step_row.Statement.{statement}
 use Rattle.mesh.proofs.step_row.Tie as tie
 
--- the row's numbers fit
-bounds : (d : tie.After-ny) → let a = d .before .before .before .before .before .before .before .before .before .before .args in let nx = d .before .nx .result in let ny = d .ny .result in
-    (nx * ny ≤ 65536) × (ny * a .k ≤ 65024) × (nx * (a .j + ny * a .k) ≤ 16711168) × ((ny - 1) * a .k ≤ 64770) × ((nx - 1) * (a .j + (ny - 1) * a .k) ≤ 16581120)
-bounds d = let s = d .before .before .before .before .before .before .before .before .before .before in row-bounds (s .args .size) _ _ _ _ (s .pre .0 .limits) (d .before .nx .ensures) (d .ny .ensures) (s .pre .2 .row) (s .pre .0 .inside)
+-- the places that the proof names: the entry, the row made
+abbrev entry : tie.After-nx → tie.Start
+entry n = n .before .before .before .before .before .before .before .before .before
 
-nx-few : (d : tie.After-ny) → (d .before .nx .result ≤ 256) × (d .before .before .before .before .before .before .before .before .before .before .args .j < 256)
-nx-few d = let s = d .before .before .before .before .before .before .before .before .before .before in (omega (arith, d .before .nx .ensures, s .pre .0 .limits .x-high), omega (arith, s .pre .2 .row, s .pre .0 .limits .y-high))
+abbrev start : tie.After-ny → tie.Start
+start d = entry (d .before)
+
+abbrev row-made : tie.After-row-step → tie.After-row-of
+row-made w = w .before .before .before .before .before .before .before
+
+-- the row's numbers fit
+bounds : (d : tie.After-ny) → let a = start d .args in let nx = d .before .nx .result in let ny = d .ny .result in
+    (nx * ny ≤ 65536) × (ny * a .k ≤ 65024) × (nx * (a .j + ny * a .k) ≤ 16711168) × ((ny - 1) * a .k ≤ 64770) × ((nx - 1) * (a .j + (ny - 1) * a .k) ≤ 16581120)
+bounds d =
+    let s = start d in
+    row-bounds (s .args .size) _ _ _ _ (s .pre .0 .limits) (d .before .nx .ensures) (d .ny .ensures) (s .pre .2 .row) (s .pre .0 .inside)
+
+nx-few : (d : tie.After-ny) → (d .before .nx .result ≤ 256) × (start d .args .j < 256)
+nx-few d =
+    let s = start d in
+    (omega (arith, d .before .nx .ensures, s .pre .0 .limits .x-high), omega (arith, s .pre .2 .row, s .pre .0 .limits .y-high))
 
 -- its windows as they are lent
-windows : (d : tie.After-ny) → let s = d .before .before .before .before .before .before .before .before .before .before in
-    Windows (s .args .size) (now (s .args .samples)) (s .args .j) (s .args .k) (lentLow (s .pre .0) (s .args .j) (d .before .nx .result) (d .ny .result) (d .before .nx .ensures) (d .ny .ensures) (s .pre .2 .row)) (lentHigh (s .pre .0) (s .args .j) (d .before .nx .result) (d .ny .result) (d .before .nx .ensures) (d .ny .ensures) (s .pre .2 .row))
-windows d = let s = d .before .before .before .before .before .before .before .before .before .before in lent-windows (s .pre .0) (s .args .j) _ _ (d .before .nx .ensures) (d .ny .ensures) (s .pre .2 .row)
+windows : (d : tie.After-ny) → let s = start d in let n = d .before .nx in
+    Windows (s .args .size) (now (s .args .samples)) (s .args .j) (s .args .k)
+    (lentLow (s .pre .0) (s .args .j) (n .result) (d .ny .result) (n .ensures) (d .ny .ensures) (s .pre .2 .row))
+    (lentHigh (s .pre .0) (s .args .j) (n .result) (d .ny .result) (n .ensures) (d .ny .ensures) (s .pre .2 .row))
+windows d =
+    let s = start d in
+    lent-windows (s .pre .0) (s .args .j) _ _ (d .before .nx .ensures) (d .ny .ensures) (s .pre .2 .row)
 
 mul-p : tie.Need-mul-p
 mul-p c = omega (arith, bounds c, nx-few c)
@@ -54,7 +72,10 @@ part-row-step-start : tie.Need-part-row-step-start
 part-row-step-start c = omega (arith, bounds (c .before), nx-few (c .before))
 
 part-row-step-end : tie.Need-part-row-step-end
-part-row-step-end c = let s = c .before .before .before .before .before .before .before .before .before .before .before in low-fits (s .args .size) (now (s .args .samples)) (s .args .j) (s .args .k) _ _ (c .before .before .nx .ensures) (c .before .ny .ensures) (s .pre .0 .samples) (s .pre .2 .row) (s .pre .0 .inside)
+part-row-step-end c =
+    let d = c .before in
+    let s = start d in
+    low-fits (s .args .size) (now (s .args .samples)) (s .args .j) (s .args .k) _ _ (d .before .nx .ensures) (d .ny .ensures) (s .pre .0 .samples) (s .pre .2 .row) (s .pre .0 .inside)
 
 mul-row-step-3 : tie.Need-mul-row-step-3
 mul-row-step-3 c = omega (arith, bounds (c .before .before), nx-few (c .before .before))
@@ -72,16 +93,28 @@ part-row-step-start-2 : tie.Need-part-row-step-start-2
 part-row-step-start-2 c = omega (arith, bounds (c .before .before), nx-few (c .before .before))
 
 part-row-step-end-2 : tie.Need-part-row-step-end-2
-part-row-step-end-2 c = let s = c .before .before .before .before .before .before .before .before .before .before .before .before in high-fits (s .args .size) (now (s .args .samples)) (s .args .j) (s .args .k) _ _ (c .before .before .before .nx .ensures) (c .before .before .ny .ensures) (s .pre .0 .samples) (s .pre .2 .row) (s .pre .0 .inside)
+part-row-step-end-2 c =
+    let d = c .before .before in
+    let s = start d in
+    high-fits (s .args .size) (now (s .args .samples)) (s .args .j) (s .args .k) _ _ (d .before .nx .ensures) (d .ny .ensures) (s .pre .0 .samples) (s .pre .2 .row) (s .pre .0 .inside)
 
 row-of-requires : tie.Need-row-of-requires
-row-of-requires c κs = (c .before .before .before .before .before .before .before .before .before .before .pre .0 .limits, c .before .before .before .before .before .before .before .before .before .before .pre .2 .row, c .before .before .before .before .before .before .before .before .before .before .pre .0 .inside)
+row-of-requires c κs =
+    let r = start c .pre in
+    (r .0 .limits, r .2 .row, r .0 .inside)
 
 row-step-requires : tie.Need-row-step-requires
-row-step-requires c κs = let r = c .before .before .before .before .before .before .before .before .before .before .before .before .before .before .before .before .before .pre in step-ready (r .0) (r .1) (r .2) (r .3) (windows (c .before .before .before .before .before .before .before)) _ (c .before .before .before .before .before .before .row-of .ensures)
+row-step-requires c κs =
+    let m = c .before .before .before .before .before .before in
+    let r = start (m .before) .pre in
+    step-ready (r .0) (r .1) (r .2) (r .3) (windows (m .before)) _ (m .row-of .ensures)
 
 returns : tie.Need-returns
-returns c = let r = c .before .before .before .before .before .before .before .before .before .before .before .before .before .before .before .before .before .before .before .before .before .before .before .before .before .before .pre in row-more (r .0) (r .1) (r .2) (r .3) (windows (c .before .before .before .before .before .before .before .before .before .before .before .before .before .before .before .before)) _ (c .before .before .before .before .before .before .before .before .before .before .before .before .before .before .before .row-of .ensures) (c .before .before .before .before .before .before .before .before .row-step .ensures)
+returns c =
+    let w = c .before .before .before .before .before .before .before .before in
+    let m = row-made w in
+    let r = start (m .before) .pre in
+    row-more (r .0) (r .1) (r .2) (r .3) (windows (m .before)) _ (m .row-of .ensures) (w .row-step .ensures)
 
 pub step-row-spec : {M : Type 1} → statement M
 step-row-spec =

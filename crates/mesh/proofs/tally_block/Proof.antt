@@ -19,6 +19,19 @@ Inv-loop size samples cut table nz a₀ b₀ m₀ k₀ a b m k = (k + 1 ≤ nz) 
 abbrev μ-loop : tie.MeasureT-loop
 μ-loop size samples cut table nz a₀ b₀ m₀ k₀ a b m k = nz - k
 
+-- the places that the proof names: the entry, the size read, the loop's head
+abbrev entry : tie.After-nz Inv-loop μ-loop → tie.Start Inv-loop μ-loop
+entry z = z .before .before .before
+
+abbrev sized : tie.At-loop Inv-loop μ-loop → tie.After-nz Inv-loop μ-loop
+sized l = l .before .before .before .before
+
+abbrev start : tie.At-loop Inv-loop μ-loop → tie.Start Inv-loop μ-loop
+start l = entry (sized l)
+
+abbrev at-loop : tie.After-plane-signs2 Inv-loop μ-loop → tie.At-loop Inv-loop μ-loop
+at-loop p = p .before .before .before
+
 masks-requires : tie.Need-masks-requires Inv-loop μ-loop
 masks-requires c κs = search needs
 
@@ -33,8 +46,13 @@ plane-signs-requires c κs = search needs
 
 loop-holds : tie.Need-loop-holds Inv-loop μ-loop
 loop-holds c =
-    let a = c .before .before .before .before .before .before in
-    (omega (arith, c .before .before .before .nz .ensures, a .pre .limits .z-low), plane-of (a .args .size) (a .args .samples .now) (a .args .cut) 0 _ _ (a .pre .limits) refl (c .before .plane-signs .ensures), refl, marked-start (a .args .size) (a .args .samples .now) (a .args .cut) 0 0)
+    let z = c .before .before .before in
+    let a = entry z in (
+      omega (arith, z .nz .ensures, a .pre .limits .z-low),
+      plane-of (a .args .size) (a .args .samples .now) (a .args .cut) 0 _ _ (a .pre .limits) refl (c .before .plane-signs .ensures),
+      refl,
+      marked-start (a .args .size) (a .args .samples .now) (a .args .cut) 0 0,
+    )
 
 add-loop : tie.Need-add-loop Inv-loop μ-loop
 add-loop c = search needs
@@ -49,12 +67,12 @@ plane-signs-requires-2 : tie.Need-plane-signs-requires-2 Inv-loop μ-loop
 plane-signs-requires-2 c κs = search needs
 
 -- the signs of the upper plane
-upper-of : (p : tie.After-plane-signs2 Inv-loop μ-loop)
-    → let a = p .before .before .before .before .before .before .before .before .before .before in
-    Plane (a .args .size) (a .args .samples .now) (a .args .cut) (p .before .before .before .loop .k + 1) (p .plane-signs2 .last .1 .1 .1 .1 .0)
+upper-of : (p : tie.After-plane-signs2 Inv-loop μ-loop) → let l = at-loop p in let a = start l in
+    Plane (a .args .size) (a .args .samples .now) (a .args .cut) (l .loop .k + 1) (p .plane-signs2 .last .1 .1 .1 .1 .0)
 upper-of p =
-    let a = p .before .before .before .before .before .before .before .before .before .before in
-    plane-of (a .args .size) (a .args .samples .now) (a .args .cut) (p .before .before .before .loop .k + 1) _ _ (a .pre .limits) (p .before .before .before .loop .inv .2) (p .plane-signs2 .ensures)
+    let l = at-loop p in
+    let a = start l in
+    plane-of (a .args .size) (a .args .samples .now) (a .args .cut) (l .loop .k + 1) _ _ (a .pre .limits) (l .loop .inv .2) (p .plane-signs2 .ensures)
 
 slice-aggregate-with-layer : tie.Need-slice-aggregate-with-layer Inv-loop μ-loop
 slice-aggregate-with-layer c = search needs
@@ -64,15 +82,16 @@ slice-aggregate-with-layer-2 c = search needs
 
 with-layer-requires : tie.Need-with-layer-requires Inv-loop μ-loop
 with-layer-requires c κs =
-    let a = c .before .before .before .before .before .before .before .before .before .before .before .before .before .before in
-    let l = c .before .before .before .before .before .before .before in (
+    let p = c .before .before .before .before in
+    let l = at-loop p in
+    let a = start l in (
       record {
         limits = a .pre .limits;
         samples = a .pre .samples;
-        masks = c .before .before .before .before .before .before .before .before .before .before .before .before .masks .ensures;
+        masks = sized l .before .masks .ensures;
         lower = l .loop .inv .1;
-        upper = upper-of (c .before .before .before .before);
-        inside = omega (arith, c .before .before .before .before .before .before .before .before .before .before .before .nz .ensures);
+        upper = upper-of p;
+        inside = omega (arith, sized l .nz .ensures);
       },
       l .loop .inv .3,
     )
@@ -90,9 +109,9 @@ loop-again c =
 
 returns : tie.Need-returns Inv-loop μ-loop
 returns c =
-    let a = c .before .before .before .before .before .before .before .before in
-    let l = c .before .loop in
-    marked-all (a .args .size) (a .args .samples .now) (a .args .cut) 0 0 (l .k) (omega (arith, c .before .before .before .before .before .nz .ensures)) (l .inv .3)
+    let l = c .before in
+    let a = start l in
+    marked-all (a .args .size) (a .args .samples .now) (a .args .cut) 0 0 (l .loop .k) (omega (arith, sized l .nz .ensures)) (l .loop .inv .3)
 
 pub tally-block-spec : {M : Type 1} → statement M
 tally-block-spec =

@@ -24,32 +24,60 @@ Inv-loop size samples cut words₀ offsets₀ quads₀ table nz a₀ b₀ m₀ b
 abbrev μ-loop : tie.MeasureT-loop
 μ-loop size samples cut words₀ offsets₀ quads₀ table nz a₀ b₀ m₀ below₀ k₀ words offsets quads a b m below k = nz - k
 
+-- the places that the proof names: the entry, the size read, the loop's head, the upper plane's signs read
+abbrev entry : tie.After-nz Inv-loop μ-loop → tie.Start Inv-loop μ-loop
+entry z = z .before .before .before .before .before .before
+
+abbrev sized : tie.At-loop Inv-loop μ-loop → tie.After-nz Inv-loop μ-loop
+sized l = l .before .before .before .before .before
+
+abbrev start : tie.At-loop Inv-loop μ-loop → tie.Start Inv-loop μ-loop
+start l = entry (sized l)
+
+abbrev at-loop : tie.After-plane-signs2 Inv-loop μ-loop → tie.At-loop Inv-loop μ-loop
+at-loop p = p .before .before .before
+
+abbrev planes-read : tie.After-write-layer Inv-loop μ-loop → tie.After-plane-signs2 Inv-loop μ-loop
+planes-read w = w .before .before .before .before .before .before .before .before
+
 -- the tally is small
 few : (a : tie.Start Inv-loop μ-loop) → a .args .t .x + a .args .t .y + a .args .t .z ≤ 197418960
 few a = tallied-few (a .args .size) (a .args .samples .now) (a .args .cut) (a .args .t) (a .pre .0 .limits) (a .pre .1) .1
 
 -- the signs of the upper plane
-upper-of : (p : tie.After-plane-signs2 Inv-loop μ-loop) → let a = p .before .before .before .before .before .before .before .before .before .before .before .before .before .before in
-    Plane (a .args .size) (a .args .samples .now) (a .args .cut) (p .before .before .before .loop .k + 1) (p .plane-signs2 .last .1 .1 .1 .1 .0)
-upper-of p = let a = p .before .before .before .before .before .before .before .before .before .before .before .before .before .before in plane-of (a .args .size) (a .args .samples .now) (a .args .cut) (p .before .before .before .loop .k + 1) _ _ (a .pre .0 .limits) (p .before .before .before .loop .inv .2) (p .plane-signs2 .ensures)
+upper-of : (p : tie.After-plane-signs2 Inv-loop μ-loop) → let l = at-loop p in let a = start l in
+    Plane (a .args .size) (a .args .samples .now) (a .args .cut) (l .loop .k + 1) (p .plane-signs2 .last .1 .1 .1 .1 .0)
+upper-of p =
+    let l = at-loop p in
+    let a = start l in
+    plane-of (a .args .size) (a .args .samples .now) (a .args .cut) (l .loop .k + 1) _ _ (a .pre .0 .limits) (l .loop .inv .2) (p .plane-signs2 .ensures)
 
-inside : (d : tie.In-loop Inv-loop μ-loop) → d .before .loop .k + 1 < d .before .before .before .before .before .before .before .before .before .before .before .before .args .size .nz
-inside d = omega (arith, d .before .before .before .before .before .before .nz .ensures, d .loop-test .taken)
+inside : (d : tie.In-loop Inv-loop μ-loop) → d .before .loop .k + 1 < start (d .before) .args .size .nz
+inside d = omega (arith, sized (d .before) .nz .ensures, d .loop-test .taken)
 
 -- what a layer requires
-layer-ready : (p : tie.After-plane-signs2 Inv-loop μ-loop) → let a = p .before .before .before .before .before .before .before .before .before .before .before .before .before .before in
-    Ready (a .args .size) (a .args .samples .now) (a .args .cut) (p .before .before .before .before .before .before .before .before .before .masks .result) (p .before .before .before .loop .a) (p .plane-signs2 .last .1 .1 .1 .1 .0) (p .before .before .before .loop .k)
+layer-ready : (p : tie.After-plane-signs2 Inv-loop μ-loop) → let l = at-loop p in let a = start l in
+    Ready (a .args .size) (a .args .samples .now) (a .args .cut) (sized l .before .masks .result) (l .loop .a) (p .plane-signs2 .last .1 .1 .1 .1 .0) (l .loop .k)
 layer-ready p =
-    let a = p .before .before .before .before .before .before .before .before .before .before .before .before .before .before in
-    record { limits = a .pre .0 .limits; samples = a .pre .0 .count; masks = p .before .before .before .before .before .before .before .before .before .masks .ensures; lower = p .before .before .before .loop .inv .1; upper = upper-of p; inside = inside (p .before .before) }
+    let l = at-loop p in
+    let a = start l in
+    record {
+      limits = a .pre .0 .limits;
+      samples = a .pre .0 .count;
+      masks = sized l .before .masks .ensures;
+      lower = l .loop .inv .1;
+      upper = upper-of p;
+      inside = inside (p .before .before);
+    }
 
 add-t20 : tie.Need-add-t20 Inv-loop μ-loop
-add-t20 c = omega (arith, few (c .before .before .before .before .before .before .before .before .before .before))
+add-t20 c = omega (arith, few (entry (c .before .before .before .before)))
 
 loop-holds : tie.Need-loop-holds Inv-loop μ-loop
 loop-holds c =
-    let a = c .before .before .before .before .before .before .before .before .before .before in (
-      omega (arith, c .before .before .before .before .nz .ensures, a .pre .0 .limits .z-low),
+    let z = c .before .before .before .before in
+    let a = entry z in (
+      omega (arith, z .nz .ensures, a .pre .0 .limits .z-low),
       plane-of (a .args .size) (a .args .samples .now) (a .args .cut) 0 _ _ (a .pre .0 .limits) refl (c .before .before .plane-signs .ensures),
       refl,
       λ h. absurd (omega arith),
@@ -58,27 +86,34 @@ loop-holds c =
 
 write-layer-requires : tie.Need-write-layer-requires Inv-loop μ-loop
 write-layer-requires c κs =
-    let a = c .before .before .before .before .before .before .before .before .before .before .before .before .before .before .before .before .before .before .before .before .before in
-    let l = c .before .before .before .before .before .before .before .before .before .before .loop in (
-      layer-ready (c .before .before .before .before .before .before .before),
+    let p = c .before .before .before .before .before .before .before in
+    let l = at-loop p in
+    let a = start l in (
+      layer-ready p,
       a .pre .0,
-      l .inv .3,
-      record { w₀ = a .args .words .now; o₀ = a .args .offsets .now; q₀ = a .args .quads .now; room = a .pre .2; writing = l .inv .4 },
+      l .loop .inv .3,
+      record { w₀ = a .args .words .now; o₀ = a .args .offsets .now; q₀ = a .args .quads .now; room = a .pre .2; writing = l .loop .inv .4 },
     )
 
 add-k : tie.Need-add-k Inv-loop μ-loop
-add-k c = omega (arith, inside (c .before .before .before .before .before .before .before .before .before .before .before .before .before .before .before .before), c .before .before .before .before .before .before .before .before .before .before .before .before .before .before .before .before .before .before .before .before .before .before .before .before .before .before .before .before .pre .0 .limits .z-high)
+add-k c =
+    let p = planes-read (c .before .before .before .before .before .before) in
+    omega (arith, inside (p .before .before), start (at-loop p) .pre .0 .limits .z-high)
 
 loop-again : tie.Need-loop-again Inv-loop μ-loop
 loop-again c =
-    let a = c .before .before .before .before .before .before .before .before .before .before .before .before .before .before .before .before .before .before .before .before .before .before .before .before .before .before .before .before in
-    let h = c .before .before .before .before .before .before .before .before .before .before .before .before .before .before .before .before .before .loop in
-    let u = upper-of (c .before .before .before .before .before .before .before .before .before .before .before .before .before .before) in (
-      omega (arith, c .before .before .before .before .before .before .before .before .before .before .before .before .before .before .before .before .loop-test .taken),
+    let w = c .before .before .before .before .before .before in
+    let p = planes-read w in
+    let h = at-loop p .loop in
+    let a = start (at-loop p) in
+    let u = upper-of p in (
+      omega (arith, p .before .before .loop-test .taken),
       u,
       u .room,
-      λ t. first-is (a .args .size) (a .args .samples .now) (a .args .cut) (h .k) (h .inv .4) ∙ ap (layerFirst loopsOf (a .args .size) (a .args .samples .now) (a .args .cut)) (back (h .k)),
-      c .before .before .before .before .before .before .write-layer .ensures (a .args .words .now) (a .args .offsets .now) (a .args .quads .now) (a .pre .2) (h .inv .4),
+      λ t.
+          first-is (a .args .size) (a .args .samples .now) (a .args .cut) (h .k) (h .inv .4)
+          ∙ ap (layerFirst loopsOf (a .args .size) (a .args .samples .now) (a .args .cut)) (back (h .k)),
+      w .write-layer .ensures (a .args .words .now) (a .args .offsets .now) (a .args .quads .now) (a .pre .2) (h .inv .4),
     )
   where
     back : (k : ℕ) → k ≡ k + 1 - 1
@@ -95,8 +130,10 @@ same-length-3 c = quads-kept (c .before .loop .inv .4)
 
 returns : tie.Need-returns Inv-loop μ-loop
 returns c =
-    let a = c .before .before .before .before .before .before .before .before .before .before .before .before in
-    block-written (a .args .size) (a .args .samples .now) (a .args .cut) (c .before .loop .k) (c .before .loop .inv .4) (omega (arith, c .loop-test .left, c .before .loop .inv .0, c .before .before .before .before .before .before .nz .ensures)) (a .pre .2)
+    let l = c .before in
+    let a = start l in
+    block-written (a .args .size) (a .args .samples .now) (a .args .cut) (l .loop .k) (l .loop .inv .4)
+    (omega (arith, c .loop-test .left, l .loop .inv .0, sized l .nz .ensures)) (a .pre .2)
 
 pub write-block-spec : {M : Type 1} → statement M
 write-block-spec =

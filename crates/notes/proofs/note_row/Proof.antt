@@ -20,6 +20,16 @@ Inv-loop part from first c m numbers₀ v₀ numbers v =
 abbrev μ-loop : tie.MeasureT-loop
 μ-loop part from first c m numbers₀ v₀ numbers v = length part - v
 
+-- the places that the proof names: the entry, the turn's start, the vertex in the row
+abbrev start : tie.In-loop Inv-loop μ-loop → tie.Start Inv-loop μ-loop
+start d = d .before .before .before .before
+
+abbrev turn : tie.Else2 Inv-loop μ-loop → tie.In-loop Inv-loop μ-loop
+turn e = e .before .before .before .before
+
+abbrev in-row : tie.After-note-vertex Inv-loop μ-loop → tie.Else2 Inv-loop μ-loop
+in-row n = n .before .before
+
 loop-holds : tie.Need-loop-holds Inv-loop μ-loop
 loop-holds c = (omega arith, c .before .before .pre .0, refl, λ f r. passed-none f _ _ _ _, noted-none _ _ _ _ _ _)
 
@@ -53,28 +63,48 @@ same-length-2 c = c .before .before .before .before .before .loop .inv .2
 
 returns-2 : tie.Need-returns-2 Inv-loop μ-loop
 returns-2 c =
-    let h = c .before .before .before .before .before .loop .inv in (
-      λ f r. passed-end r (h .3 f r) (h .0) (in-part r (h .3 f r) (h .0) _ (c .before .before .wide .ensures) (c .before .before .before .before .loop-test .taken) (inr (omega (arith, c .if2 .taken, c .before .if1 .left)))),
-      noted-behind (h .4) (h .0) _ (c .before .before .wide .ensures) (omega (arith, c .if2 .taken, c .before .if1 .left)),
+    let d = c .before .before .before .before in
+    let b = c .before .before .wide in
+    let h = d .before .loop .inv in (
+      λ f r.
+          passed-end r (h .3 f r) (h .0)
+          (in-part r (h .3 f r) (h .0) _ (b .ensures) (d .loop-test .taken) (inr (omega (arith, c .if2 .taken, c .before .if1 .left)))),
+      noted-behind (h .4) (h .0) _ (b .ensures) (omega (arith, c .if2 .taken, c .before .if1 .left)),
     )
 
 note-vertex-requires : tie.Need-note-vertex-requires Inv-loop μ-loop
-note-vertex-requires c κs = (c .before .before .before .before .before .before .loop .inv .0, c .before .before .before .before .before .loop-test .taken, omega (arith, c .before .if2 .left, c .before .before .before .before .before .before .before .before .before .pre .1, c .before .before .before .before .before .before .before .before .before .pre .2, c .before .before .before .before .before .before .loop .inv .2), c .before .before .before .before .before .before .before .before .before .pre .3)
+note-vertex-requires c κs =
+    let e = c .before in
+    let d = turn e in
+    let h = d .before .loop .inv in
+    let s = start d in
+    (h .0, d .loop-test .taken, omega (arith, e .if2 .left, s .pre .1, s .pre .2, h .2), s .pre .3)
 
 add-v : tie.Need-add-v Inv-loop μ-loop
-add-v c = omega (arith, c .before .before .before .before .before .before .before .before .loop-test .taken, c .before .before .before .before .before .before .before .before .before .before .before .before .good)
+add-v c =
+    let d = turn (in-row (c .before .before)) in
+    omega (arith, d .loop-test .taken, start d .good)
 
 loop-less : tie.Need-loop-less Inv-loop μ-loop
-loop-less c = omega (arith, c .before .before .before .before .before .before .before .before .loop-test .taken)
+loop-less c = omega (arith, turn (in-row (c .before .before)) .loop-test .taken)
 
 loop-again : tie.Need-loop-again Inv-loop μ-loop
 loop-again c =
-    let h = c .before .before .before .before .before .before .before .before .before .loop in (
+    let n = c .before .before in
+    let e = in-row n in
+    let b = e .before .before .wide in
+    let d = turn e in
+    let h = d .before .loop in
+    let s = start d in
+    let a = s .args in (
       omega (arith, h .inv .0),
-      omega (arith, c .before .before .before .before .before .before .before .before .loop-test .taken),
-      (let a = c .before .before .before .before .before .before .before .before .before .before .before .before .args in kept-length (isFirst (a .part .now) (a .from) (h .v)) (h .numbers) _ (2 * (c .before .before .before .before .before .before .wide .result - a .c)) ((a .first + h .v) ∷ whichOf (fourFor (a .part .now) (h .v)) ∷ []) (c .before .before .note-vertex .ensures)) ∙ h .inv .2,
-      λ f r. passed-more r (h .inv .3 f r) (h .inv .0) _ (c .before .before .before .before .before .before .wide .ensures) (c .before .before .before .before .before .before .before .before .loop-test .taken) (omega (arith, c .before .before .before .before .before .if1 .left)) (omega (arith, c .before .before .before .before .if2 .left)) _ (h .inv .2 ∙ c .before .before .before .before .before .before .before .before .before .before .before .before .pre .2) (c .before .before .before .before .before .before .before .before .before .before .before .before .pre .1) (c .before .before .note-vertex .ensures),
-      noted-more (h .inv .4) (h .inv .0) _ (c .before .before .before .before .before .before .wide .ensures) (c .before .before .before .before .before .before .before .before .loop-test .taken) (omega (arith, c .before .before .before .before .before .if1 .left)) (omega (arith, c .before .before .before .before .if2 .left)) _ (c .before .before .note-vertex .ensures),
+      omega (arith, d .loop-test .taken),
+      kept-length (isFirst (a .part .now) (a .from) (h .v)) (h .numbers) _ (2 * (b .result - a .c)) ((a .first + h .v) ∷ whichOf (fourFor (a .part .now) (h .v)) ∷ []) (n .note-vertex .ensures)
+          ∙ h .inv .2,
+      λ f r.
+          passed-more r (h .inv .3 f r) (h .inv .0) _ (b .ensures) (d .loop-test .taken) (omega (arith, e .before .if1 .left)) (omega (arith, e .if2 .left)) _
+          (h .inv .2 ∙ s .pre .2) (s .pre .1) (n .note-vertex .ensures),
+      noted-more (h .inv .4) (h .inv .0) _ (b .ensures) (d .loop-test .taken) (omega (arith, e .before .if1 .left)) (omega (arith, e .if2 .left)) _ (n .note-vertex .ensures),
     )
 
 same-length-3 : tie.Need-same-length-3 Inv-loop μ-loop

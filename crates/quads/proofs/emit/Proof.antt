@@ -32,12 +32,21 @@ quadOf s i =
     let a = s .args in
     quadBy (a .order .e) (a .order .back) (a .order .sign) (now (a .n0)) (now (a .n1)) (now (a .n2)) (now (a .n3)) (a .run .up / 2 ^ i % 2) (a .run .x + i)
 
+-- the places that the proof names: the entry, the turn's start
+abbrev start : tie.In-loop Inv-loop μ-loop → tie.Start Inv-loop μ-loop
+start c = c .before .before .before .before .before .before .before
+
+abbrev turn : tie.After-put-edge Inv-loop μ-loop → tie.In-loop Inv-loop μ-loop
+turn e = e .before .before .before .before
+
 in-word : (c : tie.In-loop Inv-loop μ-loop) → c .before .loop .i + trailingZeros 64 (c .before .loop .w) < 64
 in-word c = visit-in _ (c .before .loop .inv .0) (c .loop-test .taken)
 
 -- there is room for one quad more
 room : (c : tie.In-loop Inv-loop μ-loop) → c .before .loop .p + 4 ≤ length (c .before .loop .quads)
-room c = let h = c .before .loop in emit-room _ (quadOf (c .before .before .before .before .before .before .before)) (h .inv .0) (h .inv .1) (c .loop-test .taken) (quad-four _ _ _ _ _ _ _ _ _) (c .before .before .before .before .before .before .before .pre .3)
+room c =
+    let h = c .before .loop in
+    emit-room _ (quadOf (start c)) (h .inv .0) (h .inv .1) (c .loop-test .taken) (quad-four _ _ _ _ _ _ _ _ _) (start c .pre .3)
 
 loop-holds : tie.Need-loop-holds Inv-loop μ-loop
 loop-holds c = let h : c .before .before .before .before .before .args .run .d < 2 ^ 64 = search needs in (visit-start _ h, words-none _ _ _)
@@ -52,36 +61,43 @@ shr-t18 : tie.Need-shr-t18 Inv-loop μ-loop
 shr-t18 c = in-word (c .before)
 
 add-t20 : tie.Need-add-t20 Inv-loop μ-loop
-add-t20 c = omega (arith, in-word (c .before .before), c .before .before .before .before .before .before .before .before .before .pre .1)
+add-t20 c = omega (arith, in-word (c .before .before), start (c .before .before) .pre .1)
 
 put-edge-requires : tie.Need-put-edge-requires Inv-loop μ-loop
 put-edge-requires c κs =
     let i = c .before .before .before in
-    (c .before .before .before .before .before .before .before .before .before .before .pre .0, c .before .before .before .before .before .before .before .before .before .before .pre .2 _ (in-word i) (visit-set _ (i .before .loop .inv .0) (i .loop-test .taken)), room i)
+    let r = start i .pre in
+    (r .0, r .2 _ (in-word i) (visit-set _ (i .before .loop .inv .0) (i .loop-test .taken)), room i)
 
 add-p : tie.Need-add-p Inv-loop μ-loop
-add-p c = omega (arith, room (c .before .before .before .before .before .before), put-length (c .before .before .before .before .before .before .before .loop .inv .1), c .before .before .before .before .before .before .before .before .before .before .before .before .before .good)
+add-p c =
+    let i = turn (c .before .before) in
+    omega (arith, room i, put-length (i .before .loop .inv .1), start i .good)
 
 shr-w : tie.Need-shr-w Inv-loop μ-loop
-shr-w c = omega (arith, in-word (c .before .before .before .before .before .before))
+shr-w c = omega (arith, in-word (turn (c .before .before)))
 
 add-i : tie.Need-add-i Inv-loop μ-loop
-add-i c = omega (arith, in-word (c .before .before .before .before .before .before))
+add-i c = omega (arith, in-word (turn (c .before .before)))
 
 loop-less : tie.Need-loop-less Inv-loop μ-loop
-loop-less c = omega (arith, in-word (c .before .before .before .before .before .before))
+loop-less c = omega (arith, in-word (turn (c .before .before)))
 
 loop-again : tie.Need-loop-again Inv-loop μ-loop
 loop-again c =
-    let h = c .before .before .before .before .before .before .before .loop in
-    let ne = c .before .before .before .before .before .before .loop-test .taken in
-    (left-next (h .inv .0) ne, emit-next _ (quadOf (c .before .before .before .before .before .before .before .before .before .before .before .before .before)) (h .inv .0) (h .inv .1) ne (quad-four _ _ _ _ _ _ _ _ _) _ (c .before .before .put-edge .ensures))
+    let e = c .before .before in
+    let i = turn e in
+    let h = i .before .loop in
+    let ne = i .loop-test .taken in
+    (left-next (h .inv .0) ne, emit-next _ (quadOf (start i)) (h .inv .0) (h .inv .1) ne (quad-four _ _ _ _ _ _ _ _ _) _ (e .put-edge .ensures))
 
 same-length : tie.Need-same-length Inv-loop μ-loop
 same-length c = put-length (c .before .loop .inv .1)
 
 returns : tie.Need-returns Inv-loop μ-loop
-returns c = emit-end _ (quadOf (c .before .before .before .before .before .before .before)) (c .before .loop .inv .0) (c .before .loop .inv .1) (c .loop-test .left)
+returns c =
+    let l = c .before in
+    emit-end _ (quadOf (l .before .before .before .before .before .before)) (l .loop .inv .0) (l .loop .inv .1) (c .loop-test .left)
 
 pub emit-spec : {M : Type 1} → statement M
 emit-spec =

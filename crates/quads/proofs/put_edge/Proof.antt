@@ -8,9 +8,14 @@ use Rattle.quads.proofs.put_edge.Tie as tie
 
 returns : tie.Need-returns
 returns c =
-    let a = c .before .before .before .before .before .before .before .before .before .before .before .before .before .before .before .before .before .args in
+    let p = c .before .before in
+    let n4 = p .before .before .before .before in
+    let n3 = n4 .before .before in
+    let n2 = n3 .before in
+    let n1 = n2 .before in
+    let a = n1 .before .before .before .before .before .before .before .args in
     edge-wrote (a .order .e) (a .order .back) (a .order .sign) (now (a .n0)) (now (a .n1)) (now (a .n2)) (now (a .n3)) (a .edge .up) (a .edge .x) (a .from) (now (a .quads))
-    (c .before .before .before .before .before .before .before .before .before .before .number .ensures) (c .before .before .before .before .before .before .before .before .before .number2 .ensures) (c .before .before .before .before .before .before .before .before .number3 .ensures) (c .before .before .before .before .before .before .number4 .ensures) (c .before .before .put-quad .ensures)
+    (n1 .number .ensures) (n2 .number2 .ensures) (n3 .number3 .ensures) (n4 .number4 .ensures) (p .put-quad .ensures)
 
 pub put-edge-spec : {M : Type 1} → statement M
 put-edge-spec =

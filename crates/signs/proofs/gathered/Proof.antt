@@ -18,20 +18,28 @@ Inv-loop bytes w v₀ k₀ v k = (k ≤ 8) × (v ≡ pack (λ (i : ℕ). getD by
 abbrev μ-loop : tie.MeasureT-loop
 μ-loop bytes w v₀ k₀ v k = 8 - k
 
+-- the entry
+abbrev start : tie.In-loop Inv-loop μ-loop → tie.Start Inv-loop μ-loop
+start d = d .before .before .before
+
 loop-holds : tie.Need-loop-holds Inv-loop μ-loop
 loop-holds c = (omega arith, sym (pack-none _))
 
 eight-bits-requires : tie.Need-eight-bits-requires Inv-loop μ-loop
 eight-bits-requires c κs =
-    let small = c .before .before .before .before .before .before .before .before .before .before .before .pre .2 in
+    let here = c .before .before .before .before .before .before .before .before in
+    let small = start here .pre .2 in
     (small _, small _, small _, small _, small _, small _, small _, small _)
 
 loop-again : tie.Need-loop-again Inv-loop μ-loop
 loop-again c =
-    let here = c .before .before .before .before .before .before .before .before .before in
+    let read = c .before in
+    let here = read .before .before .before .before .before .before .before .before in
     let h = here .before .loop in
-    let s = here .before .before .before in
-    (omega (arith, here .loop-test .taken), rw (h .inv .1) (eight-more (now (s .args .bytes)) (s .args .w) (h .k) (s .pre .2) (here .loop-test .taken) (c .eight-bits .result) (c .eight-bits .ensures)))
+    let s = start here in (
+      omega (arith, here .loop-test .taken),
+      rw (h .inv .1) (eight-more (now (s .args .bytes)) (s .args .w) (h .k) (s .pre .2) (here .loop-test .taken) (c .eight-bits .result) (c .eight-bits .ensures)),
+    )
 
 returns : tie.Need-returns Inv-loop μ-loop
 returns c =

@@ -22,17 +22,32 @@ Inv-loop samples cut k plane₀ nx ny j₀ plane j =
 abbrev μ-loop : tie.MeasureT-loop
 μ-loop samples cut k plane₀ nx ny j₀ plane j = ny - j
 
--- the row is inside the samples
-inside : (d : tie.In-loop Inv-loop μ-loop) → let a = d .before .before .before .before .before .before .args in d .before .before .before .nx .result * (d .before .loop .j + d .before .before .ny .result * a .k) + d .before .before .before .nx .result ≤ length (now (a .samples))
-inside d =
-    let s = d .before .before .before .before .before .before in
-    omega (arith, s .pre .1, rows-room (s .args .size) _ _ (s .args .k) (d .before .before .before .nx .ensures) (d .before .before .ny .ensures) (s .pre .2) (d .before .loop .j) (d .loop-test .taken))
+-- the places that the proof names: the entry, the axis lengths read, the turn's start
+abbrev start : tie.After-ny Inv-loop μ-loop → tie.Start Inv-loop μ-loop
+start y = y .before .before .before .before
 
-few : (d : tie.In-loop Inv-loop μ-loop) → (d .before .before .ny .result * d .before .before .before .before .before .before .args .k ≤ 65536) × (d .before .before .ny .result ≤ 256)
-few d = let s = d .before .before .before .before .before .before in (rows-small (s .args .size) _ (s .args .k) (d .before .before .ny .ensures) (s .pre .0) (s .pre .2), omega (arith, d .before .before .ny .ensures, s .pre .0 .y-high))
+abbrev sized : tie.In-loop Inv-loop μ-loop → tie.After-ny Inv-loop μ-loop
+sized d = d .before .before
+
+abbrev turn : tie.After-row-signs Inv-loop μ-loop → tie.In-loop Inv-loop μ-loop
+turn r = r .before .before .before
+
+-- the row is inside the samples
+inside : (d : tie.In-loop Inv-loop μ-loop) → let y = sized d in let nx = y .before .nx .result in let a = start y .args in
+    nx * (d .before .loop .j + y .ny .result * a .k) + nx ≤ length (now (a .samples))
+inside d =
+    let y = sized d in
+    let s = start y in
+    omega (arith, s .pre .1, rows-room (s .args .size) _ _ (s .args .k) (y .before .nx .ensures) (y .ny .ensures) (s .pre .2) (d .before .loop .j) (d .loop-test .taken))
+
+few : (d : tie.In-loop Inv-loop μ-loop) → let y = sized d in (y .ny .result * start y .args .k ≤ 65536) × (y .ny .result ≤ 256)
+few d =
+    let y = sized d in
+    let s = start y in
+    (rows-small (s .args .size) _ (s .args .k) (y .ny .ensures) (s .pre .0) (s .pre .2), omega (arith, y .ny .ensures, s .pre .0 .y-high))
 
 loop-holds : tie.Need-loop-holds Inv-loop μ-loop
-loop-holds c = (omega arith, c .before .before .before .before .pre .3, over-none _ _)
+loop-holds c = (omega arith, start c .pre .3, over-none _ _)
 
 mul-p : tie.Need-mul-p Inv-loop μ-loop
 mul-p c = omega (arith, few c)
@@ -41,13 +56,13 @@ add-p : tie.Need-add-p Inv-loop μ-loop
 add-p c = omega (arith, few c, c .loop-test .taken)
 
 mul-p-2 : tie.Need-mul-p-2 Inv-loop μ-loop
-mul-p-2 c = omega (arith, inside c, c .before .before .before .before .before .before .good)
+mul-p-2 c = omega (arith, inside c, start (sized c) .good)
 
 add-row-signs : tie.Need-add-row-signs Inv-loop μ-loop
-add-row-signs c = omega (arith, inside c, c .before .before .before .before .before .before .good)
+add-row-signs c = omega (arith, inside c, start (sized c) .good)
 
 mul-row-signs : tie.Need-mul-row-signs Inv-loop μ-loop
-mul-row-signs c = omega (arith, inside c, c .before .before .before .before .before .before .good)
+mul-row-signs c = omega (arith, inside c, start (sized c) .good)
 
 sub-row-signs : tie.Need-sub-row-signs Inv-loop μ-loop
 sub-row-signs c = omega arith
@@ -61,34 +76,44 @@ part-row-signs-end c = inside c
 row-signs-requires : tie.Need-row-signs-requires Inv-loop μ-loop
 row-signs-requires c κs =
     let d = c .before .before in
-    let s = d .before .before .before .before .before .before in
-    (row-short (now (s .args .samples)) (s .args .cut) (d .before .before .before .nx .result) (d .before .before .ny .result) (d .before .loop .j) (s .args .k) (inside d) (omega (arith, d .before .before .before .nx .ensures, s .pre .0 .x-high)), omega (arith, few d, d .loop-test .taken, d .before .loop .inv .1))
+    let y = sized d in
+    let s = start y in (
+      row-short (now (s .args .samples)) (s .args .cut) (y .before .nx .result) (y .ny .result) (d .before .loop .j) (s .args .k) (inside d) (omega (arith, y .before .nx .ensures, s .pre .0 .x-high)),
+      omega (arith, few d, d .loop-test .taken, d .before .loop .inv .1),
+    )
 
 add-j : tie.Need-add-j Inv-loop μ-loop
-add-j c = omega (arith, few (c .before .before .before .before .before), c .before .before .before .before .before .loop-test .taken)
+add-j c =
+    let d = turn (c .before .before) in
+    omega (arith, few d, d .loop-test .taken)
 
 loop-less : tie.Need-loop-less Inv-loop μ-loop
-loop-less c = omega (arith, c .before .before .before .before .before .loop-test .taken)
+loop-less c = omega (arith, turn (c .before .before) .loop-test .taken)
 
 loop-again : tie.Need-loop-again Inv-loop μ-loop
 loop-again c =
-    let s = c .before .before .before .before .before .before .before .before .before .before .before in
-    let h = c .before .before .before .before .before .before .loop in (
-      omega (arith, c .before .before .before .before .before .loop-test .taken),
-      c .before .before .row-signs .kept .1 .1 .0 ∙ h .inv .1,
-      row-stored (now (s .args .samples)) (s .args .cut) (c .before .before .before .before .before .before .before .before .nx .result) (c .before .before .before .before .before .before .before .ny .result) (h .j) (s .args .k) (inside (c .before .before .before .before .before)) _ _ _ (h .inv .2) (c .before .before .row-signs .ensures) (omega (arith, few (c .before .before .before .before .before), c .before .before .before .before .before .loop-test .taken, s .pre .3)),
+    let r = c .before .before in
+    let d = turn r in
+    let h = d .before .loop in
+    let y = sized d in
+    let s = start y in (
+      omega (arith, d .loop-test .taken),
+      r .row-signs .kept .1 .1 .0 ∙ h .inv .1,
+      row-stored (now (s .args .samples)) (s .args .cut) (y .before .nx .result) (y .ny .result) (h .j) (s .args .k) (inside d) _ _ _ (h .inv .2) (r .row-signs .ensures)
+          (omega (arith, few d, d .loop-test .taken, s .pre .3)),
     )
 
 same-length : tie.Need-same-length Inv-loop μ-loop
-same-length c = omega (arith, c .before .loop .inv .1, c .before .before .before .before .before .before .pre .3)
+same-length c = omega (arith, c .before .loop .inv .1, start (c .before .before) .pre .3)
 
 returns : tie.Need-returns Inv-loop μ-loop
 returns c =
     let h = c .before .loop in
-    let s = c .before .before .before .before .before .before in
+    let y = c .before .before in
+    let s = start y in
     h .inv .2
     ∙ ap (λ (ws : List ℕ). over ws (now (s .args .plane)))
-    (plane-made (s .args .size) (now (s .args .samples)) (s .args .cut) (s .args .k) _ _ (5 * h .j) (c .before .before .before .nx .ensures) (c .before .before .ny .ensures) (omega (arith, c .loop-test .left, h .inv .0)))
+    (plane-made (s .args .size) (now (s .args .samples)) (s .args .cut) (s .args .k) _ _ (5 * h .j) (y .before .nx .ensures) (y .ny .ensures) (omega (arith, c .loop-test .left, h .inv .0)))
 
 pub plane-signs-spec : {M : Type 1} → statement M
 plane-signs-spec =

@@ -31,11 +31,16 @@ gathered-requires-4 c κs = (search needs, search needs, small (c .before .befor
 
 returns : tie.Need-returns
 returns c =
-    let s = c .before .before .before .before .before .before .before .before .before .before .before .before .before .before .before in
-    let p = c .before .before .before .before .before .before .before .before .before .before .before .before in
-    c .before .before .put-five .ensures
+    let put = c .before .before in
+    let g4 = put .before .before in
+    let g3 = g4 .before .before in
+    let g2 = g3 .before .before in
+    let g1 = g2 .before .before in
+    let b = g1 .before .before in
+    let s = b .before .before .before in
+    put .put-five .ensures
     ∙ ap (sets (now (s .args .plane)) (5 * s .args .j))
-    (five-words (now (s .args .row)) (s .args .cut) (p .row-bytes .result) _ _ _ _ (s .pre .0) (p .row-bytes .ensures) (c .before .before .before .before .before .before .before .before .before .before .gathered .ensures) (c .before .before .before .before .before .before .before .before .gathered2 .ensures) (c .before .before .before .before .before .before .gathered3 .ensures) (c .before .before .before .before .gathered4 .ensures))
+    (five-words (now (s .args .row)) (s .args .cut) (b .row-bytes .result) _ _ _ _ (s .pre .0) (b .row-bytes .ensures) (g1 .gathered .ensures) (g2 .gathered2 .ensures) (g3 .gathered3 .ensures) (g4 .gathered4 .ensures))
 
 pub row-signs-spec : {M : Type 1} → statement M
 row-signs-spec =
