@@ -15,6 +15,13 @@ Inv-loop words₀ offsets₀ v c n four places i₀ words offsets i = (i ≤ n) 
 abbrev μ-loop : tie.MeasureT-loop
 μ-loop words₀ offsets₀ v c n four places i₀ words offsets i = n - i
 
+-- the places that the proof names: the entry, the loop's head
+abbrev start : tie.At-loop Inv-loop μ-loop → tie.Start Inv-loop μ-loop
+start l = l .before .before .before
+
+abbrev at-loop : tie.After-put-vertex Inv-loop μ-loop → tie.At-loop Inv-loop μ-loop
+at-loop p = p .before .before .before .before .before
+
 loop-holds : tie.Need-loop-holds Inv-loop μ-loop
 loop-holds c = (omega arith, record { words-are = refl; offsets-are = refl })
 
@@ -25,9 +32,10 @@ put-vertex-requires c κs =
 
 loop-again : tie.Need-loop-again Inv-loop μ-loop
 loop-again c =
-    let h = c .before .before .before .before .before .before .before .before .before .loop in
-    let s = c .before .before .before .before .before .before .before .before .before .before .before .before in
-    let p = c .before .before .before .before .put-vertex in
+    let w = c .before .before .before .before in
+    let h = at-loop w .loop in
+    let s = start (at-loop w) in
+    let p = w .put-vertex in
     let four : h .i < length (s .args .t6) = search needs in
     let places : h .i < length (s .args .t7) = search needs in
     (omega arith, put-more (h .inv .1) _ _ 0 _ four places (p .ensures .0) (p .ensures .1))
@@ -40,7 +48,7 @@ same-length-2 c = put-offsets (c .before .loop .inv .1)
 
 returns : tie.Need-returns Inv-loop μ-loop
 returns c =
-    let s = c .before .before .before .before in
+    let s = start (c .before) in
     let h = c .before .loop in
     let e : h .i ≡ s .args .n = omega arith in
     (rw (← e) (h .inv .1 .words-are), rw (← e) (h .inv .1 .offsets-are))

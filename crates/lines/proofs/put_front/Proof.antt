@@ -18,9 +18,13 @@ cast-q c = search needs
 mul-put-mesh : tie.Need-mul-put-mesh
 mul-put-mesh c = search needs
 
+-- the entry, from where the parts are lent
+abbrev start : tie.After-put-mesh-arg2 → tie.Start
+start c = c .before .before .before .before .before .before .before .before
+
 slice-aggregate-put-mesh : tie.Need-slice-aggregate-put-mesh
 slice-aggregate-put-mesh c =
-    let entry = c .before .before .before .before .before .before .before .before in
+    let entry = start c in
     sym (length-take-le _ (entry .args .words .now) (entry .pre .1 .0 .0))
 
 mul-put-mesh-2 : tie.Need-mul-put-mesh-2
@@ -28,7 +32,7 @@ mul-put-mesh-2 c = search needs
 
 slice-aggregate-put-mesh-2 : tie.Need-slice-aggregate-put-mesh-2
 slice-aggregate-put-mesh-2 c =
-    let entry = c .before .before .before .before .before .before .before .before .before in
+    let entry = start (c .before) in
     sym (length-take-le _ (entry .args .offsets .now) (entry .pre .1 .0 .1))
 
 mul-put-mesh-3 : tie.Need-mul-put-mesh-3
@@ -36,12 +40,12 @@ mul-put-mesh-3 c = search needs
 
 slice-aggregate-put-mesh-3 : tie.Need-slice-aggregate-put-mesh-3
 slice-aggregate-put-mesh-3 c =
-    let entry = c .before .before .before .before .before .before .before .before .before .before in
+    let entry = start (c .before .before) in
     sym (length-take-le _ (entry .args .quads .now) (entry .pre .1 .0 .2))
 
 put-mesh-requires : tie.Need-put-mesh-requires
 put-mesh-requires c κs =
-    let entry = c .before .before .before .before .before .before .before .before .before .before in
+    let entry = start (c .before .before) in
     let p = entry .pre in
     let a = entry .args in (
       p .0,

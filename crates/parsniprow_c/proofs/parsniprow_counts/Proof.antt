@@ -30,12 +30,14 @@ same-length c = search needs
 
 returns : tie.Need-returns
 returns c =
-    let s = c .before .before .before .before .before .before .before .before .before .args in
-    let asked = c .before .before .before .before .before .before .counts in
+    let answer-put = c .before .before in
+    let answer-made = answer-put .before .before .before in
+    let asked = answer-made .before in
+    let a = asked .before .before .before .args in
     record {
-      answer = asked .result;
-      answered = asked .ensures;
-      is-told = c .before .before .put .ensures ∙ ap (λ (v : List ℕ). tellOver v (s .answer .now)) (c .before .before .before .before .before .tell-counts .ensures);
+      answer = asked .counts .result;
+      answered = asked .counts .ensures;
+      is-told = answer-put .put .ensures ∙ ap (λ (v : List ℕ). tellOver v (a .answer .now)) (answer-made .tell-counts .ensures);
     }
 
 pub parsniprow-counts-spec : {M : Type 1} → statement M

@@ -54,14 +54,19 @@ same-length-3 c = search needs
 
 returns : tie.Need-returns
 returns c =
-    let s = c .before .before .before .before .before .before .before .before .before .before .before .before .before .before .before .before .before .before .before .before .before .before .before .args in
-    let asked = c .before .before .before .before .before .before .before .before .before .before .before .before .before .before .before .before .before .before .before .cube in
+    let answer-put = c .before .before in
+    let answer-made = answer-put .before .before .before in
+    let places-put = answer-made .before .before .before in
+    let places-made = places-put .before .before .before in
+    let words-put = places-made .before .before .before .before in
+    let asked = words-put .before .before .before .before in
+    let a = asked .before .before .before .before .args in
     record {
-      answer = asked .result;
-      answered = asked .ensures;
-      words-told = c .before .before .before .before .before .before .before .before .before .before .before .before .before .before .before .put .ensures;
-      offsets-told = c .before .before .before .before .before .before .before .before .put-places .ensures ∙ ap (λ (v : List Float). tellOver v (s .offsets .now)) (c .before .before .before .before .before .before .before .before .before .before .before .tell-offsets .ensures);
-      is-told = c .before .before .put2 .ensures ∙ ap (λ (v : List ℕ). tellOver v (s .answer .now)) (c .before .before .before .before .before .tell-cube .ensures);
+      answer = asked .cube .result;
+      answered = asked .cube .ensures;
+      words-told = words-put .put .ensures;
+      offsets-told = places-put .put-places .ensures ∙ ap (λ (v : List Float). tellOver v (a .offsets .now)) (places-made .tell-offsets .ensures);
+      is-told = answer-put .put2 .ensures ∙ ap (λ (v : List ℕ). tellOver v (a .answer .now)) (answer-made .tell-cube .ensures);
     }
 
 pub parsniprow-cube-spec : {M : Type 1} → statement M

@@ -45,13 +45,17 @@ same-length-2 c = search needs
 
 returns : tie.Need-returns
 returns c =
-    let s = c .before .before .before .before .before .before .before .before .before .before .before .before .before .before .before .args in
-    let asked = c .before .before .before .before .before .before .before .before .before .before .before .before .edge in
+    let answer-put = c .before .before in
+    let answer-made = answer-put .before .before .before in
+    let fraction-put = answer-made .before .before .before in
+    let fraction-made = fraction-put .before .before .before in
+    let asked = fraction-made .before in
+    let a = asked .before .before .before .args in
     record {
-      answer = asked .result;
-      answered = asked .ensures;
-      fraction-told = c .before .before .before .before .before .before .before .before .put-places .ensures ∙ ap (λ (v : List Float). tellOver v (s .fraction .now)) (c .before .before .before .before .before .before .before .before .before .before .before .tell-fraction .ensures);
-      is-told = c .before .before .put .ensures ∙ ap (λ (v : List ℕ). tellOver v (s .answer .now)) (c .before .before .before .before .before .tell-edge .ensures);
+      answer = asked .edge .result;
+      answered = asked .edge .ensures;
+      fraction-told = fraction-put .put-places .ensures ∙ ap (λ (v : List Float). tellOver v (a .fraction .now)) (fraction-made .tell-fraction .ensures);
+      is-told = answer-put .put .ensures ∙ ap (λ (v : List ℕ). tellOver v (a .answer .now)) (answer-made .tell-edge .ensures);
     }
 
 pub parsniprow-edge-spec : {M : Type 1} → statement M

@@ -37,14 +37,20 @@ same-length-3 c = search needs
 same-length-4 : tie.Need-same-length-4
 same-length-4 c = search needs
 
+-- the entry
+abbrev start : tie.After-mesh → tie.Start
+start m = m .before .before .before .before .before .before .before .before .before
+
 returns : tie.Need-returns
 returns c =
-    let s = c .before .before .before .before .before .before .before .before .before .before .before .before .before .before .before .before .before .before .before .before .before .args in
-    let asked = c .before .before .before .before .before .before .before .before .before .before .before .before .mesh in
+    let answer-put = c .before .before in
+    let answer-made = answer-put .before .before .before in
+    let asked = answer-made .before .before .before .before .before .before .before in
+    let a = start asked .args in
     record {
-      answer = asked .result;
-      meshed = asked .ensures;
-      is-told = c .before .before .put .ensures ∙ ap (λ (v : List ℕ). tellOver v (s .answer .now)) (c .before .before .before .before .before .tell-counts .ensures);
+      answer = asked .mesh .result;
+      meshed = asked .mesh .ensures;
+      is-told = answer-put .put .ensures ∙ ap (λ (v : List ℕ). tellOver v (a .answer .now)) (answer-made .tell-counts .ensures);
     }
 
 pub parsniprow-mesh-spec : {M : Type 1} → statement M
