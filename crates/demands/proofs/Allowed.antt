@@ -1,6 +1,7 @@
 -- There is an answer: for every input the promise of each entry point allows one, with its buffers. With the theorems that a promise fixes its answer,
 -- there is exactly one. So there is a call of `mesh` wherever its checks pass.
-use Prim.Native.Nat.{ℕ}
+use Prim.Native.Nat.{ℕ, _≤_}
+use native.Mathlib.Omega.{arith}
 use mathlib.Core.Path.{_≡_, refl, sym}
 use mathlib.Core.Bool.{Bool, true, false, cond}
 use mathlib.Core.List.{List, [], _∷_, map}
@@ -8,13 +9,18 @@ use lib.Ieee.{Float}
 use lib.ListN.{length}
 use Rattle.laws.specs.Below.{over}
 use Rattle.laws.specs.Filled.{filled}
+use Rattle.laws.proofs.Over.{over-length}
 use Rattle.block.specs.declared.Cut.{Cut}
 use Rattle.block.specs.declared.Refusal.{Refusal}
+use Rattle.block.specs.declared.Sized.{Sized}
+use Rattle.block.specs.declared.Sized.the-variants as sized
 use Rattle.block.specs.declared.Checked.{Checked}
 use Rattle.block.specs.declared.Checked.the-variants.{Passes, Refuses}
 use Rattle.block.specs.Answer.{Answer, accepted, refused, decided, inOrder, judged}
 use Rattle.block.specs.Grey.{cutOf, apart}
-use Rattle.block.specs.Rows.{sampleRows}
+use Rattle.block.specs.Rows.{outOfLimits, sampleRows}
+use Rattle.block.specs.Size.{SizeMade}
+use Rattle.block.proofs.Sizes.{first-bad, second-bad, third-bad, none-bad}
 use Rattle.block.proofs.Order.{accepted-exactly}
 use Rattle.cube_rule.specs.Decider.{loopsOf}
 use Rattle.place.specs.declared.Crossing.{Crossing}
@@ -25,7 +31,7 @@ use Rattle.cell.specs.declared.CubeAnswer.{CubeAnswer}
 use Rattle.cell.specs.declared.Found.{Found}
 use Rattle.cell.specs.declared.Found.the-variants as found-is
 use Rattle.cell.specs.Answer.{wordOf, origin, cubeVerdict, saidCube, loopsAnswered, CubeAnswered}
-use Rattle.mesh_rule.specs.Buffers.{meshWords, meshOffsets, meshQuads}
+use Rattle.mesh_rule.specs.Buffers.{triples, meshWords, meshOffsets, meshQuads}
 use Rattle.mesh.specs.declared.Totals.{Totals}
 use Rattle.mesh.specs.declared.Counted.{Counted}
 use Rattle.mesh.specs.declared.Counted.the-variants as counted
@@ -34,7 +40,20 @@ use Rattle.closed.specs.declared.Closure.{Closure}
 use Rattle.closed.specs.declared.Closure.the-variants as closure-is
 use Rattle.closed.specs.Closed.{Finding, allSound, openAt, findingOf, lengthRow, saidClosure, ClosedAnswered}
 use Rattle.lines.specs.Output.{outputOf, Ran}
+use Rattle.lines.proofs.Outputs.{output-fits}
+use Rattle.parsniprow_c.specs.Told.{tellOver, toldEdge, toldFraction, toldCube, toldCounts, toldClosed, EdgeTold, CubeTold, CountsTold, MeshTold, ClosedTold}
 use Rattle.demands.specs.Answers.{MeshCall}
+
+-- ---- the size: a refusal is row 1's, so it has the number that is told
+
+pub size-allows : (nx ny nz : ℕ) → (r : Sized) × SizeMade nx ny nz r
+size-allows nx ny nz = go (outOfLimits nx) (outOfLimits ny) (outOfLimits nz) refl refl refl
+  where
+    go : (a b c : Bool) → outOfLimits nx ≡ a → outOfLimits ny ≡ b → outOfLimits nz ≡ c → (r : Sized) × SizeMade nx ny nz r
+    go true b c x y z = (sized.BadAxis 0, first-bad nx ny nz x)
+    go false true c x y z = (sized.BadAxis 1, second-bad nx ny nz x y)
+    go false false true x y z = (sized.BadAxis 2, third-bad nx ny nz x y z)
+    go false false false x y z = (sized.Made (sizeOf nx ny nz), none-bad nx ny nz x y z)
 
 -- ---- the edge question: no crossing or one, so not every list of fractions is told
 
@@ -85,20 +104,26 @@ module _ (nx ny nz : ℕ) (s : List ℕ) (cut : Cut) (w : List ℕ) (o : List Fl
     record { answer = answered .1; words = refl; offsets = refl; quads = refl },
   )
 
-  -- where no row holds, there is a call that answers the counts
-  pub mesh-call : meshVerdict nx ny nz s cut (length w) (length o) (length q) ≡ Passes → MeshCall nx ny nz s cut
-  mesh-call e = record {
-    words = w;
-    offsets = o;
-    quads = q;
-    answer = answered .0;
-    words-after = written verdict (meshWords loopsOf (sizeOf nx ny nz) s cut) w;
-    offsets-after = written verdict (meshOffsets loopsOf (sizeOf nx ny nz) s cut) o;
-    quads-after = written verdict (meshQuads loopsOf (sizeOf nx ny nz) s cut) q;
-    promise = record { answer = answered .1; words = refl; offsets = refl; quads = refl };
-    counts = countsOf (sizeOf nx ny nz) s cut;
-    accepts = accepted-exactly verdict (countsOf (sizeOf nx ny nz) s cut) _ (answered .1) (countsOf (sizeOf nx ny nz) s cut) .1 (e, refl);
-  }
+  -- where no row holds, there is a call with these buffers that answers the counts
+  pub mesh-call : meshVerdict nx ny nz s cut (length w) (length o) (length q) ≡ Passes
+      → (a : MeshCall nx ny nz s cut) × (a .words ≡ w) × (a .offsets ≡ o) × (a .quads ≡ q)
+  mesh-call e = (
+    record {
+      words = w;
+      offsets = o;
+      quads = q;
+      answer = answered .0;
+      words-after = written verdict (meshWords loopsOf (sizeOf nx ny nz) s cut) w;
+      offsets-after = written verdict (meshOffsets loopsOf (sizeOf nx ny nz) s cut) o;
+      quads-after = written verdict (meshQuads loopsOf (sizeOf nx ny nz) s cut) q;
+      promise = record { answer = answered .1; words = refl; offsets = refl; quads = refl };
+      counts = countsOf (sizeOf nx ny nz) s cut;
+      accepts = accepted-exactly verdict (countsOf (sizeOf nx ny nz) s cut) _ (answered .1) (countsOf (sizeOf nx ny nz) s cut) .1 (e, refl);
+    },
+    refl,
+    refl,
+    refl,
+  )
 
 -- ---- the closed question
 
@@ -110,7 +135,39 @@ closed-allows quads = go (judged (inOrder (lengthRow quads ∷ [])) (findingOf q
     go (accepted (openAt q s)) = (closure-is.Open q s, refl)
     go (refused x) = (closure-is.Refused x, refl)
 
--- ---- the program
+-- ---- the program: its buffer has room for every output, and keeps its length
 
-pub run-allows : (bytes out : List ℕ) → (r : ℕ) × (out′ : List ℕ) × Ran bytes out r out′
-run-allows bytes out = (length (outputOf bytes), over (outputOf bytes) out, record { count = refl; text = refl })
+pub run-allows : (bytes out : List ℕ) → 112917 ≤ length out → (r : ℕ) × (out′ : List ℕ) × Ran bytes out r out′ × (length out′ ≡ length out)
+run-allows bytes out room =
+    (length (outputOf bytes), over (outputOf bytes) out, record { count = refl; text = refl }, over-length (outputOf bytes) out (omega (arith, room, output-fits bytes)))
+
+-- ---- the functions for C: what the library allows, told
+
+pub edge-told-allows : (p q t : ℕ) (fraction : List Float) (place : List ℕ) → (fraction′ : List Float) × (place′ : List ℕ) × EdgeTold p q t fraction place fraction′ place′
+edge-told-allows p q t fraction place =
+    let r = edge-allows p q t in
+    (tellOver (toldFraction (saidEdge (r .0))) fraction, tellOver (toldEdge (saidEdge (r .0))) place, record { answer = r .0; answered = r .1; fraction-told = refl; is-told = refl })
+
+pub cube-told-allows : (corners : List ℕ) (t : ℕ) (words : List ℕ) (offsets : List Float) (place : List ℕ)
+    → (words′ : List ℕ) × (offsets′ : List Float) × (place′ : List ℕ) × CubeTold corners t words offsets place words′ offsets′ place′
+cube-told-allows corners t words offsets place =
+    let r = cube-allows corners (cutOf t) in (
+      tellOver (r .0 .words) words,
+      tellOver (triples (r .0 .offsets)) offsets,
+      tellOver (toldCube (saidCube (r .0 .found))) place,
+      record { answer = r .0; answered = r .1; words-told = refl; offsets-told = refl; is-told = refl },
+    )
+
+pub counts-told-allows : (nx ny nz : ℕ) (s : List ℕ) (t : ℕ) (place : List ℕ) → (place′ : List ℕ) × CountsTold nx ny nz s t place place′
+counts-told-allows nx ny nz s t place =
+    let r = counts-allows nx ny nz s (cutOf t) in (tellOver (toldCounts (saidCounts (r .0))) place, record { answer = r .0; answered = r .1; is-told = refl })
+
+pub mesh-told-allows : (nx ny nz : ℕ) (s : List ℕ) (t : ℕ) (w : List ℕ) (o : List Float) (q place : List ℕ)
+    → (w′ : List ℕ) × (o′ : List Float) × (q′ : List ℕ) × (place′ : List ℕ) × MeshTold nx ny nz s t w o q place w′ o′ q′ place′
+mesh-told-allows nx ny nz s t w o q place =
+    let r = mesh-allows nx ny nz s (cutOf t) w o q in
+    (r .1, r .2, r .3, tellOver (toldCounts (saidCounts (r .0))) place, record { answer = r .0; meshed = r .4; is-told = refl })
+
+pub closed-told-allows : (quads place : List ℕ) → (place′ : List ℕ) × ClosedTold quads place place′
+closed-told-allows quads place =
+    let r = closed-allows quads in (tellOver (toldClosed (saidClosure (r .0))) place, record { answer = r .0; answered = r .1; is-told = refl })

@@ -141,22 +141,28 @@ module _ (nx ny nz : ℕ) (s : List ℕ) (cut : Cut) (passes : countsVerdict nx 
       ∙ rw (zeros-fit (4 * q))
 
   pub call-of : MeshCall nx ny nz s cut
-  call-of = mesh-call nx ny nz s cut (zeros (2 * v)) (places (3 * v)) (zeros (4 * q)) roomy
+  call-of = mesh-call nx ny nz s cut (zeros (2 * v)) (places (3 * v)) (zeros (4 * q)) roomy .0
 
--- so no counts serve all blocks of a size
-pub no-mesh-for-all : (nx ny nz : ℕ) → Limits (sizeOf nx ny nz) → (c : Totals) → ((s : List ℕ) (cut : Cut) (a : MeshCall nx ny nz s cut) → a .counts ≡ c) → ⊥
-no-mesh-for-all nx ny nz l c one =
+-- no two calls on them have the same counts
+pub one-count-falls : (nx ny nz : ℕ) → Limits (sizeOf nx ny nz) → (a : MeshCall nx ny nz (hollow (sizeOf nx ny nz)) (cutOf 100))
+    (b : MeshCall nx ny nz (board (sizeOf nx ny nz)) (cutOf 100)) → a .counts ≡ b .counts → ⊥
+one-count-falls nx ny nz l a b same =
     some (cubeCount (sizeOf nx ny nz)) cubes
-    (sym (hollow-vertices (sizeOf nx ny nz)) ∙ sym (count-of (hollow (sizeOf nx ny nz)) (hollow-accepted nx ny nz l))
-    ∙ count-of (board (sizeOf nx ny nz)) (checkerboard-accepted nx ny nz l) ∙ board-vertices (sizeOf nx ny nz))
+    (sym (hollow-vertices (sizeOf nx ny nz)) ∙ sym (mesh-given a .vertex-count) ∙ ap (λ (x : Totals). x .vertices) same ∙ mesh-given b .vertex-count
+    ∙ board-vertices (sizeOf nx ny nz))
   where
-    count-of : (s : List ℕ) → countsVerdict nx ny nz s (cutOf 100) ≡ Passes → c .vertices ≡ vertexCount (sizeOf nx ny nz) s (cutOf 100)
-    count-of s e =
-        let a = call-of nx ny nz s (cutOf 100) e in
-        ap (λ (x : Totals). x .vertices) (sym (one s (cutOf 100) a)) ∙ mesh-given a .vertex-count
-
     some : (k : ℕ) → 0 < k → 0 ≡ 4 * k → ⊥
     some k h e = omega arith
 
     cubes : 0 < cubeCount (sizeOf nx ny nz)
     cubes = mul-pos (omega (arith, l .x-low)) (mul-pos (omega (arith, l .y-low)) (omega (arith, l .z-low)))
+
+-- so a version that calls for every accepted block of a size does not answer the same counts for all; that there is such a version is `call-of`
+pub no-mesh-for-all : (nx ny nz : ℕ) → Limits (sizeOf nx ny nz) → (c : Totals)
+    → (call : (s : List ℕ) (cut : Cut) → countsVerdict nx ny nz s cut ≡ Passes → MeshCall nx ny nz s cut)
+    → ((s : List ℕ) (cut : Cut) (e : countsVerdict nx ny nz s cut ≡ Passes) → call s cut e .counts ≡ c) → ⊥
+no-mesh-for-all nx ny nz l c call one =
+    let h = hollow-accepted nx ny nz l in
+    let b = checkerboard-accepted nx ny nz l in
+    one-count-falls nx ny nz l (call (hollow (sizeOf nx ny nz)) (cutOf 100) h) (call (board (sizeOf nx ny nz)) (cutOf 100) b)
+    (one (hollow (sizeOf nx ny nz)) (cutOf 100) h ∙ sym (one (board (sizeOf nx ny nz)) (cutOf 100) b))

@@ -4,7 +4,7 @@ use Prim.Native.Nat.{ℕ, zero, suc, _*_, _%_, _≤_, _<_}
 use mathlib.Core.Path.{_≡_, refl, sym, ap, _∙_}
 use mathlib.Core.Bool.{Bool, true, false, cond, _&&_}
 use mathlib.Core.Logic.{_⊎_, inl, inr, ⊎-elim}
-use mathlib.Core.List.{List, [], _∷_}
+use mathlib.Core.List.{List, [], _∷_, _++_}
 use native.Mathlib.Omega.{arith}
 use lib.Dec.{eqb, leb}
 use lib.ListN.{length, getD}
@@ -131,30 +131,56 @@ edge-values p q t =
 given-le : (x : Refusal) {n : ℕ} (v : ℕ) → x ≡ record { number = n; value = given v } → x .value ≤ v
 given-le x v e = omega (arith, ap (λ (r : Refusal). r .value) e)
 
--- Where the axes are accepted, every value that counting and meshing give is at most 66,325,500, so none of them is ever cut to 4,294,967,295.
-pub values-uncut : (nx ny nz : ℕ) (s : List ℕ) (cut : Cut) (words offsets room : ℕ) (x : Refusal) → cut .t < 65536 → axisRow nx ny nz ≡ Passes
-    → meshVerdict nx ny nz s cut words offsets room ≡ Refuses x → x .value ≤ 66325500
-values-uncut nx ny nz s cut words offsets room x grey axes e =
-    ⊎-elim (λ h. absurd (passes-refuses (sym axes ∙ h))) (λ h₁.
-    ⊎-elim (λ h. omega (arith, samples, given-le x (sampleCount n) (holds-unless (eqb (length s) (sampleCount n)) 2 (sampleCount n) x h))) (λ h₂.
-    ⊎-elim (λ h. omega (arith, grey, given-le x (cut .t) (holds-where (noThreshold cut) 3 (cut .t) x h))) (λ h₃.
-    ⊎-elim (λ h. index (lowest-refusal 4 isCeiling s x h) (count-passed n (length s) (h₂ .0))) (λ h₄.
-    ⊎-elim (λ h. omega (arith, most-vertices loopsOf n s cut (cube-laws joined) limits, given-le x (vertexCount n s cut) (holds-unless (leb (2 * vertexCount n s cut) words && leb (3 * vertexCount n s cut) offsets) 5 (vertexCount n s cut) x h))) (λ h₅.
-    omega (arith, most-quads loopsOf n s cut limits, given-le x (quadCount n s cut) (holds-unless (leb (4 * quadCount n s cut) room) 6 (quadCount n s cut) x (sym (order-last (quadRow (quadCount n s cut) room)) ∙ h₅ .1))))
-    (order-splits (vertexRow (vertexCount n s cut) words offsets) _ x (h₄ .1)))
-    (order-splits (ceilingRow s) _ x (h₃ .1)))
-    (order-splits (thresholdRow cut) _ x (h₂ .1)))
-    (order-splits (countRow n (length s)) _ x (h₁ .1)))
+-- Every value that counting and meshing give is at most 66,325,500, so none of them is ever cut to 4,294,967,295. The rows of a block whose size is made:
+module _ (nx ny nz : ℕ) (s : List ℕ) (cut : Cut) (x : Refusal) (grey : cut .t < 65536) (axes : axisRow nx ny nz ≡ Passes) where
+  abbrev n : Size
+  n = sizeOf nx ny nz
+
+  limits : Limits (sizeOf nx ny nz)
+  limits = axes-within nx ny nz axes
+
+  samples : nx * (ny * nz) ≤ 16777216
+  samples = product-le nx ny nz 256 256 256 (limits .x-high) (limits .y-high) (limits .z-high)
+
+  index : (lowest isCeiling s < length s) × (x ≡ record { number = 4; value = given (lowest isCeiling s) }) → length s ≡ nx * (ny * nz) → x .value ≤ 66325500
+  index (l, h) count = omega (arith, samples, l, count, given-le x (lowest isCeiling s) h)
+
+  -- whatever is tried behind them
+  block-uncut : (ks : List Checked) → (inOrder ks ≡ Refuses x → x .value ≤ 66325500) → inOrder (blockRows n s cut ++ ks) ≡ Refuses x → x .value ≤ 66325500
+  block-uncut ks rest e =
+      ⊎-elim (λ h. omega (arith, samples, given-le x (sampleCount n) (holds-unless (eqb (length s) (sampleCount n)) 2 (sampleCount n) x h)))
+      (λ h₁.
+      ⊎-elim (λ h. omega (arith, grey, given-le x (cut .t) (holds-where (noThreshold cut) 3 (cut .t) x h)))
+      (λ h₂.
+      ⊎-elim (λ h. index (lowest-refusal 4 isCeiling s x h) (count-passed n (length s) (h₁ .0)))
+      (λ h₃. rest (h₃ .1))
+      (order-splits (ceilingRow s) ks x (h₂ .1)))
+      (order-splits (thresholdRow cut) _ x (h₁ .1)))
+      (order-splits (countRow n (length s)) _ x e)
+
+  room-uncut : (words offsets room : ℕ) → inOrder (roomRows (countsOf n s cut) words offsets room) ≡ Refuses x → x .value ≤ 66325500
+  room-uncut words offsets room e =
+      ⊎-elim (λ h. omega (arith, most-vertices loopsOf n s cut (cube-laws joined) limits, given-le x (vertexCount n s cut) (holds-unless (leb (2 * vertexCount n s cut) words && leb (3 * vertexCount n s cut) offsets) 5 (vertexCount n s cut) x h)))
+      (λ h. omega (arith, most-quads loopsOf n s cut limits, given-le x (quadCount n s cut) (holds-unless (leb (4 * quadCount n s cut) room) 6 (quadCount n s cut) x (sym (order-last (quadRow (quadCount n s cut) room)) ∙ h .1))))
+      (order-splits (vertexRow (vertexCount n s cut) words offsets) _ x e)
+
+-- the value of row 1 is an axis
+axis-uncut : (nx ny nz : ℕ) (x : Refusal) → axisRow nx ny nz ≡ Refuses x → x .value ≤ 66325500
+axis-uncut nx ny nz x e =
+    let h = lowest-refusal 1 outOfLimits (nx ∷ ny ∷ nz ∷ []) x e in
+    omega (arith, h .0, given-le x (lowest outOfLimits (nx ∷ ny ∷ nz ∷ [])) (h .1))
+
+pub counts-uncut : (nx ny nz : ℕ) (s : List ℕ) (cut : Cut) (x : Refusal) → cut .t < 65536 → countsVerdict nx ny nz s cut ≡ Refuses x → x .value ≤ 66325500
+counts-uncut nx ny nz s cut x grey e =
+    ⊎-elim (axis-uncut nx ny nz x) (λ h. block-uncut nx ny nz s cut x grey (h .0) [] none (h .1))
     (order-splits (axisRow nx ny nz) _ x e)
   where
-    n : Size
-    n = sizeOf nx ny nz
+    none : inOrder [] ≡ Refuses x → x .value ≤ 66325500
+    none f = first-has (λ (r : Refusal). r .value ≤ 66325500) [] tt x f
 
-    limits : Limits (sizeOf nx ny nz)
-    limits = axes-within nx ny nz axes
-
-    samples : nx * (ny * nz) ≤ 16777216
-    samples = product-le nx ny nz 256 256 256 (limits .x-high) (limits .y-high) (limits .z-high)
-
-    index : (lowest isCeiling s < length s) × (x ≡ record { number = 4; value = given (lowest isCeiling s) }) → length s ≡ nx * (ny * nz) → x .value ≤ 66325500
-    index (l, h) count = omega (arith, samples, l, count, given-le x (lowest isCeiling s) h)
+pub mesh-uncut : (nx ny nz : ℕ) (s : List ℕ) (cut : Cut) (words offsets room : ℕ) (x : Refusal) → cut .t < 65536 → meshVerdict nx ny nz s cut words offsets room ≡ Refuses x
+    → x .value ≤ 66325500
+mesh-uncut nx ny nz s cut words offsets room x grey e =
+    ⊎-elim (axis-uncut nx ny nz x)
+    (λ h. block-uncut nx ny nz s cut x grey (h .0) (roomRows (countsOf (sizeOf nx ny nz) s cut) words offsets room) (room-uncut nx ny nz s cut x grey (h .0) words offsets room) (h .1))
+    (order-splits (axisRow nx ny nz) _ x e)

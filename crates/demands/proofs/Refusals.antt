@@ -1,27 +1,107 @@
--- Demand 1 where an answer has more than a number: after a refusal of `mesh` every buffer is as it was; and `run` prints a refusal's line exactly when
--- the checks refuse so, and a mesh exactly when they pass. (What the answers of the others say: `refused-exactly` and `accepted-exactly`, in block.)
-use Prim.Native.Nat.{ℕ, _*_, _≤_, _<_}
+-- Demand 1, of each entry point from its promise: a refusal is given exactly when it is that of the first row that holds, and anything else exactly when
+-- none does. After a refusal of `mesh` every buffer is as it was.
+use Prim.Native.Nat.{ℕ, _≤_, _<_}
 use mathlib.Core.Path.{_≡_, refl, sym, ap, _∙_}
-use mathlib.Core.Logic.{_↔_, _⊎_, inl, inr, ⊎-elim}
-use mathlib.Core.List.{List, [], _∷_}
+use mathlib.Core.Logic.{_↔_, _⊎_, inl, inr}
+use mathlib.Core.List.{List, [], _∷_, _++_}
 use native.Mathlib.Omega.{arith}
 use lib.ListN.{length}
 use lib.Ieee.{Float}
 use Rattle.laws.specs.Below.{over}
 use Rattle.block.specs.declared.Cut.{Cut}
 use Rattle.block.specs.declared.Refusal.{Refusal}
+use Rattle.block.specs.declared.Size.{Size}
+use Rattle.block.specs.declared.Sized.{Sized}
 use Rattle.block.specs.declared.Checked.{Checked}
 use Rattle.block.specs.declared.Checked.the-variants.{Passes, Refuses}
-use Rattle.block.specs.Answer.{refused, given, decided, inOrder}
-use Rattle.block.proofs.Order.{refused-exactly}
+use Rattle.block.specs.Answer.{Answer, accepted, refused, inOrder, First, decided, judged}
+use Rattle.block.specs.Grey.{cutOf}
+use Rattle.block.specs.Rows.{axisRow, sampleRows}
+use Rattle.block.specs.Size.{saidSize, SizeMade}
+use Rattle.block.proofs.Order.{order-last, first-exactly, refused-exactly, accepted-exactly}
+use Rattle.cube_rule.specs.Decider.{loopsOf}
+use Rattle.place.specs.declared.Crossing.{Crossing}
+use Rattle.place.specs.Crossing.{crossing, saidEdge, edgeAnswer, EdgeAnswered}
+use Rattle.cell.specs.declared.CubeAnswer.{CubeAnswer}
+use Rattle.cell.specs.Answer.{saidCube, cubeVerdict, CubeAnswered}
+use Rattle.mesh.specs.declared.Totals.{Totals}
 use Rattle.mesh.specs.declared.Counted.{Counted}
-use Rattle.mesh.specs.Answer.{saidCounts, meshVerdict, written, Meshed}
+use Rattle.mesh.specs.Answer.{sizeOf, countsOf, saidCounts, blockRows, countsVerdict, CountsAnswered, roomRows, meshVerdict, written, Meshed}
+use Rattle.closed.specs.declared.Closure.{Closure}
+use Rattle.closed.specs.Closed.{Finding, findingOf, lengthRow, saidClosure, ClosedAnswered}
 use Rattle.reading.specs.Input.{sizeRead, cutRead, samplesRead, inputVerdict}
 use Rattle.reading.proofs.Verdicts.{run-numbers, run-values}
 use Rattle.lines.specs.Output.{refusalLine, blockText, outputOf, Prints, Ran}
 use Rattle.demands.proofs.RefusalText.{mesh-no-refusal, refusal-same, prints-one}
 
+-- ---- an answer that is judged by rows in order
+
+module _ {A : Type 0} (ks : List Checked) (a : A) (said : Answer A) (promise : said ≡ judged (inOrder ks) a) where
+  refuses-by : (x : Refusal) → (said ≡ refused x) ↔ First ks x
+  refuses-by x = (
+    λ e. first-exactly ks x .0 (refused-exactly (inOrder ks) a said promise x .0 e),
+    λ f. refused-exactly (inOrder ks) a said promise x .1 (first-exactly ks x .1 f),
+  )
+
+-- the size
+module _ (nx ny nz : ℕ) (r : Sized) (promise : SizeMade nx ny nz r) where
+  pub size-refuses : (x : Refusal) → (saidSize r ≡ refused x) ↔ First (axisRow nx ny nz ∷ []) x
+  size-refuses = refuses-by _ _ _ promise
+
+  pub size-accepts : (n : Size) → (saidSize r ≡ accepted n) ↔ ((axisRow nx ny nz ≡ Passes) × (n ≡ sizeOf nx ny nz))
+  size-accepts n = (
+    λ e. let h = accepted-exactly _ _ _ promise n .0 e in (sym (order-last (axisRow nx ny nz)) ∙ h .0, h .1),
+    λ h. accepted-exactly _ _ _ promise n .1 (order-last (axisRow nx ny nz) ∙ h .0, h .1),
+  )
+
+-- the edge question
+module _ (p q t : ℕ) (r : Crossing) (promise : EdgeAnswered p q t r) where
+  pub edge-refuses : (x : Refusal) → (saidEdge r ≡ refused x) ↔ First (sampleRows (cutOf t) (p ∷ q ∷ [])) x
+  unfolding edgeAnswer
+  edge-refuses = refuses-by _ _ _ promise
+
+  pub edge-accepts : (c : List Float) → (saidEdge r ≡ accepted c) ↔ ((inOrder (sampleRows (cutOf t) (p ∷ q ∷ [])) ≡ Passes) × (c ≡ crossing (cutOf t) p q))
+  unfolding edgeAnswer
+  edge-accepts = accepted-exactly _ _ _ promise
+
+-- the cube question
+module _ (corners : List ℕ) (cut : Cut) (r : CubeAnswer) (promise : CubeAnswered corners cut r) where
+  pub cube-refuses : (x : Refusal) → (saidCube (r .found) ≡ refused x) ↔ First (sampleRows cut corners) x
+  cube-refuses = refuses-by _ _ _ (promise .found)
+
+  pub cube-accepts : (n : ℕ) → (saidCube (r .found) ≡ accepted n) ↔ ((cubeVerdict cut corners ≡ Passes) × (n ≡ length (loopsOf cut corners)))
+  cube-accepts = accepted-exactly _ _ _ (promise .found)
+
+-- counting
+module _ (nx ny nz : ℕ) (s : List ℕ) (cut : Cut) (r : Counted) (promise : CountsAnswered nx ny nz s cut r) where
+  pub counts-refuses : (x : Refusal) → (saidCounts r ≡ refused x) ↔ First (axisRow nx ny nz ∷ blockRows (sizeOf nx ny nz) s cut) x
+  counts-refuses = refuses-by _ _ _ promise
+
+  pub counts-accepts : (c : Totals) → (saidCounts r ≡ accepted c) ↔ ((countsVerdict nx ny nz s cut ≡ Passes) × (c ≡ countsOf (sizeOf nx ny nz) s cut))
+  counts-accepts = accepted-exactly _ _ _ promise
+
+-- the closed question
+module _ (quads : List ℕ) (r : Closure) (promise : ClosedAnswered quads r) where
+  pub closed-refuses : (x : Refusal) → (saidClosure r ≡ refused x) ↔ First (lengthRow quads ∷ []) x
+  closed-refuses = refuses-by _ _ _ promise
+
+  pub closed-accepts : (f : Finding) → (saidClosure r ≡ accepted f) ↔ ((lengthRow quads ≡ Passes) × (f ≡ findingOf quads))
+  closed-accepts f = (
+    λ e. let h = accepted-exactly _ _ _ promise f .0 e in (sym (order-last (lengthRow quads)) ∙ h .0, h .1),
+    λ h. accepted-exactly _ _ _ promise f .1 (order-last (lengthRow quads) ∙ h .0, h .1),
+  )
+
 -- ---- meshing
+
+module _ (nx ny nz : ℕ) (s : List ℕ) (cut : Cut) (w : List ℕ) (o : List Float) (q : List ℕ) (r : Counted) (w′ : List ℕ) (o′ : List Float) (q′ : List ℕ)
+    (promise : Meshed nx ny nz s cut w o q r w′ o′ q′) where
+  pub mesh-refuses : (x : Refusal) → (saidCounts r ≡ refused x)
+      ↔ First (axisRow nx ny nz ∷ blockRows (sizeOf nx ny nz) s cut ++ roomRows (countsOf (sizeOf nx ny nz) s cut) (length w) (length o) (length q)) x
+  mesh-refuses = refuses-by _ _ _ (promise .answer)
+
+  pub mesh-accepts : (c : Totals)
+      → (saidCounts r ≡ accepted c) ↔ ((meshVerdict nx ny nz s cut (length w) (length o) (length q) ≡ Passes) × (c ≡ countsOf (sizeOf nx ny nz) s cut))
+  mesh-accepts = accepted-exactly _ _ _ (promise .answer)
 
 -- a buffer that is not written keeps its contents
 kept : {A : Type 0} (k : Checked) (x : Refusal) (xs buffer : List A) → k ≡ Refuses x → written k xs buffer ≡ buffer

@@ -98,19 +98,17 @@ module _ {nx ny nz : ℕ} {s : List ℕ} {cut : Cut} (a : MeshCall nx ny nz s cu
   unfolding meshQuads
   number-at k h = rw quads-in (over-front (meshQuads loopsOf size s cut) (a .quads) k 0 (rw flat-long h))
 
-  -- the two words of a vertex
-  vertex-given : (v : ℕ) → v < a .counts .vertices → (mask : ℕ) × (getD (a .words-after) (2 * v) 0 < cubeCount size)
-      × List·Memᴰ mask (cubeLoops loopsOf size s cut (getD (a .words-after) (2 * v) 0))
-      × (getD (a .words-after) (2 * v + 1) 0 ≡ wordOf (cornersOf size s (getD (a .words-after) (2 * v) 0)) mask)
+  -- a vertex, and what the buffer holds of it
+  vertex-given : (v : ℕ) → v < a .counts .vertices
+      → (getD (a .words-after) (2 * v) 0 ≡ vertexOf loopsOf size s cut v .cube)
+      × (getD (a .words-after) (2 * v + 1) 0 ≡ wordOf (cornersOf size s (vertexOf loopsOf size s cut v .cube)) (vertexOf loopsOf size s cut v .mask))
+      × (vertexOf loopsOf size s cut v .cube < cubeCount size)
+      × List·Memᴰ (vertexOf loopsOf size s cut v .mask) (cubeLoops loopsOf size s cut (vertexOf loopsOf size s cut v .cube))
   vertex-given v h =
       let l : v < length (vertices loopsOf size s cut) = omega (arith, h, vertices-are) in
-      let cube : getD (a .words-after) (2 * v) 0 ≡ vertexOf loopsOf size s cut v .cube = word-at (2 * v) (omega arith) ∙ words-at loopsOf size s cut v l .0 in
-      let is = vertex-is-loop loopsOf size s cut v l in (
-        vertexOf loopsOf size s cut v .mask,
-        rw cube (is .0),
-        rw cube (is .1),
-        rw cube (word-at (2 * v + 1) (omega arith) ∙ words-at loopsOf size s cut v l .1),
-      )
+      let words = words-at loopsOf size s cut v l in
+      let is = vertex-is-loop loopsOf size s cut v l in
+      (word-at (2 * v) (omega arith) ∙ words .0, word-at (2 * v + 1) (omega arith) ∙ words .1, is .0, is .1)
 
   -- the four numbers of a quad, as the buffer holds them
   quad-is : (q : ℕ) → q < a .counts .quads

@@ -22,7 +22,7 @@ use Rattle.place.specs.Unit.{InUnit}
 use Rattle.cell.specs.Answer.{wordOf}
 use Rattle.mesh_rule.specs.Buffers.{meshWords, meshOffsets, meshQuads}
 use Rattle.mesh_rule.specs.Grid.{cornersOf, crossedInner}
-use Rattle.mesh_rule.specs.Mesh.{quad, cubeLoops, vertices}
+use Rattle.mesh_rule.specs.Mesh.{quad, cubeLoops, vertices, vertexOf}
 use Rattle.mesh_rule.specs.Orientation.{QuadOf}
 use Rattle.mesh.specs.Answer.{sizeOf}
 use Rattle.demands.specs.Answers.{MeshCall}
@@ -39,10 +39,12 @@ module _ {nx ny nz : ℕ} {s : List ℕ} {cut : Cut} (a : MeshCall nx ny nz s cu
     -- the vertices, one for each loop of each cube, in order: cube number and word. What stood behind them is kept
     pub words : a .words-after ≡ over (meshWords loopsOf size s cut) (a .words)
     pub vertex-count : a .counts .vertices ≡ length (vertices loopsOf size s cut)
-    -- the words of vertex v: a cube of the block, and the word of one of that cube's loops
-    pub each-vertex : (v : ℕ) → v < a .counts .vertices → (mask : ℕ) × (getD (a .words-after) (2 * v) 0 < cubeCount size)
-        × List·Memᴰ mask (cubeLoops loopsOf size s cut (getD (a .words-after) (2 * v) 0))
-        × (getD (a .words-after) (2 * v + 1) 0 ≡ wordOf (cornersOf size s (getD (a .words-after) (2 * v) 0)) mask)
+    -- vertex v, of a cube of the block and one of its loops, and what the buffer holds of it
+    pub each-vertex : (v : ℕ) → v < a .counts .vertices
+        → (getD (a .words-after) (2 * v) 0 ≡ vertexOf loopsOf size s cut v .cube)
+        × (getD (a .words-after) (2 * v + 1) 0 ≡ wordOf (cornersOf size s (vertexOf loopsOf size s cut v .cube)) (vertexOf loopsOf size s cut v .mask))
+        × (vertexOf loopsOf size s cut v .cube < cubeCount size)
+        × List·Memᴰ (vertexOf loopsOf size s cut v .mask) (cubeLoops loopsOf size s cut (vertexOf loopsOf size s cut v .cube))
     -- the loops of a cube are those of THE RULE, its doubtful faces being decided by `joined`
     pub loops : (c : ℕ) → Rule (patternOf cut (cornersOf size s c)) (decisions joined cut (cornersOf size s c)) (cubeLoops loopsOf size s cut c)
     -- and that is by the saddle: where all four edges of a face are crossed, its positive corners are joined exactly if the form there is at least t
