@@ -8,6 +8,7 @@ use block::Sized;
 use cell::CubeAnswer;
 use cell::Found;
 use closed::Closure;
+use libc::STDOUT_FILENO;
 use mesh::Counted;
 use place::Crossing;
 use place::Offset;
@@ -30,9 +31,9 @@ fn number(value: u64, digits: u32)
         left -= 1;
         let digit = (value >> (4 * left)) % 16;
         let byte = [glyph(digit)];
-        io::write_all(1, &byte);
+        io::write_all(STDOUT_FILENO, &byte);
     }
-    io::write_all(1, b" ");
+    io::write_all(STDOUT_FILENO, b" ");
 }
 
 // The bits of a float that is a number; all ones for one that is not.
@@ -45,11 +46,11 @@ fn float(x: f64) {
 }
 
 fn end_line() {
-    io::write_all(1, b"\n");
+    io::write_all(STDOUT_FILENO, b"\n");
 }
 
 fn refusal(r: Refusal) {
-    io::write_all(1, b"refused ");
+    io::write_all(STDOUT_FILENO, b"refused ");
     number(r.number as u64, 2);
     number(r.value as u64, 8);
 }
@@ -61,11 +62,11 @@ fn offset(o: Offset) {
 }
 
 fn ask_size(nx: u32, ny: u32, nz: u32) {
-    io::write_all(1, b"size ");
+    io::write_all(STDOUT_FILENO, b"size ");
     number(nx as u64, 8);
     number(ny as u64, 8);
     number(nz as u64, 8);
-    io::write_all(1, b"- ");
+    io::write_all(STDOUT_FILENO, b"- ");
     match Size::new(nx, ny, nz) {
         Sized::Made(size) => {
             number(size.nx() as u64, 4);
@@ -83,14 +84,14 @@ fn ask_size(nx: u32, ny: u32, nz: u32) {
 }
 
 fn ask_edge(p: u16, q: u16, t: u16) {
-    io::write_all(1, b"edge ");
+    io::write_all(STDOUT_FILENO, b"edge ");
     number(p as u64, 4);
     number(q as u64, 4);
     number(t as u64, 4);
-    io::write_all(1, b"- ");
+    io::write_all(STDOUT_FILENO, b"- ");
     match place::edge(p, q, t) {
         Crossing::Nothing => {
-            io::write_all(1, b"none ");
+            io::write_all(STDOUT_FILENO, b"none ");
         }
         Crossing::At(f) => {
             float(f);
@@ -118,10 +119,10 @@ fn corners_of(corners: [u16; 8]) {
 }
 
 fn ask_cube(corners: [u16; 8], t: u16) {
-    io::write_all(1, b"cube ");
+    io::write_all(STDOUT_FILENO, b"cube ");
     corners_of(corners);
     number(t as u64, 4);
-    io::write_all(1, b"- ");
+    io::write_all(STDOUT_FILENO, b"- ");
     let answer = cell::cube(corners, Cut { t: t });
     let found = answer.found;
     match found {
@@ -144,7 +145,7 @@ fn loop_at(answer: CubeAnswer, i: usize)
 {
     let words = answer.words;
     let offsets = answer.offsets;
-    io::write_all(1, b"  ");
+    io::write_all(STDOUT_FILENO, b"  ");
     let word = words[i];
     number(word as u64, 4);
     offset(offsets[i]);
@@ -223,7 +224,7 @@ fn word_is(word: u32) {
 }
 
 fn words_of(words: &[u32]) {
-    io::write_all(1, b"  ");
+    io::write_all(STDOUT_FILENO, b"  ");
     let mut i: usize = 0;
     while i < words.len() {
         word_is(words[i]);
@@ -233,7 +234,7 @@ fn words_of(words: &[u32]) {
 }
 
 fn floats_of(floats: &[f64]) {
-    io::write_all(1, b"  ");
+    io::write_all(STDOUT_FILENO, b"  ");
     let mut i: usize = 0;
     while i < floats.len() {
         float(floats[i]);
@@ -260,11 +261,11 @@ fn block_of(nx: u32, ny: u32, nz: u32, samples: usize, t: u16) {
     number(nz as u64, 8);
     number(samples as u64, 8);
     number(t as u64, 4);
-    io::write_all(1, b"- ");
+    io::write_all(STDOUT_FILENO, b"- ");
 }
 
 fn ask_counts(nx: u32, ny: u32, nz: u32, samples: &[u16], t: u16) {
-    io::write_all(1, b"counts ");
+    io::write_all(STDOUT_FILENO, b"counts ");
     block_of(nx, ny, nz, samples.len(), t);
     let counted = mesh::counts(nx, ny, nz, samples, Cut { t: t });
     counted_is(counted);
@@ -282,7 +283,7 @@ fn ask_mesh(
     offsets: &mut [f64],
     quads: &mut [u32],
 ) {
-    io::write_all(1, b"mesh ");
+    io::write_all(STDOUT_FILENO, b"mesh ");
     block_of(nx, ny, nz, samples.len(), t);
     let counted = mesh::mesh(nx, ny, nz, samples, Cut { t: t }, words, offsets, quads);
     counted_is(counted);
@@ -544,15 +545,15 @@ fn blocks() {
 }
 
 fn ask_closed(quads: &[u32]) {
-    io::write_all(1, b"closed ");
+    io::write_all(STDOUT_FILENO, b"closed ");
     number(quads.len() as u64, 8);
-    io::write_all(1, b"- ");
+    io::write_all(STDOUT_FILENO, b"- ");
     match closed::closed(quads) {
         Closure::Closed => {
-            io::write_all(1, b"closed ");
+            io::write_all(STDOUT_FILENO, b"closed ");
         }
         Closure::Open { quad, side } => {
-            io::write_all(1, b"open ");
+            io::write_all(STDOUT_FILENO, b"open ");
             number(quad as u64, 8);
             number(side as u64, 1);
         }

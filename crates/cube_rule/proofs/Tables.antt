@@ -6,7 +6,8 @@ use mathlib.Core.Path.{_≡_, refl, ap₂, _∙_}
 use mathlib.Core.Bool.{Bool, true, false, _&&_, _||_, Bool·beq}
 use mathlib.Core.Logic.{_⊎_, inl, inr, ⊎-elim}
 use lib.Dec.{T, eqb, ltb, eqb→eq, ltb→lt}
-use Rattle.laws.specs.Bits.{bit, differ}
+use Rattle.laws.specs.Bits.{differ}
+use Rattle.laws.specs.Counting.{count}
 use Rattle.laws.proofs.Tests.{both, one-of, left, right, cases, same-eq, below, below-at}
 use Rattle.cube_rule.specs.Edges.{lower, upper, axisOf, cornerOn}
 use Rattle.cube_rule.specs.Faces.{ringEdge, ringCorner}
@@ -45,7 +46,7 @@ module _ (e : ℕ) (h : e < 12) where
 -- ---- an edge is on the face x=0 exactly if both its corners have x = 0, and so for all six: face f is at f % 2 on the axis f / 2
 
 -- the edge e is one of the face f
-abbrev pub onFace : ℕ → ℕ → Bool
+abbrev onFace : ℕ → ℕ → Bool
 onFace f e = eqb e (ringEdge f 0) || eqb e (ringEdge f 1) || eqb e (ringEdge f 2) || eqb e (ringEdge f 3)
 
 -- both its corners are on f's side of the axis
@@ -59,23 +60,25 @@ on-face-computed : T (below 6 (λ f. below 12 (on-face-test f)))
 unfolding below on-face-test
 on-face-computed = tt
 
-pub on-face-ends : (f e : ℕ) → f < 6 → e < 12 → onFace f e ≡ bothEnds f e
+pub on-face-ends : (f e : ℕ) → f < 6 → e < 12
+    → (eqb e (ringEdge f 0) || eqb e (ringEdge f 1) || eqb e (ringEdge f 2) || eqb e (ringEdge f 3))
+    ≡ (eqb (cornerOn (f / 2) (lower e)) (f % 2) && eqb (cornerOn (f / 2) (upper e)) (f % 2))
 unfolding on-face-test
 on-face-ends f e hf he = same-eq _ _ (below-at 12 (on-face-test f) (below-at 6 (λ f. below 12 (on-face-test f)) on-face-computed f hf) e he)
 
 -- ---- each edge is on exactly two faces
 
 abbrev facesOf : ℕ → ℕ
-facesOf e = bit (onFace 0 e) + bit (onFace 1 e) + bit (onFace 2 e) + bit (onFace 3 e) + bit (onFace 4 e) + bit (onFace 5 e)
+facesOf e = count (λ (f : ℕ). onFace f e) 6
 
 two-faces-test : ℕ → Bool
 two-faces-test e = eqb (facesOf e) 2
 
 two-faces-computed : T (below 12 two-faces-test)
-unfolding below two-faces-test
+unfolding below two-faces-test count
 two-faces-computed = tt
 
-pub edge-on-two-faces : (e : ℕ) → e < 12 → facesOf e ≡ 2
+pub edge-on-two-faces : (e : ℕ) → e < 12 → count (λ (f : ℕ). eqb e (ringEdge f 0) || eqb e (ringEdge f 1) || eqb e (ringEdge f 2) || eqb e (ringEdge f 3)) 6 ≡ 2
 unfolding two-faces-test
 edge-on-two-faces e h = eqb→eq (facesOf e) 2 (below-at 12 two-faces-test two-faces-computed e h)
 

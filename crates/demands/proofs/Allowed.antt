@@ -79,13 +79,10 @@ module _ (nx ny nz : ℕ) (s : List ℕ) (cut : Cut) (w : List ℕ) (o : List Fl
   pub mesh-allows : (r : Counted) × (w′ : List ℕ) × (o′ : List Float) × (q′ : List ℕ) × Meshed nx ny nz s cut w o q r w′ o′ q′
   mesh-allows = (
     answered .0,
-    (
-      written verdict (meshWords loopsOf (sizeOf nx ny nz) s cut) w,
-      (
-        written verdict (meshOffsets loopsOf (sizeOf nx ny nz) s cut) o,
-        (written verdict (meshQuads loopsOf (sizeOf nx ny nz) s cut) q, record { answer = answered .1; words = refl; offsets = refl; quads = refl }),
-      ),
-    ),
+    written verdict (meshWords loopsOf (sizeOf nx ny nz) s cut) w,
+    written verdict (meshOffsets loopsOf (sizeOf nx ny nz) s cut) o,
+    written verdict (meshQuads loopsOf (sizeOf nx ny nz) s cut) q,
+    record { answer = answered .1; words = refl; offsets = refl; quads = refl },
   )
 
   -- where no row holds, there is a call that answers the counts
@@ -116,4 +113,4 @@ closed-allows quads = go (judged (inOrder (lengthRow quads ∷ [])) (findingOf q
 -- ---- the program
 
 pub run-allows : (bytes out : List ℕ) → (r : ℕ) × (out′ : List ℕ) × Ran bytes out r out′
-run-allows bytes out = (length (outputOf bytes), (over (outputOf bytes) out, record { count = refl; text = refl }))
+run-allows bytes out = (length (outputOf bytes), over (outputOf bytes) out, record { count = refl; text = refl })

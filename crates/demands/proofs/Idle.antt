@@ -28,7 +28,8 @@ use Rattle.cube_rule.specs.Decider.{loopsOf}
 use Rattle.mesh_rule.specs.Buffers.{meshWords, meshOffsets}
 use Rattle.mesh_rule.specs.Grid.{metal, OffEdges, AtLeastThree}
 use Rattle.mesh_rule.specs.Mesh.{flat, quads}
-use Rattle.mesh_rule.proofs.Checkerboard.{hollow, hollow-vertices, hollow-length, hollow-at, board, board-vertices, board-length, board-grey}
+use Rattle.mesh_rule.specs.Boards.{board, hollow}
+use Rattle.mesh_rule.proofs.Checkerboard.{hollow-vertices, hollow-length, hollow-at, board-vertices, board-length, board-grey}
 use Rattle.mesh.specs.declared.Totals.{Totals}
 use Rattle.mesh.specs.declared.Counted.{Counted}
 use Rattle.mesh.specs.Answer.{sizeOf, vertexCount, quadCount, countsOf, blockRows, vertexRow, quadRow, saidCounts, countsVerdict, CountsAnswered, meshVerdict, Meshed}
@@ -119,21 +120,28 @@ module _ (nx ny nz : ℕ) (s : List ℕ) (cut : Cut) (passes : countsVerdict nx 
   abbrev q : ℕ
   q = quadCount (sizeOf nx ny nz) s cut
 
-  fits : (m : ℕ) → leb m (length (replicate m 0)) ≡ true
-  fits m = le-leb m (length (replicate m 0)) (omega (arith, length-replicate m 0))
+  -- m numbers, and m places
+  abbrev zeros : ℕ → List ℕ
+  zeros m = replicate m 0
 
-  fits-places : (m : ℕ) → leb m (length (replicate m nan)) ≡ true
-  fits-places m = le-leb m (length (replicate m nan)) (omega (arith, length-replicate m nan))
+  abbrev places : ℕ → List Float
+  places m = replicate m nan
 
-  roomy : meshVerdict nx ny nz s cut (length (replicate (2 * v) 0)) (length (replicate (3 * v) nan)) (length (replicate (4 * q) 0)) ≡ Passes
+  zeros-fit : (m : ℕ) → leb m (length (zeros m)) ≡ true
+  zeros-fit m = le-leb m (length (zeros m)) (omega (arith, length-replicate {A = ℕ} m 0))
+
+  places-fit : (m : ℕ) → leb m (length (places m)) ≡ true
+  places-fit m = le-leb m (length (places m)) (omega (arith, length-replicate m nan))
+
+  roomy : meshVerdict nx ny nz s cut (length (zeros (2 * v))) (length (places (3 * v))) (length (zeros (4 * q))) ≡ Passes
   roomy =
       orders-pass (axisRow nx ny nz ∷ blockRows (sizeOf nx ny nz) s cut) _ passes
-      ∙ order-passes (vertexRow v (length (replicate (2 * v) 0)) (length (replicate (3 * v) nan))) _ (rw (fits (2 * v), fits-places (3 * v)) refl)
-      ∙ order-last (quadRow q (length (replicate (4 * q) 0)))
-      ∙ rw (fits (4 * q)) refl
+      ∙ order-passes (vertexRow v (length (zeros (2 * v))) (length (places (3 * v)))) _ (rw (zeros-fit (2 * v), places-fit (3 * v)))
+      ∙ order-last (quadRow q (length (zeros (4 * q))))
+      ∙ rw (zeros-fit (4 * q))
 
   pub call-of : MeshCall nx ny nz s cut
-  call-of = mesh-call nx ny nz s cut (replicate (2 * v) 0) (replicate (3 * v) nan) (replicate (4 * q) 0) roomy
+  call-of = mesh-call nx ny nz s cut (zeros (2 * v)) (places (3 * v)) (zeros (4 * q)) roomy
 
 -- so no counts serve all blocks of a size
 pub no-mesh-for-all : (nx ny nz : ℕ) → Limits (sizeOf nx ny nz) → (c : Totals) → ((s : List ℕ) (cut : Cut) (a : MeshCall nx ny nz s cut) → a .counts ≡ c) → ⊥

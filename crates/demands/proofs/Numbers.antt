@@ -122,10 +122,8 @@ edge-values p q t =
     named x (l, e) (suc zero) f =
         inr (
           ap (λ (r : Refusal). r .value) e ∙ ap given f,
-          (
-            eqb-true q 65535 (ap (λ (k : ℕ). isCeiling (getD (p ∷ q ∷ []) k 0)) (sym f) ∙ lowest-there isCeiling 0 (p ∷ q ∷ []) l),
-            eqb-false p 65535 (lowest-before isCeiling 0 (p ∷ q ∷ []) 0 (omega (arith, f))),
-          ),
+          eqb-true q 65535 (ap (λ (k : ℕ). isCeiling (getD (p ∷ q ∷ []) k 0)) (sym f) ∙ lowest-there isCeiling 0 (p ∷ q ∷ []) l),
+          eqb-false p 65535 (lowest-before isCeiling 0 (p ∷ q ∷ []) 0 (omega (arith, f))),
         )
     named x (l, e) (suc (suc i)) f = absurd (omega (arith, f, l))
 

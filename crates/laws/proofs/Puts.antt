@@ -14,16 +14,16 @@ pub put-none : {A : Type 0} (b : List A) (at : ℕ) → Put b at [] b at
 put-none b at = record { stored = refl; behind = sym (add-zero at) }
 
 -- one list more, by what is stored of it
-pub put-more : {A : Type 0} {b mid xs : List A} {at next : ℕ} (ys after : List A) (on : ℕ) → Put b at xs mid next → after ≡ sets mid next ys → on ≡ next + length ys
+pub put-further : {A : Type 0} {b mid xs : List A} {at next : ℕ} (ys after : List A) (on : ℕ) → Put b at xs mid next → after ≡ sets mid next ys → on ≡ next + length ys
     → Put b at (xs ++ ys) after on
-put-more {b} {mid} {xs} {at} {next} ys after on p e f = record {
+put-further {b} {mid} {xs} {at} {next} ys after on p e f = record {
   stored = sets-join b at mid after next xs ys (p .stored) (p .behind) e;
   behind = omega (arith, f, p .behind, length-append xs ys);
 }
 
 -- one list and then another
 pub put-then : {A : Type 0} {b mid after xs : List A} {at next on : ℕ} (ys : List A) → Put b at xs mid next → Put mid next ys after on → Put b at (xs ++ ys) after on
-put-then {after} {on} ys p q = put-more ys after on p (q .stored) (q .behind)
+put-then {after} {on} ys p q = put-further ys after on p (q .stored) (q .behind)
 
 -- a buffer keeps its length
 pub put-length : {A : Type 0} {b xs after : List A} {at next : ℕ} → Put b at xs after next → length after ≡ length b

@@ -33,23 +33,13 @@ use Rattle.cube_rule.specs.Loops.{grow, loopFrom, loopsFrom, loopsBy}
 use Rattle.cube_rule.specs.Decider.{joined, loopsOf}
 use Rattle.mesh_rule.specs.Grid.{sampleAt, cornersAt, cornersOf, inner, crossedFrom, crossedInner}
 use Rattle.mesh_rule.specs.Mesh.{verticesOf, verticesBefore, vertices, quads}
+use Rattle.mesh_rule.specs.Boards.{cut, shade, board, hollow, size}
 use Rattle.mesh_rule.proofs.Counts.{innerFrom, innerCount, inner-count}
 use Rattle.mesh_rule.proofs.Inner.{Inner, inner-facts}
 use Rattle.mesh_rule.proofs.Numbers.{one-for-each-loop}
 use Rattle.mesh_rule.proofs.Quads.{quad-count}
 
-abbrev pub cut : Cut
-cut = record { t = 100 }
-
 -- ---- the board
-
--- 110 at an even number, 0 at an odd one
-abbrev pub shade : ℕ → ℕ
-shade m = cond (eqb (m % 2) 0) 110 0
-
--- the sample (i,j,k) is 110 if i + j + k is even, else 0
-unfoldable pub board : Size → List ℕ
-board n = below (λ (p : ℕ). shade (p % n .nx + p / n .nx % n .ny + p / n .nx / n .ny) ∷ []) (sampleCount n)
 
 pub board-length : (n : Size) → length (board n) ≡ sampleCount n
 unfolding board
@@ -232,9 +222,6 @@ module _ (n : Size) where
 
 -- ---- the largest counts
 
-abbrev pub size : Size
-size = record { nx = 256; ny = 256; nz = 256 }
-
 pub most-vertices-reached : length (vertices loopsOf size (board size) cut) ≡ 66325500
 most-vertices-reached = board-vertices size
 
@@ -247,9 +234,6 @@ unfolding inOrder lowestRow
 board-accepted = rw (board-counted size, board-clear size)
 
 -- ---- a block without metal has no vertex
-
-unfoldable pub hollow : Size → List ℕ
-hollow n = replicate (sampleCount n) 0
 
 dark-loops : loopsOf cut (checks 0 0) ≡ []
 unfolding loopsBy joined patternOf crossedMask loopsFrom loopFrom grow maskOf trailingZeros

@@ -16,7 +16,7 @@ use Rattle.laws.proofs.Words.{Word, word-bit, word-further, or-quiet, xor-quiet
 use Rattle.block.specs.declared.Cut.{Cut}
 use Rattle.block.specs.Grey.{positive}
 use Rattle.cube_rule.specs.Edges.{cornerSample, patternOf}
-use Rattle.planes.specs.Planes.{furtherOf, furtherAt, eightOf, activeOf, patternAt, apart}
+use Rattle.planes.specs.Planes.{furtherOf, furtherAt, eightOf, activeOf, patternAt, unlike}
 use Rattle.signs.specs.Steps.{rowFrom}
 use Rattle.signs.specs.Windows.{windowCorners, TwoRows}
 
@@ -45,7 +45,7 @@ quiet-words ws i e =
     corner-cases (λ c. getD ws c 0 / 2 ^ i % 2 ≡ getD ws 0 0 / 2 ^ i % 2)
     refl (same 1 (o1 .0)) (same 2 (o2 .0)) (same 3 (o3 .0)) (same 4 (o4 .0)) (same 5 (o5 .0)) (same 6 (o6 .0)) (same 7 (o6 .1))
   where
-    same : (c : ℕ) → apart ws c / 2 ^ i % 2 ≡ 0 → getD ws c 0 / 2 ^ i % 2 ≡ getD ws 0 0 / 2 ^ i % 2
+    same : (c : ℕ) → unlike ws c / 2 ^ i % 2 ≡ 0 → getD ws c 0 / 2 ^ i % 2 ≡ getD ws 0 0 / 2 ^ i % 2
     same c q = sym (xor-quiet (getD ws 0 0) (getD ws c 0) i q)
 
 -- five words from q on are the signs of the nx samples from `base` on

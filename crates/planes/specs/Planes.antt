@@ -26,14 +26,14 @@ eightOf a b q =
     ∷ getD b q 0 ∷ furtherAt b q ∷ getD b (q + 5) 0 ∷ furtherAt b (q + 5) ∷ []
 
 -- the signs of corner c are not those of corner 0
-abbrev pub apart : List ℕ → ℕ → ℕ
-apart eight c = bitXor (getD eight 0 0) (getD eight c 0)
+abbrev pub unlike : List ℕ → ℕ → ℕ
+unlike eight c = bitXor (getD eight 0 0) (getD eight c 0)
 
 -- bit i is set if the eight signs of cube i are not all alike
 unfoldable pub activeOf : List ℕ → ℕ
 activeOf eight =
-    bitOr (apart eight 1)
-    (bitOr (apart eight 2) (bitOr (apart eight 3) (bitOr (apart eight 4) (bitOr (apart eight 5) (bitOr (apart eight 6) (apart eight 7))))))
+    bitOr (unlike eight 1)
+    (bitOr (unlike eight 2) (bitOr (unlike eight 3) (bitOr (unlike eight 4) (bitOr (unlike eight 5) (bitOr (unlike eight 6) (unlike eight 7))))))
 
 -- the sign pattern of cube i: bit c is bit i of word c
 unfoldable pub patternAt : List ℕ → ℕ → ℕ

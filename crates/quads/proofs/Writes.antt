@@ -11,7 +11,7 @@ use lib.Count.{trailingZeros}
 use Rattle.laws.specs.Below.{below}
 use Rattle.laws.proofs.Below.{length-below}
 use Rattle.laws.specs.Put.{Put}
-use Rattle.laws.proofs.Puts.{put-none, put-length, put-more, put-then, put-as}
+use Rattle.laws.proofs.Puts.{put-none, put-length, put-further, put-then, put-as}
 use Rattle.laws.proofs.Visit.{Left, below-none, below-one}
 use Rattle.mesh_rule.specs.Mesh.{quad, turned, flat}
 use Rattle.rows.specs.Rows.{picked}
@@ -35,7 +35,7 @@ module _ (d : ℕ) (f : ℕ → List ℕ) {i w : ℕ} (l : Left (bitsOf d) 64 i 
 
   pub emit-next : (w ≡ 0 → ⊥) → length (f (i + trailingZeros 64 w)) ≡ 4 → (v′ : List ℕ) → v′ ≡ sets v p (f (i + trailingZeros 64 w))
       → Put b from (below (picked d f) (i + trailingZeros 64 w + 1)) v′ (p + 4)
-  emit-next ne four v′ e = put-as (sym (picked-next d l f ne)) (put-more (f (i + trailingZeros 64 w)) v′ (p + 4) h e (ap (λ (m : ℕ). p + m) (sym four)))
+  emit-next ne four v′ e = put-as (sym (picked-next d l f ne)) (put-further (f (i + trailingZeros 64 w)) v′ (p + 4) h e (ap (λ (m : ℕ). p + m) (sym four)))
 
   pub emit-end : w ≡ 0 → Put b from (below (picked d f) 64) v p
   emit-end e = put-as (picked-end d l f e) h

@@ -1,6 +1,7 @@
 // Runs `lines::run` on stored inputs and writes, for each, its name and what it got: meshes of all kinds, each refusal that the program can
 // give, and each order of two. What it must write stands in the file stdout; `tests/oracle.py samples` makes that file from the cases below,
 // which stand in the order in which they are run. A number after a colon in a name is the number of the refusal.
+use libc::STDOUT_FILENO;
 ghost use Prim.Native.Nat.{_≤_};
 ghost use mathlib.Core.Path.{_≡_};
 ghost use lib.ListN.{length, take};
@@ -21,13 +22,13 @@ fn first_line_end(text: &[u8]) -> usize
 
 fn put_first_line(text: &[u8]) {
     let at = first_line_end(text);
-    io::write_all(1, &text[..at]);
+    io::write_all(STDOUT_FILENO, &text[..at]);
 }
 
 fn try_input(input: &[u8]) {
     let mut out = [0u8; 112917];
     let n = lines::run(input, &mut out);
-    io::write_all(1, &out[..n]);
+    io::write_all(STDOUT_FILENO, &out[..n]);
 }
 
 // A case is a text: the first line is its name, and what comes after that is the input.
@@ -556,13 +557,13 @@ fn fill_board(board: &mut [u8]) {
 fn try_board(name: &[u8], n: usize)
     requires { ⌜ n ≤ 2130 ⌝ }
 {
-    io::write_all(1, name);
+    io::write_all(STDOUT_FILENO, name);
     let mut input = [0u8; 2130];
     fill_board(&mut input);
     let mut out = [0u8; 112917];
     let m = lines::run(&input[..n], &mut out);
     io::print_hex(1, m as u64, 8);
-    io::write_all(1, b"\n");
+    io::write_all(STDOUT_FILENO, b"\n");
     put_first_line(&out[..m]);
 }
 
