@@ -57,7 +57,9 @@ returns c =
     let d = p .before .before in
     let a = start d .args in
     record {
-      stored = stored-single loopsOf _ _ _ _ _ _ _ _ _ (one d) _ (p .place .ensures ∙ ap (λ (l : List ℕ). placeOf (a .cut) l (d .crossed-edges .result)) (p .before .wide .ensures .0)) (m .put-vertex .ensures .0) (m .put-vertex .ensures .1);
+      stored =
+          stored-single loopsOf _ _ _ _ _ _ _ _ _ (one d) _ (p .place .ensures ∙ ap (λ (l : List ℕ). placeOf (a .cut) l (d .crossed-edges .result)) (p .before .wide .ensures .0))
+          (m .put-vertex .ensures .0) (m .put-vertex .ensures .1);
       noted = c .before .before .note .ensures ∙ ap (λ (w : ℕ). sets (now (a .numbers)) (2 * a .spot .x) (a .spot .v ∷ w ∷ [])) (which-single loopsOf _ _ _ (one d));
     }
 

@@ -7,23 +7,39 @@ use Rattle.joins.specs.Joined.{joinedWords}
 use Rattle.joins.proofs.joined_words.Statement.{statement}
 use Rattle.joins.proofs.joined_words.Tie as tie
 
+-- the entry
+abbrev start : tie.After-joined-on → tie.Start
+start j = j .before .before .before
+
 joined-on-requires : tie.Need-joined-on-requires
-joined-on-requires c κs = λ x h t. (omega (arith, c .before .before .pre .low-in 0 x (omega arith) h t), omega (arith, c .before .before .pre .high-in 0 x (omega arith) h t))
+joined-on-requires c κs =
+    let r = c .before .before .pre in
+    λ x h t. (omega (arith, r .low-in 0 x (omega arith) h t), omega (arith, r .high-in 0 x (omega arith) h t))
 
 joined-on-requires-2 : tie.Need-joined-on-requires-2
-joined-on-requires-2 c κs = λ x h t. (omega (arith, c .before .before .before .pre .low-in 1 x (omega arith) h t), omega (arith, c .before .before .before .pre .high-in 1 x (omega arith) h t))
+joined-on-requires-2 c κs =
+    let r = start c .pre in
+    λ x h t. (omega (arith, r .low-in 1 x (omega arith) h t), omega (arith, r .high-in 1 x (omega arith) h t))
 
 joined-on-requires-3 : tie.Need-joined-on-requires-3
-joined-on-requires-3 c κs = λ x h t. (omega (arith, c .before .before .before .before .pre .low-in 2 x (omega arith) h t), omega (arith, c .before .before .before .before .pre .high-in 2 x (omega arith) h t))
+joined-on-requires-3 c κs =
+    let r = start (c .before) .pre in
+    λ x h t. (omega (arith, r .low-in 2 x (omega arith) h t), omega (arith, r .high-in 2 x (omega arith) h t))
 
 joined-on-requires-4 : tie.Need-joined-on-requires-4
-joined-on-requires-4 c κs = λ x h t. (omega (arith, c .before .before .before .before .before .pre .low-in 3 x (omega arith) h t), omega (arith, c .before .before .before .before .before .pre .high-in 3 x (omega arith) h t))
+joined-on-requires-4 c κs =
+    let r = start (c .before .before) .pre in
+    λ x h t. (omega (arith, r .low-in 3 x (omega arith) h t), omega (arith, r .high-in 3 x (omega arith) h t))
 
 joined-on-requires-5 : tie.Need-joined-on-requires-5
-joined-on-requires-5 c κs = λ x h t. (omega (arith, c .before .before .before .before .before .before .pre .low-in 4 x (omega arith) h t), omega (arith, c .before .before .before .before .before .before .pre .low-in 4 x (omega arith) h t))
+joined-on-requires-5 c κs =
+    let r = start (c .before .before .before) .pre in
+    λ x h t. (omega (arith, r .low-in 4 x (omega arith) h t), omega (arith, r .low-in 4 x (omega arith) h t))
 
 joined-on-requires-6 : tie.Need-joined-on-requires-6
-joined-on-requires-6 c κs = λ x h t. (omega (arith, c .before .before .before .before .before .before .before .pre .high-in 5 x (omega arith) h t), omega (arith, c .before .before .before .before .before .before .before .pre .high-in 5 x (omega arith) h t))
+joined-on-requires-6 c κs =
+    let r = start (c .before .before .before .before) .pre in
+    λ x h t. (omega (arith, r .high-in 5 x (omega arith) h t), omega (arith, r .high-in 5 x (omega arith) h t))
 
 returns : tie.Need-returns
 unfolding joinedWords

@@ -23,7 +23,9 @@ returns : tie.Need-returns
 returns c =
     let w = c .before .before in
     let s = start w in
-    let is = sorted-is (s .pre .0) (w .before .alternates .ensures) (c .before .joined-words .ensures ∙ ap (joinedWords (now (s .args .lo)) (now (s .args .hi)) (s .args .nx) (s .args .s) (s .args .cut)) (w .within .ensures)) (c .sorts-of .ensures) in
+    let a = s .args in
+    let joined = c .before .joined-words .ensures ∙ ap (joinedWords (now (a .lo)) (now (a .hi)) (a .nx) (a .s) (a .cut)) (w .within .ensures) in
+    let is = sorted-is (s .pre .0) (w .before .alternates .ensures) joined (c .sorts-of .ensures) in
     (is, sorted-faces (s .pre .0) is)
 
 pub sorted-spec : {M : Type 1} → statement M

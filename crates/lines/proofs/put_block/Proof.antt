@@ -47,11 +47,15 @@ slice-aggregate-put-front-2 c = search needs
 slice-aggregate-put-front-3 : tie.Need-slice-aggregate-put-front-3
 slice-aggregate-put-front-3 c = search needs
 
+-- the entry
+abbrev start : tie.After-mesh → tie.Start
+start m = m .before .before .before .before .before .before
+
 put-front-requires : tie.Need-put-front-requires
 put-front-requires c κs =
     let at-counted = c .before .before .before .before .before in
     let m = at-counted .before .before .before .before .before in
-    let a = m .before .before .before .before .before .before in
+    let a = start m in
     let f = accepted-front (a .args .nx) (a .args .ny) (a .args .nz) (a .args .t) (a .args .samples .now) _ _ _ _ _ _ _ (a .pre .0 .0) (a .pre .0 .1)
     (length-replicate {A = ℕ} 2744 0) (length-replicate {A = Float} 4116 (ofBits binary64 0)) (length-replicate {A = ℕ} 3024 0) (m .mesh .ensures) _ (at-counted .counted2 .given .1) (a .pre .0 .2) in (
       (f .few .0, f .few .1, a .pre .1),
@@ -65,7 +69,7 @@ returns : tie.Need-returns
 returns c =
     let at-counted = c .before .before .before .before .before in
     let m = at-counted .before .before .before .before .before in
-    let a = m .before .before .before .before .before .before in
+    let a = start m in
     let p = c .before .before .put-refusal in
     subst (λ (x : List ℕ). Put (a .args .out .now) 0 x (p .last .0) (p .result))
     (refused-text (a .args .nx) (a .args .ny) (a .args .nz) (a .args .t) (a .args .samples .now) _ _ _ _ _ _ _ (a .pre .0 .0) (a .pre .0 .1)
@@ -78,7 +82,7 @@ returns-2 : tie.Need-returns-2
 returns-2 c =
     let at-counted = c .before .before .before .before .before .before .before .before in
     let m = at-counted .before .before .before .before .before in
-    let a = m .before .before .before .before .before .before in
+    let a = start m in
     let p = c .before .before .put-front in
     subst (λ (x : List ℕ). Put (a .args .out .now) 0 x (p .last .0) (p .result))
     (accepted-front (a .args .nx) (a .args .ny) (a .args .nz) (a .args .t) (a .args .samples .now) _ _ _ _ _ _ _ (a .pre .0 .0) (a .pre .0 .1)

@@ -27,24 +27,28 @@ returns c = judged-refused _ _ _ (sym (c .before .before .before .check .ensures
 enum-told : tie.Need-enum-told
 enum-told c = search needs
 
+-- the entry
+abbrev start : tie.After-enum-told → tie.Start
+start c = c .before .before .before .before
+
 -- rows 2 to 4 passed
-passed : (c : tie.After-enum-told) → let a = c .before .before .before .before in
+passed : (c : tie.After-enum-told) → let a = start c in
     inOrder (blockRows (a .args .size) (a .args .samples .now) (a .args .cut)) ≡ Passes
 passed c = sym (c .before .before .check .ensures) ∙ c .enum-told .given .1
 
 tally-block-requires : tie.Need-tally-block-requires
 tally-block-requires c κs =
-    let a = c .before .before .before .before in
+    let a = start c in
     block-of (a .args .size) (a .args .samples .now) (a .args .cut) (a .pre) (passed c)
 
 total-requires : tie.Need-total-requires
 total-requires c κs =
-    let a = c .before .before .before .before .before in
+    let a = start (c .before) in
     tallied-few (a .args .size) (a .args .samples .now) (a .args .cut) (c .tally-block .result) (a .pre) (c .tally-block .ensures)
 
 returns-2 : tie.Need-returns-2
 returns-2 c =
-    let a = c .before .before .before .before .before .before in
+    let a = start (c .before .before) in
     judged-passed _ _ _ (passed (c .before .before))
     (tallied-counts (a .args .size) (a .args .samples .now) (a .args .cut) (c .before .tally-block .result) (c .total .result) (c .before .tally-block .ensures) (c .total .ensures .0) (c .total .ensures .1))
 

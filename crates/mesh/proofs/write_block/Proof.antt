@@ -24,7 +24,7 @@ Inv-loop size samples cut words₀ offsets₀ quads₀ table nz a₀ b₀ m₀ b
 abbrev μ-loop : tie.MeasureT-loop
 μ-loop size samples cut words₀ offsets₀ quads₀ table nz a₀ b₀ m₀ below₀ k₀ words offsets quads a b m below k = nz - k
 
--- the places that the proof names: the entry, the size read, the loop's head, the upper plane's signs read
+-- the places that the proof names: the entry, the size read, the loop's head, the upper plane's signs read, the layer written
 abbrev entry : tie.After-nz Inv-loop μ-loop → tie.Start Inv-loop μ-loop
 entry z = z .before .before .before .before .before .before
 
@@ -39,6 +39,9 @@ at-loop p = p .before .before .before
 
 abbrev planes-read : tie.After-write-layer Inv-loop μ-loop → tie.After-plane-signs2 Inv-loop μ-loop
 planes-read w = w .before .before .before .before .before .before .before .before
+
+abbrev written : tie.After-slice-known6 Inv-loop μ-loop → tie.After-write-layer Inv-loop μ-loop
+written c = c .before .before .before .before .before .before
 
 -- the tally is small
 few : (a : tie.Start Inv-loop μ-loop) → a .args .t .x + a .args .t .y + a .args .t .z ≤ 197418960
@@ -97,12 +100,12 @@ write-layer-requires c κs =
 
 add-k : tie.Need-add-k Inv-loop μ-loop
 add-k c =
-    let p = planes-read (c .before .before .before .before .before .before) in
+    let p = planes-read (written c) in
     omega (arith, inside (p .before .before), start (at-loop p) .pre .0 .limits .z-high)
 
 loop-again : tie.Need-loop-again Inv-loop μ-loop
 loop-again c =
-    let w = c .before .before .before .before .before .before in
+    let w = written c in
     let p = planes-read w in
     let h = at-loop p .loop in
     let a = start (at-loop p) in

@@ -31,6 +31,12 @@ turn n = n .before .before .before
 abbrev noted : tie.After-step-row Inv-loop μ-loop → tie.After-note-below Inv-loop μ-loop
 noted r = r .before .before .before .before .before .before .before
 
+abbrev written : tie.After-tab2 Inv-loop μ-loop → tie.After-step-row Inv-loop μ-loop
+written c = c .before .before .before .before .before .before .before
+
+abbrev began : tie.After-tab2 Inv-loop μ-loop → tie.In-loop Inv-loop μ-loop
+began c = turn (noted (written c))
+
 -- a row of the layer
 in-layer : (d : tie.In-loop Inv-loop μ-loop) → d .before .loop .j + 1 < start d .args .size .ny
 in-layer d = omega (arith, d .loop-test .taken, d .before .before .ny .ensures)
@@ -60,22 +66,18 @@ step-row-requires c κs =
       row-underway (s .pre .0) (s .pre .1) (s .pre .3) (in-layer d) st l,
     )
 
--- the turn's start, from its end
-abbrev began : tie.After-step-row Inv-loop μ-loop → tie.In-loop Inv-loop μ-loop
-began r = turn (noted r)
-
 add-j : tie.Need-add-j Inv-loop μ-loop
 add-j c =
-    let d = began (c .before .before .before .before .before .before .before) in
+    let d = began c in
     omega (arith, in-layer d, start d .pre .0 .limits .y-high)
 
 loop-less : tie.Need-loop-less Inv-loop μ-loop
-loop-less c = omega (arith, in-layer (began (c .before .before .before .before .before .before .before)))
+loop-less c = omega (arith, in-layer (began c))
 
 loop-again : tie.Need-loop-again Inv-loop μ-loop
 loop-again c =
-    let r = c .before .before .before .before .before .before .before in
-    let d = began r in
+    let r = written c in
+    let d = began c in
     let s = start d in (
       omega (arith, in-layer d),
       state-more (s .pre .0) (s .pre .1) (s .pre .3) (in-layer d) (d .before .loop .inv .1) (noted r .note-below .ensures) (r .step-row .ensures),

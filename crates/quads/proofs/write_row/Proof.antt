@@ -48,6 +48,7 @@ edges-read e = e .before .before .before
 four : (d : tie.In-loop Inv-loop μ-loop) → d .before .loop .w < 4
 four d = omega (arith, d .loop-test .taken, start d .pre .1)
 
+-- equal orders and equal words of edges have equal quads
 same-run : {o p : Order} {d e : ℕ} (n0 n1 n2 n3 : List ℕ) (up x : ℕ) → o ≡ p → d ≡ e → runBy o n0 n1 n2 n3 d up x ≡ runBy p n0 n1 n2 n3 e up x
 same-run n0 n1 n2 n3 up x o d = rw (o, d)
 

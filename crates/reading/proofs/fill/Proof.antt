@@ -76,9 +76,11 @@ loop-less c = search needs
 
 loop-again : tie.Need-loop-again Inv-loop μ-loop
 loop-again c =
-    let i = c .before .before .loop .inv in (
+    let d = c .before in
+    let l = d .before in
+    let s = l .before .before .before in (
       search needs,
-      over-put (sampleRead (c .before .before .before .before .before .args .input .now) (c .before .before .before .before .before .args .nx)) _ _ _ _ (i .1) (c .number .ensures) (omega (arith, c .before .loop-test .taken, c .before .before .before .before .before .pre .3)),
+      over-put (sampleRead (s .args .input .now) (s .args .nx)) _ _ _ _ (l .loop .inv .1) (c .number .ensures) (omega (arith, d .loop-test .taken, s .pre .3)),
       search needs,
     )
 

@@ -33,8 +33,12 @@ right-byte-requires c κs = search needs
 
 returns : tie.Need-returns Inv-loop μ-loop
 returns c =
-    wrong-at (c .before .before .before .before .before .before .args .input .now) _ _ _ (c .before .before .before .loop-test .taken) (c .before .before .before .before .loop .inv .1)
-    (found-in (c .before .before .before .before .before .before .args .input .now) _ _ _ _ _ _ (c .before .before .read-at .ensures .0) (c .before .right-byte .ensures) (not-true _ (c .if1 .taken)))
+    let b = c .before in
+    let r = b .before in
+    let d = r .before in
+    let l = d .before in
+    let input = l .before .before .args .input .now in
+    wrong-at input _ _ _ (d .loop-test .taken) (l .loop .inv .1) (found-in input _ _ _ _ _ _ (r .read-at .ensures .0) (b .right-byte .ensures) (not-true _ (c .if1 .taken)))
 
 add-column : tie.Need-add-column Inv-loop μ-loop
 add-column c = search needs
@@ -43,11 +47,12 @@ loop-less : tie.Need-loop-less Inv-loop μ-loop
 loop-less c = search needs
 
 loop-again : tie.Need-loop-again Inv-loop μ-loop
-loop-again c = (
-  search needs,
-  holds-more (rightAt (c .before .before .before .before .before .before .args .input .now) _ _) _ (c .before .before .before .before .loop .inv .1)
-      (found-in (c .before .before .before .before .before .before .args .input .now) _ _ _ _ _ _ (c .before .before .read-at .ensures .0) (c .before .right-byte .ensures) (not-false _ (c .if1 .left))),
-)
+loop-again c =
+    let b = c .before in
+    let r = b .before in
+    let l = r .before .before in
+    let input = l .before .before .args .input .now in
+    (search needs, holds-more (rightAt input _ _) _ (l .loop .inv .1) (found-in input _ _ _ _ _ _ (r .read-at .ensures .0) (b .right-byte .ensures) (not-false _ (c .if1 .left))))
 
 returns-2 : tie.Need-returns-2 Inv-loop μ-loop
 returns-2 c = all-right (c .before .before .before .args .input .now) _ _ _ (omega (arith, c .loop-test .left, c .before .loop .inv .0)) (c .before .loop .inv .1)

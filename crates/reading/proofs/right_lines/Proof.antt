@@ -20,17 +20,30 @@ Inv-loop input nx rows j₀ j = (j ≤ rows + 1) × HoldsTo (lineThere input nx 
 abbrev μ-loop : tie.MeasureT-loop
 μ-loop input nx rows j₀ j = rows + 1 - j
 
+-- the places that the proof names: the entry, the turn's start
+abbrev start : tie.At-loop Inv-loop μ-loop → tie.Start Inv-loop μ-loop
+start l = l .before .before
+
+abbrev turn : tie.After-line-there Inv-loop μ-loop → tie.In-loop Inv-loop μ-loop
+turn t = t .before
+
 loop-holds : tie.Need-loop-holds Inv-loop μ-loop
 loop-holds c = (search needs, holds-to-none _)
 
 line-there-requires : tie.Need-line-there-requires Inv-loop μ-loop
-line-there-requires c κs = (c .before .before .before .pre .0, omega (arith, c .loop-test .taken, c .before .before .before .pre .1))
+line-there-requires c κs =
+    let r = start (c .before) .pre in
+    (r .0, omega (arith, c .loop-test .taken, r .1))
 
 returns : tie.Need-returns Inv-loop μ-loop
-returns c = (
-  wrong-line (c .before .before .before .before .before .args .input .now) (c .before .before .before .before .before .args .nx) _ _ (c .before .before .loop-test .taken) (c .before .before .before .loop .inv .1) (sym (c .before .line-there .ensures) ∙ not-true _ (c .if1 .taken)),
-  omega (arith, c .before .before .loop-test .taken, c .before .before .before .before .before .pre .1),
-)
+returns c =
+    let t = c .before in
+    let d = turn t in
+    let l = d .before in
+    let s = start l in (
+      wrong-line (s .args .input .now) (s .args .nx) _ _ (d .loop-test .taken) (l .loop .inv .1) (sym (t .line-there .ensures) ∙ not-true _ (c .if1 .taken)),
+      omega (arith, d .loop-test .taken, s .pre .1),
+    )
 
 add-j : tie.Need-add-j Inv-loop μ-loop
 add-j c = search needs
@@ -40,13 +53,18 @@ loop-less c = search needs
 
 loop-again : tie.Need-loop-again Inv-loop μ-loop
 loop-again c =
-    (search needs, holds-more (lineThere (c .before .before .before .before .before .args .input .now) (c .before .before .before .before .before .args .nx) (c .before .before .before .before .before .args .rows)) _ (c .before .before .before .loop .inv .1) (sym (c .before .line-there .ensures) ∙ not-false _ (c .if1 .left)))
+    let t = c .before in
+    let l = turn t .before in
+    let a = start l .args in
+    (search needs, holds-more (lineThere (a .input .now) (a .nx) (a .rows)) _ (l .loop .inv .1) (sym (t .line-there .ensures) ∙ not-false _ (c .if1 .left)))
 
 returns-2 : tie.Need-returns-2 Inv-loop μ-loop
-returns-2 c = (
-  all-lines (c .before .before .before .args .input .now) (c .before .before .before .args .nx) _ _ (omega (arith, c .loop-test .left, c .before .loop .inv .0)) (c .before .loop .inv .1),
-  omega (arith, c .before .loop .inv .0, c .before .before .before .pre .1),
-)
+returns-2 c =
+    let l = c .before in
+    let s = start l in (
+      all-lines (s .args .input .now) (s .args .nx) _ _ (omega (arith, c .loop-test .left, l .loop .inv .0)) (l .loop .inv .1),
+      omega (arith, l .loop .inv .0, s .pre .1),
+    )
 
 pub right-lines-spec : {M : Type 1} → statement M
 right-lines-spec =

@@ -18,23 +18,24 @@ Inv-loop bytes w v₀ k₀ v k = (k ≤ 8) × (v ≡ pack (λ (i : ℕ). getD by
 abbrev μ-loop : tie.MeasureT-loop
 μ-loop bytes w v₀ k₀ v k = 8 - k
 
--- the entry
+-- the places that the proof names: the entry, the turn's start
 abbrev start : tie.In-loop Inv-loop μ-loop → tie.Start Inv-loop μ-loop
 start d = d .before .before .before
+
+abbrev turn : tie.After-shared-slice-known9 Inv-loop μ-loop → tie.In-loop Inv-loop μ-loop
+turn r = r .before .before .before .before .before .before .before .before
 
 loop-holds : tie.Need-loop-holds Inv-loop μ-loop
 loop-holds c = (omega arith, sym (pack-none _))
 
 eight-bits-requires : tie.Need-eight-bits-requires Inv-loop μ-loop
 eight-bits-requires c κs =
-    let here = c .before .before .before .before .before .before .before .before in
-    let small = start here .pre .2 in
+    let small = start (turn c) .pre .2 in
     (small _, small _, small _, small _, small _, small _, small _, small _)
 
 loop-again : tie.Need-loop-again Inv-loop μ-loop
 loop-again c =
-    let read = c .before in
-    let here = read .before .before .before .before .before .before .before .before in
+    let here = turn (c .before) in
     let h = here .before .loop in
     let s = start here in (
       omega (arith, here .loop-test .taken),
