@@ -8,7 +8,7 @@ use Rattle.block.specs.declared.Refusal.{Refusal}
 use Rattle.block.specs.declared.Checked.{Checked}
 use Rattle.block.specs.declared.Checked.the-variants.{Passes, Refuses}
 
--- what a function says: 01's number 0 and what it answers, or a refusal's number and value
+-- what a function says: what it answers (0 as the first number, as the program prints it), or a refusal's number and value
 pub data Answer (A : Type 0) : Type 0 where
   accepted : A → Answer A
   refused : Refusal → Answer A

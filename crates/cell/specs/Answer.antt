@@ -16,7 +16,7 @@ use Rattle.cell.specs.declared.Found.{Found}
 use Rattle.cell.specs.declared.Found.the-variants.{Loops, Refused}
 use Rattle.cell.specs.declared.CubeAnswer.{CubeAnswer}
 
--- what a vertex's buffer holds beside the cube number: the mask of its loop
+-- what a vertex's buffer holds beside the cube number: the mask of its loop (the corners are there for a word that says more)
 abbrev pub wordOf : List ℕ → ℕ → ℕ
 wordOf corners mask = mask
 

@@ -38,7 +38,7 @@ module _ (a b c d : Bool) where
       && (eqb ringCount 2 || eqb ringCount 4 && meetAt (not joined) i k)
 
 -- What decides a face with four crossed edges: from the threshold and the samples round the face, whether its positive corners are
--- joined. Everything but the decider of 01 itself holds of any.
+-- joined. What is proved of links and loops holds for any decider; 01's own is `joined`.
 abbrev pub Decider : Type 0
 Decider = Cut → ℕ → ℕ → ℕ → ℕ → Bool
 

@@ -1,5 +1,4 @@
 -- Lists over an index, one after the other, and a list put over the front of a buffer.
--- Assumes nothing.
 use Prim.Native.Nat.{ℕ, zero, suc}
 use mathlib.Core.List.{List, [], _++_}
 use lib.ListN.{length, drop}

@@ -1,5 +1,4 @@
 -- Sets of numbers as masks: bit e of a mask stands for the number e.
--- Assumes nothing.
 use Prim.Native.Nat.{ℕ, zero, suc, _+_, _*_, _/_, _%_, _^_}
 use mathlib.Core.Bool.{Bool, true, false, not, Bool·beq}
 use lib.Dec.{eqb}

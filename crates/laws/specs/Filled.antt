@@ -1,5 +1,4 @@
 -- A list that fills a fixed number of places.
--- Assumes nothing.
 use Prim.Native.Nat.{ℕ, _-_}
 use mathlib.Core.List.{List, _++_}
 use lib.ListN.{length, replicate}

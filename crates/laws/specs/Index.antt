@@ -1,5 +1,4 @@
 -- Numbering in a box, x fastest.
--- Assumes nothing.
 use Prim.Native.Nat.{ℕ, _+_, _*_}
 
 -- the index of (i,j,k) in a box that is w wide and h high

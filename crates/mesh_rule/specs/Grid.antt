@@ -68,10 +68,11 @@ hasEdge n a i j k c = atCube n (λ x y z. isCorner x y z i j k && ahead (isCorne
 abbrev pub crossedInner : Size → List ℕ → Cut → Axis → ℕ → Bool
 crossedInner n s cut a p = atSample n (λ i j k. inner n a i j k && crossedFrom n s cut a i j k) p
 
--- (i,j,k) lies on one of the twelve edges of the box: two of its coordinates are at an end
+-- c is the first or the last of n
 abbrev pub atEnd : ℕ → ℕ → Bool
 atEnd n c = eqb c 0 || eqb (c + 1) n
 
+-- (i,j,k) lies on one of the twelve edges of the box: two of its coordinates are at an end
 abbrev pub onBoxEdge : Size → ℕ → ℕ → ℕ → Bool
 onBoxEdge n i j k =
     atEnd (n .ny) j && atEnd (n .nz) k || atEnd (n .nx) i && atEnd (n .nz) k || atEnd (n .nx) i && atEnd (n .ny) j
