@@ -1,7 +1,7 @@
 -- Tests that compute, and what follows where they pass.
 -- Assumes nothing.
 use mathlib.Core.Path.{_≡_, refl, sym, subst}
-use mathlib.Core.Bool.{Bool, true, false, not, _&&_, Bool·beq}
+use mathlib.Core.Bool.{Bool, true, false, not, Bool·beq}
 use mathlib.Core.Logic.{_⊎_, inl, inr, ⊎-elim}
 use Prim.Native.Nat.{ℕ, zero, suc, _≤_, _<_}
 use native.Mathlib.Nat.{le-of-suc-le-suc, not-suc-le-zero, le-refl, le-trans, le-suc, eq-or-lt-of-le}
@@ -84,7 +84,3 @@ some-at (suc n) f t =
     ⊎-elim (λ (g : T (f n)). (n, le-refl (suc n), g))
     (λ (g : T (some n f)). let r = some-at n f g in (r .0, le-trans (r .1) (le-suc n), r .2))
     (cases (f n) (some n f) t)
-
-pub and-false : (b : Bool) → (b && false) ≡ false
-and-false true = refl
-and-false false = refl

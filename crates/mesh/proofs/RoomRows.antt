@@ -3,7 +3,6 @@
 use Prim.Native.Nat.{ℕ, _*_, _≤_, _<_}
 use mathlib.Core.Path.{_≡_, ap, _∙_}
 use mathlib.Core.Bool.{Bool, false, cond, _&&_, and-false}
-use mathlib.Core.List.{[], _∷_}
 use lib.Dec.{leb}
 use borrow.Author.Tests.{le-leb, lt-leb}
 use Rattle.block.specs.declared.Checked.{Checked}
@@ -11,14 +10,14 @@ use Rattle.block.specs.declared.Checked.the-variants.{Passes, Refuses}
 use Rattle.block.specs.Answer.{inOrder, refuses}
 use Rattle.block.proofs.Order.{order-refuses, order-passes, order-last}
 use Rattle.block.proofs.Rows.{given-small}
-use Rattle.mesh.specs.Answer.{vertexRow, quadRow}
+use Rattle.mesh.specs.Answer.{vertexRow, quadRow, roomRows}
 
 abbrev refusal : ℕ → ℕ → Checked
 refusal number value = Refuses (record { number = number; value = value })
 
 module _ (v q w o l : ℕ) where
   abbrev roomOf : Checked
-  roomOf = inOrder (vertexRow v w o ∷ quadRow q l ∷ [])
+  roomOf = inOrder (roomRows (record { vertices = v; quads = q }) w o l)
 
   vertex-short : v ≤ 4294967295 → (leb (2 * v) w && leb (3 * v) o) ≡ false → roomOf ≡ refusal 5 v
   vertex-short s h = order-refuses (vertexRow v w o) _ _ (ap (λ (b : Bool). cond b Passes (refuses 5 v)) h ∙ ap (refusal 5) (given-small v s))
