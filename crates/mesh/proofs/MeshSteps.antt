@@ -1,14 +1,10 @@
 -- The verdict of a call whose size is made: rows 2 to 4 first, then rows 5 and 6 with the counts. A refusal leaves the buffers, and where all
--- rows pass there is room for the whole mesh. Assumes nothing.
-use Prim.Native.Nat.{ℕ, _*_}
-use mathlib.Core.Path.{_≡_, refl, ap, sym, _∙_}
-use mathlib.Core.Bool.{Bool, true, false, cond, _&&_}
-use mathlib.Core.List.{List, [], _∷_, _++_}
-use native.Mathlib.Omega.{arith}
-use lib.Dec.{leb}
+-- rows pass there is room for the whole mesh.
+use Prim.Native.Nat.{ℕ}
+use mathlib.Core.Path.{_≡_, ap, sym, _∙_}
+use mathlib.Core.List.{List, _++_}
 use lib.ListN.{length}
 use lib.Ieee.{Float}
-use borrow.Author.Tests.{leb-true}
 use Rattle.cube_rule.specs.Decider.{loopsOf}
 use Rattle.laws.specs.Below.{over}
 use Rattle.block.specs.declared.Cut.{Cut}
@@ -16,19 +12,14 @@ use Rattle.block.specs.declared.Size.{Size}
 use Rattle.block.specs.declared.Refusal.{Refusal}
 use Rattle.block.specs.declared.Checked.{Checked}
 use Rattle.block.specs.declared.Checked.the-variants.{Passes, Refuses}
-use Rattle.block.specs.Answer.{inOrder, refuses, decided}
-use Rattle.block.proofs.Order.{orders-refuse, orders-pass, order-first, order-rest}
+use Rattle.block.specs.Answer.{inOrder, decided}
+use Rattle.block.proofs.Order.{orders-refuse, orders-pass}
 use Rattle.mesh.specs.declared.Totals.{Totals}
 use Rattle.mesh.specs.declared.Counted.the-variants as counted
-use Rattle.mesh.specs.Answer.{blockRows, roomRows, countsOf, vertexRow, quadRow, vertexCount, quadCount, written, MeshedBy}
+use Rattle.mesh.specs.Answer.{blockRows, roomRows, countsOf, vertexCount, quadCount, written, MeshedBy}
 use Rattle.mesh.specs.Writes.{Roomy, BlockWritten}
+use Rattle.mesh.proofs.RoomRows.{room-passes}
 use Rattle.mesh.proofs.Verdicts.{refused-by, judged-passed}
-
--- both tests of a row that passes hold
-both : (a b : Bool) (number value : ℕ) → cond (a && b) Passes (refuses number value) ≡ Passes → (a ≡ true) × (b ≡ true)
-both true true number value e = (refl, refl)
-both true false number value e = let z : _≡_ {A = ℕ} 0 1 = cc in absurd (omega arith)
-both false b number value e = let z : _≡_ {A = ℕ} 0 1 = cc in absurd (omega arith)
 
 written-passed : {A : Type 0} (k : Checked) (xs b b′ : List A) → k ≡ Passes → b′ ≡ over xs b → b′ ≡ written k xs b
 unfolding decided
@@ -58,14 +49,8 @@ module _ (n : Size) (s : List ℕ) (cut : Cut) where
 
     pub roomy-of : (c : Totals) → c ≡ countsOf n s cut → late c ≡ Passes → Roomy loopsOf n s cut w o q
     roomy-of c f h =
-        let l : late (countsOf n s cut) ≡ Passes = ap late (sym f) ∙ h in
-        let v = both (leb (2 * vertexCount n s cut) (length w)) (leb (3 * vertexCount n s cut) (length o)) 5 (vertexCount n s cut) (order-first (vertexRow (vertexCount n s cut) (length w) (length o)) _ l) in
-        let p = both true (leb (4 * quadCount n s cut) (length q)) 6 (quadCount n s cut) (order-first (quadRow (quadCount n s cut) (length q)) _ (order-rest (vertexRow (vertexCount n s cut) (length w) (length o)) _ l)) in
-        record {
-          words = leb-true (2 * vertexCount n s cut) (length w) (v .0);
-          offsets = leb-true (3 * vertexCount n s cut) (length o) (v .1);
-          quads = leb-true (4 * quadCount n s cut) (length q) (p .1);
-        }
+        let p = room-passes (vertexCount n s cut) (quadCount n s cut) (length w) (length o) (length q) (ap late (sym f) ∙ h) in
+        record { words = p .0; offsets = p .1; quads = p .2 }
 
     -- all pass
     pub passed-by : early ≡ Passes → (c : Totals) → c ≡ countsOf n s cut → late c ≡ Passes → (w′ : List ℕ) (o′ : List Float) (q′ : List ℕ)
