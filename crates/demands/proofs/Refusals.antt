@@ -43,16 +43,20 @@ module _ {A : Type 0} (ks : List Checked) (a : A) (said : Answer A) (promise : s
     λ f. refused-exactly (inOrder ks) a said promise x .1 (first-exactly ks x .1 f),
   )
 
+-- where there is one row only, anything else is answered exactly when it passes
+accepts-by : {A : Type 0} (k : Checked) (a : A) (said : Answer A) → said ≡ judged (inOrder (k ∷ [])) a → (b : A) → (said ≡ accepted b) ↔ ((k ≡ Passes) × (b ≡ a))
+accepts-by k a said promise b = (
+  λ e. let h = accepted-exactly _ _ _ promise b .0 e in (sym (order-last k) ∙ h .0, h .1),
+  λ h. accepted-exactly _ _ _ promise b .1 (order-last k ∙ h .0, h .1),
+)
+
 -- the size
 module _ (nx ny nz : ℕ) (r : Sized) (promise : SizeMade nx ny nz r) where
   pub size-refuses : (x : Refusal) → (saidSize r ≡ refused x) ↔ First (axisRow nx ny nz ∷ []) x
   size-refuses = refuses-by _ _ _ promise
 
   pub size-accepts : (n : Size) → (saidSize r ≡ accepted n) ↔ ((axisRow nx ny nz ≡ Passes) × (n ≡ sizeOf nx ny nz))
-  size-accepts n = (
-    λ e. let h = accepted-exactly _ _ _ promise n .0 e in (sym (order-last (axisRow nx ny nz)) ∙ h .0, h .1),
-    λ h. accepted-exactly _ _ _ promise n .1 (order-last (axisRow nx ny nz) ∙ h .0, h .1),
-  )
+  size-accepts = accepts-by _ _ _ promise
 
 -- the edge question
 module _ (p q t : ℕ) (r : Crossing) (promise : EdgeAnswered p q t r) where
@@ -86,10 +90,7 @@ module _ (quads : List ℕ) (r : Closure) (promise : ClosedAnswered quads r) whe
   closed-refuses = refuses-by _ _ _ promise
 
   pub closed-accepts : (f : Finding) → (saidClosure r ≡ accepted f) ↔ ((lengthRow quads ≡ Passes) × (f ≡ findingOf quads))
-  closed-accepts f = (
-    λ e. let h = accepted-exactly _ _ _ promise f .0 e in (sym (order-last (lengthRow quads)) ∙ h .0, h .1),
-    λ h. accepted-exactly _ _ _ promise f .1 (order-last (lengthRow quads) ∙ h .0, h .1),
-  )
+  closed-accepts = accepts-by _ _ _ promise
 
 -- ---- meshing
 

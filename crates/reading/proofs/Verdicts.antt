@@ -49,61 +49,46 @@ module _ (bytes : List ℕ) (n : Size) (cut : Cut) where
 
 -- ---- which numbers the program gives, and that its values fit
 
--- a refusal of the program has the number 1, 3, 4, 8 or 9
+-- a refusal of the program has the number 1, 3, 4, 8 or 9, and its value is given, so eight digits are enough
+run-refusals : (bytes : List ℕ) (x : Refusal) → inputVerdict bytes ≡ Refuses x
+    → ((x .number ≡ 1) ⊎ ((x .number ≡ 3) ⊎ ((x .number ≡ 4) ⊎ ((x .number ≡ 8) ⊎ (x .number ≡ 9))))) × (x .value ≤ 4294967295)
+run-refusals bytes =
+    first-has (λ (x : Refusal). ((x .number ≡ 1) ⊎ ((x .number ≡ 3) ⊎ ((x .number ≡ 4) ⊎ ((x .number ≡ 8) ⊎ (x .number ≡ 9))))) × (x .value ≤ 4294967295)) _ (
+      λ x e. let h = told x 1 (holds-unless (lineRight bytes 0 16) 8 1 x e) in (inr (inr (inr (inl (h .0)))), h .1),
+      (
+        λ x e. let h = told x (lowest outOfLimits axes) (lowest-refusal 1 outOfLimits axes x e .1) in (inl (h .0), h .1),
+        (
+          λ x e. let h = told x (lowest (ltb 8) axes) (lowest-refusal 9 (ltb 8) axes x e .1) in (inr (inr (inr (inr (h .0)))), h .1),
+          (
+            λ x e. let h = told x (cutRead bytes .t) (holds-where (noThreshold (cutRead bytes)) 3 (cutRead bytes .t) x e) in (inr (inl (h .0)), h .1),
+            (
+              λ x e. let h = told x (right + 2) (holds-unless (eqb right (n .ny * n .nz + 1)) 8 (right + 2) x e) in (inr (inr (inr (inl (h .0)))), h .1),
+              (
+                λ x e.
+                let h = told x (lowest isCeiling (samplesRead bytes n)) (lowest-refusal 4 isCeiling (samplesRead bytes n) x e .1) in (inr (inr (inl (h .0))), h .1),
+                tt,
+              ),
+            ),
+          ),
+        ),
+      ),
+    )
+  where
+    n : Size
+    n = sizeRead bytes
+
+    axes : List ℕ
+    axes = sizeRead bytes .nx ∷ sizeRead bytes .ny ∷ sizeRead bytes .nz ∷ []
+
+    right : ℕ
+    right = rightLines bytes (sizeRead bytes .nx) (sizeRead bytes .ny * sizeRead bytes .nz)
+
+    told : (x : Refusal) {m : ℕ} (v : ℕ) → x ≡ record { number = m; value = given v } → (x .number ≡ m) × (x .value ≤ 4294967295)
+    told x v e = (ap (λ (r : Refusal). r .number) e, omega (arith, ap (λ (r : Refusal). r .value) e))
+
 pub run-numbers : (bytes : List ℕ) (x : Refusal) → inputVerdict bytes ≡ Refuses x
     → (x .number ≡ 1) ⊎ ((x .number ≡ 3) ⊎ ((x .number ≡ 4) ⊎ ((x .number ≡ 8) ⊎ (x .number ≡ 9))))
-run-numbers bytes =
-    first-has (λ (x : Refusal). (x .number ≡ 1) ⊎ ((x .number ≡ 3) ⊎ ((x .number ≡ 4) ⊎ ((x .number ≡ 8) ⊎ (x .number ≡ 9))))) _ (
-      λ x e. inr (inr (inr (inl (number (holds-unless (lineRight bytes 0 16) 8 1 x e))))),
-      (
-        λ x e. inl (number (lowest-refusal 1 outOfLimits axes x e .1)),
-        (
-          λ x e. inr (inr (inr (inr (number (lowest-refusal 9 (ltb 8) axes x e .1))))),
-          (
-            λ x e. inr (inl (number (holds-where (noThreshold (cutRead bytes)) 3 (cutRead bytes .t) x e))),
-            (
-              λ x e. inr (inr (inr (inl (number (holds-unless (eqb (rightLines bytes (n .nx) (n .ny * n .nz)) (n .ny * n .nz + 1)) 8 (rightLines bytes (n .nx) (n .ny * n .nz) + 2) x e))))),
-              (λ x e. inr (inr (inl (number (lowest-refusal 4 isCeiling (samplesRead bytes n) x e .1)))), tt),
-            ),
-          ),
-        ),
-      ),
-    )
-  where
-    n : Size
-    n = sizeRead bytes
+run-numbers bytes x e = run-refusals bytes x e .0
 
-    axes : List ℕ
-    axes = sizeRead bytes .nx ∷ sizeRead bytes .ny ∷ sizeRead bytes .nz ∷ []
-
-    number : {x : Refusal} {m v : ℕ} → x ≡ record { number = m; value = v } → x .number ≡ m
-    number e = ap (λ (r : Refusal). r .number) e
-
--- every value is given, so eight digits are enough
 pub run-values : (bytes : List ℕ) (x : Refusal) → inputVerdict bytes ≡ Refuses x → x .value ≤ 4294967295
-run-values bytes =
-    first-has (λ (x : Refusal). x .value ≤ 4294967295) _ (
-      λ x e. value x 1 (holds-unless (lineRight bytes 0 16) 8 1 x e),
-      (
-        λ x e. value x (lowest outOfLimits axes) (lowest-refusal 1 outOfLimits axes x e .1),
-        (
-          λ x e. value x (lowest (ltb 8) axes) (lowest-refusal 9 (ltb 8) axes x e .1),
-          (
-            λ x e. value x (cutRead bytes .t) (holds-where (noThreshold (cutRead bytes)) 3 (cutRead bytes .t) x e),
-            (
-              λ x e. value x (rightLines bytes (n .nx) (n .ny * n .nz) + 2) (holds-unless (eqb (rightLines bytes (n .nx) (n .ny * n .nz)) (n .ny * n .nz + 1)) 8 (rightLines bytes (n .nx) (n .ny * n .nz) + 2) x e),
-              (λ x e. value x (lowest isCeiling (samplesRead bytes n)) (lowest-refusal 4 isCeiling (samplesRead bytes n) x e .1), tt),
-            ),
-          ),
-        ),
-      ),
-    )
-  where
-    n : Size
-    n = sizeRead bytes
-
-    axes : List ℕ
-    axes = sizeRead bytes .nx ∷ sizeRead bytes .ny ∷ sizeRead bytes .nz ∷ []
-
-    value : (x : Refusal) {m : ℕ} (v : ℕ) → x ≡ record { number = m; value = given v } → x .value ≤ 4294967295
-    value x v e = omega (arith, ap (λ (r : Refusal). r .value) e)
+run-values bytes x e = run-refusals bytes x e .1

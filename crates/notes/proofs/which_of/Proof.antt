@@ -1,6 +1,7 @@
 -- `which_of` meets its contract.
 -- Assumes nothing.
 use borrow.Author.Needs.{needs}
+use mathlib.Core.Path.{refl}
 use Rattle.notes.specs.Tables.{whichOf}
 use Rattle.notes.proofs.which_of.Statement.{statement}
 use Rattle.notes.proofs.which_of.Tie as tie
@@ -34,7 +35,7 @@ add-result c = search needs
 -- src/lib.rt:84:1
 returns : tie.Need-returns
 unfolding whichOf
-returns c = search needs
+returns c = refl
 
 pub which-of-spec : {M : Type 1} → statement M
 which-of-spec =

@@ -1,6 +1,7 @@
 -- `corners` meets its contract: each of the eight samples is in a window.
 -- Assumes nothing.
 use borrow.Author.Needs.{needs}
+use mathlib.Core.Path.{refl}
 use Rattle.signs.specs.Windows.{windowCorners}
 use Rattle.rows.proofs.corners.Statement.{statement}
 use Rattle.rows.proofs.corners.Tie as tie
@@ -106,7 +107,7 @@ shared-slice-read-t36 c = search needs
 -- src/lib.rt:23:1
 returns : tie.Need-returns
 unfolding windowCorners
-returns c = search needs
+returns c = refl
 
 pub corners-spec : {M : Type 1} → statement M
 corners-spec =
