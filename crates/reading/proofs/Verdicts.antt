@@ -65,7 +65,7 @@ run-refusals bytes =
               λ x e. let h = told x (right + 2) (holds-unless (eqb right (n .ny * n .nz + 1)) 8 (right + 2) x e) in (inr (inr (inr (inl (h .0)))), h .1),
               (
                 λ x e.
-                let h = told x (lowest isCeiling (samplesRead bytes n)) (lowest-refusal 4 isCeiling (samplesRead bytes n) x e .1) in (inr (inr (inl (h .0))), h .1),
+                    let h = told x (lowest isCeiling (samplesRead bytes n)) (lowest-refusal 4 isCeiling (samplesRead bytes n) x e .1) in (inr (inr (inl (h .0))), h .1),
                 tt,
               ),
             ),
