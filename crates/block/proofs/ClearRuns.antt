@@ -1,9 +1,9 @@
 -- Counting the samples at the ceiling: one sample more, and what follows where there is none.
 -- Assumes nothing.
 use Prim.Native.Nat.{ℕ, zero, suc, _+_, _-_, _<_, _≤_}
-use mathlib.Core.Path.{_≡_, refl, ap, sym, _∙_, subst}
+use mathlib.Core.Path.{_≡_, refl, ap, ap₂, sym, _∙_, subst}
 use mathlib.Core.Bool.{Bool, true, false}
-use mathlib.Core.Logic.{_⊎_, inl, inr, ⊎-elim}
+use mathlib.Core.Logic.{⊎-elim}
 use mathlib.Core.List.{List}
 use native.Mathlib.Nat.{eq-or-lt-of-le, le-of-suc-le-suc, not-suc-le-zero}
 use native.Mathlib.Numerals.{add-one}
@@ -11,9 +11,11 @@ use native.Mathlib.Omega.{arith}
 use lib.ListN.{length, getD}
 use Rattle.laws.specs.Bits.{bit}
 use Rattle.laws.specs.Counting.{count}
+use Rattle.laws.proofs.Counting.{count-add}
 use Rattle.laws.proofs.Tests.{lt-or-ge}
+use Rattle.block.specs.Ceilings.{ceilingsBefore}
 use Rattle.block.specs.Grey.{isCeiling}
-use Rattle.block.specs.Steps.{ClearBefore}
+use Rattle.block.specs.Steps.{ClearBefore, CountedTo}
 
 pub count-none : (f : ℕ → Bool) → count f 0 ≡ 0
 unfolding count
@@ -24,7 +26,7 @@ unfolding count
 count-next f n = ap (count f) (add-one n)
 
 -- none counted, none there
-count-clear : (f : ℕ → Bool) (n : ℕ) → count f n ≡ 0 → (k : ℕ) → k < n → f k ≡ false
+pub count-clear : (f : ℕ → Bool) (n : ℕ) → count f n ≡ 0 → (k : ℕ) → k < n → f k ≡ false
 unfolding count
 count-clear f zero e k h = absurd (not-suc-le-zero h)
 count-clear f (suc n) e k h =
@@ -33,6 +35,12 @@ count-clear f (suc n) e k h =
     off : (b : Bool) → bit b ≡ 0 → b ≡ false
     off true e = absurd (omega arith)
     off false e = refl
+
+-- none there, none counted
+pub clear-count : (f : ℕ → Bool) (n : ℕ) → ((k : ℕ) → k < n → f k ≡ false) → count f n ≡ 0
+unfolding count
+clear-count f zero h = refl
+clear-count f (suc n) h = rw (clear-count f n (λ k l. h k (omega arith)), h n (omega arith))
 
 -- 256 samples more
 pub clear-more : (s : List ℕ) (i : ℕ) → i + 256 ≤ length s → ClearBefore s i → count (λ (x : ℕ). isCeiling (getD s (i + x) 0)) 256 ≡ 0 → ClearBefore s (i + 256)
@@ -43,3 +51,23 @@ clear-more s i h c e = (h, λ (k : ℕ) (l : k < i + 256). ⊎-elim (c .1 k) (λ
       where
         back : (k : ℕ) → i ≤ k → i + (k - i) ≡ k
         back k g = omega arith
+
+-- ---- counted so far
+
+pub counted-none : (s : List ℕ) (i : ℕ) → ClearBefore s i → CountedTo s 0 i
+counted-none s i c = (c .0, omega arith, sym (clear-count (λ (x : ℕ). isCeiling (getD s x 0)) i (c .1)))
+
+-- m samples more, of which r are at the ceiling
+pub counted-more : (s : List ℕ) (n i m r : ℕ) → CountedTo s n i → i + m ≤ length s → r ≤ m → r ≡ count (λ (x : ℕ). isCeiling (getD s (i + x) 0)) m → CountedTo s (n + r) (i + m)
+counted-more s n i m r (a, b, e) h l is = (h, omega (arith, b, l), ap₂ (λ (x y : ℕ). x + y) e is ∙ sym (count-add (λ (x : ℕ). isCeiling (getD s x 0)) i m))
+
+-- one sample more
+pub counted-next : (s : List ℕ) (n i r : ℕ) → CountedTo s n i → i < length s → r ≤ 1 → r ≡ bit (isCeiling (getD s i 0)) → CountedTo s (n + r) (i + 1)
+counted-next s n i r (a, b, e) h l is = (omega (arith, h), omega (arith, b, l), ap₂ (λ (x y : ℕ). x + y) e is ∙ sym (count-next (λ (x : ℕ). isCeiling (getD s x 0)) i))
+
+-- no sample more
+pub counted-all : (s : List ℕ) (n i : ℕ) → CountedTo s n i → length s ≤ i → n ≡ ceilingsBefore s (length s)
+counted-all s n i (a, b, e) h = e ∙ ap (ceilingsBefore s) (end a)
+  where
+    end : i ≤ length s → i ≡ length s
+    end a = omega (arith, a, h)

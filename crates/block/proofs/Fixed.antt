@@ -5,11 +5,14 @@ use mathlib.Core.List.{List}
 use Prim.Native.Nat.{ℕ, _≤_}
 use Rattle.laws.specs.Fixed.{Fixes}
 use Rattle.laws.proofs.Fixed.{equation-fixes}
+use Rattle.block.specs.declared.CeilingCount.{CeilingCount}
 use Rattle.block.specs.declared.Checked.{Checked}
 use Rattle.block.specs.declared.Cut.{Cut}
 use Rattle.block.specs.declared.Size.{Size}
 use Rattle.block.specs.Numbering.{sampleCount}
-use Rattle.block.specs.Rows.{countRow, thresholdRow, ceilingRow}
+use Rattle.block.specs.Answer.{given}
+use Rattle.block.specs.Ceilings.{ceilingsIn}
+use Rattle.block.specs.Rows.{countRow, thresholdRow}
 
 -- of `Size::nx`, `Size::ny` and `Size::nz`
 pub nx-fixed : (n : Size) → Fixes (λ (r : ℕ). r ≡ n .nx)
@@ -25,12 +28,16 @@ nz-fixed n = equation-fixes (n .nz)
 pub samples-fixed : (n : Size) → Fixes (λ (r : ℕ). (r ≡ sampleCount n) × (r ≤ 16777216))
 samples-fixed n a b p q = equation-fixes (sampleCount n) a b (p .0) (q .0)
 
--- of `check_count`, `check_threshold` and `check_ceiling`
+-- of `check_count` and `check_threshold`
 pub check-count-fixed : (n : Size) (count : ℕ) → Fixes (λ (r : Checked). r ≡ countRow n count)
 check-count-fixed n count = equation-fixes (countRow n count)
 
 pub check-threshold-fixed : (cut : Cut) → Fixes (λ (r : Checked). r ≡ thresholdRow cut)
 check-threshold-fixed cut = equation-fixes (thresholdRow cut)
 
-pub check-ceiling-fixed : (samples : List ℕ) → Fixes (λ (r : Checked). r ≡ ceilingRow samples)
-check-ceiling-fixed samples = equation-fixes (ceilingRow samples)
+-- of `short` and `ceilings`
+pub short-fixed : (n : ℕ) → Fixes (λ (r : ℕ). r ≡ given n)
+short-fixed n = equation-fixes (given n)
+
+pub ceilings-fixed : (samples : List ℕ) → Fixes (λ (r : CeilingCount). r ≡ ceilingsIn samples)
+ceilings-fixed samples = equation-fixes (ceilingsIn samples)

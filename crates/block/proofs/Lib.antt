@@ -4,5 +4,5 @@ pub mod Rows
 pub mod Sizes
 pub mod Fixed
 pub mod Order
-pub mod Accepted
 pub mod ClearRuns
+pub mod Saturated

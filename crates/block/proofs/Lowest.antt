@@ -1,17 +1,15 @@
 -- The lowest place at which a test holds: it holds there and nowhere before. What follows for a row of the table of refusals.
-use mathlib.Core.Path.{_≡_, refl, ap, sym, _∙_, subst}
+use mathlib.Core.Path.{_≡_, refl, sym, _∙_}
 use mathlib.Core.Bool.{Bool, true, false, cond, true≢false}
 use mathlib.Core.Logic.{_⊎_, inl, inr}
 use mathlib.Core.List.{List, [], _∷_}
-use Prim.Native.Nat.{ℕ, zero, suc, _+_, _≤_, _<_}
+use Prim.Native.Nat.{ℕ, zero, suc, _≤_, _<_}
 use native.Mathlib.Nat.{not-suc-le-zero, le-of-suc-le-suc}
 use native.Mathlib.Omega.{arith}
-use lib.Dec.{ltb}
 use lib.ListN.{length, getD}
-use borrow.Author.Tests.{lt-ltb, le-ltb}
+use borrow.Author.Tests.{lt-ltb}
 use Rattle.laws.proofs.Tests.{lt-or-ge}
-use Rattle.block.specs.declared.Checked.{Checked}
-use Rattle.block.specs.declared.Checked.the-variants.{Passes, Refuses}
+use Rattle.block.specs.declared.Checked.the-variants.{Passes}
 use Rattle.block.specs.Answer.{refuses}
 use Rattle.block.specs.Rows.{lowest, lowestRow}
 
@@ -29,11 +27,6 @@ module _ {A : Type 0} (bad : A → Bool) where
   pub row-refuses : (number : ℕ) (xs : List A) → lowest bad xs < length xs → lowestRow number bad xs ≡ refuses number (lowest bad xs)
   unfolding lowestRow
   row-refuses number xs h = simp (lt-ltb (lowest bad xs) (length xs) h)
-
-  -- and passes where none is
-  pub row-passes : (number : ℕ) (xs : List A) → length xs ≤ lowest bad xs → lowestRow number bad xs ≡ Passes
-  unfolding lowestRow
-  row-passes number xs h = simp (le-ltb (lowest bad xs) (length xs) h)
 
 -- d stands for what is past the end
 module _ {A : Type 0} (bad : A → Bool) (d : A) where

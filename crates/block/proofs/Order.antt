@@ -58,10 +58,6 @@ unfolding inOrder
 order-rest Passes ks e = e
 order-rest (Refuses q) ks e = absurd (passes-refuses (sym e))
 
-pub orders-rest : (ks ls : List Checked) → inOrder (ks ++ ls) ≡ Passes → inOrder ls ≡ Passes
-orders-rest [] ls e = e
-orders-rest (k ∷ ks) ls e = orders-rest ks ls (order-rest k (ks ++ ls) e)
-
 -- ---- "given exactly when": a refusal is that of the first check that refuses, and there is none exactly if each check passes
 
 pub first-exactly : (ks : List Checked) (r : Refusal) → (inOrder ks ≡ Refuses r) ↔ First ks r

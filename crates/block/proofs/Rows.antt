@@ -1,5 +1,5 @@
--- What rows 2 and 4 say, by cases, and what a row refuses with.
-use mathlib.Core.Path.{_≡_, refl, sym, ap, _∙_}
+-- What row 2 says, by cases, and what a row refuses with.
+use mathlib.Core.Path.{_≡_, refl, ap}
 use mathlib.Core.Bool.{Bool, true, false, cond}
 use mathlib.Core.List.{List}
 use lib.Dec.{ltb}
@@ -12,10 +12,8 @@ use Rattle.block.specs.declared.Checked.{Checked}
 use Rattle.block.specs.declared.Checked.the-variants.{Passes, Refuses}
 use Rattle.block.specs.declared.Size.{Size}
 use Rattle.block.specs.Answer.{given, refuses}
-use Rattle.block.specs.Grey.{isCeiling}
 use Rattle.block.specs.Numbering.{sampleCount}
-use Rattle.block.specs.Rows.{countRow, ceilingRow, lowest, lowestRow}
-use Rattle.block.proofs.Lowest.{lowest-le, row-refuses, row-passes}
+use Rattle.block.specs.Rows.{countRow, lowest, lowestRow}
 use Rattle.block.proofs.Order.{passes-refuses}
 
 pub given-small : (n : ℕ) → n ≤ 4294967295 → given n ≡ n
@@ -58,16 +56,3 @@ module _ (n : Size) (count : ℕ) where
 
   pub count-refuses : (count ≡ sampleCount n → ⊥) → sampleCount n ≤ 4294967295 → countRow n count ≡ refusal 2 (sampleCount n)
   count-refuses h l = rw (ne-eqb count (sampleCount n) h) (ap (refusal 2) (given-small (sampleCount n) l))
-
-module _ (samples : List ℕ) (i : ℕ) (is : i ≡ lowest isCeiling samples) where
-  pub ceiling-passes : i ≡ length samples → ceilingRow samples ≡ Passes
-  ceiling-passes h = row-passes isCeiling 4 samples (omega arith)
-
-  at : (i ≡ length samples → ⊥) → ceilingRow samples ≡ refusal 4 (given i)
-  at h = row-refuses isCeiling 4 samples (omega (arith, lowest-le isCeiling samples, h)) ∙ ap (λ (k : ℕ). refusal 4 (given k)) (sym is)
-
-  pub ceiling-refuses : (i ≡ length samples → ⊥) → i ≤ 4294967295 → ceilingRow samples ≡ refusal 4 i
-  ceiling-refuses h l = at h ∙ ap (refusal 4) (given-small i l)
-
-  pub ceiling-refuses-far : (i ≡ length samples → ⊥) → 4294967295 ≤ i → ceilingRow samples ≡ refusal 4 4294967295
-  ceiling-refuses-far h l = at h ∙ ap (refusal 4) (given-large i l)

@@ -1,22 +1,19 @@
 -- A size that `Size::new` answers is within its limits, and its promise fixes its answer.
 -- Assumes nothing.
 use mathlib.Core.Path.{_≡_, refl, ap, sym, _∙_}
-use mathlib.Core.Bool.{Bool, true, false, cond, _||_}
-use mathlib.Core.List.{List, [], _∷_}
-use Prim.Native.Nat.{ℕ, zero, suc, _+_, _*_, _≤_, _<_, min}
+use mathlib.Core.Bool.{Bool, true, false, _||_}
+use mathlib.Core.List.{[], _∷_}
+use Prim.Native.Nat.{ℕ, _≤_, _<_}
 use native.Mathlib.Omega.{arith}
 use lib.Dec.{ltb}
-use lib.ListN.{length, getD}
-use borrow.Author.Tests.{ltb-true, ltb-false, lt-ltb, le-ltb}
+use borrow.Author.Tests.{ltb-false, lt-ltb, le-ltb}
 use Rattle.laws.specs.Fixed.{Fixes}
 use Rattle.laws.proofs.Fixed.{Injective, said-fixes}
 use Rattle.block.specs.declared.Refusal.{Refusal}
-use Rattle.block.specs.declared.Checked.{Checked}
 use Rattle.block.specs.declared.Checked.the-variants.{Passes, Refuses}
 use Rattle.block.specs.declared.Size.{Size}
-use Rattle.block.specs.declared.Sized.{Sized}
 use Rattle.block.specs.declared.Sized.the-variants.{Made, BadAxis}
-use Rattle.block.specs.Answer.{Answer, accepted, refused, inOrder, decided, judged}
+use Rattle.block.specs.Answer.{inOrder, decided}
 use Rattle.block.specs.Rows.{shortest, longest, outOfLimits, axisRow, lowestRow, lowest}
 use Rattle.block.specs.Size.{saidSize, sizeAnswer, SizeMade, Limits}
 use Rattle.block.proofs.Lowest.{row-clear}

@@ -1,7 +1,7 @@
 -- Grey values and the threshold (document 01, "The block and its numbering").
 use Prim.Native.Nat.{ℕ, _<_}
-use mathlib.Core.Bool.{Bool, _||_}
-use mathlib.Core.List.{List}
+use mathlib.Core.Bool.{Bool, false, _||_}
+use mathlib.Core.List.{List, [], _∷_}
 use lib.Dec.{leb, eqb}
 use lib.ListN.{getD}
 use Rattle.laws.specs.Bits.{differ}
@@ -15,12 +15,17 @@ SixteenBit samples = (k : ℕ) → getD samples k 0 < 65536
 abbrev pub cutOf : ℕ → Cut
 cutOf t = record { t = t }
 
--- the detector's ceiling: "no grey value"
+-- the detector's ceiling: what the detector saw there is not known, and it "is taken as a positive sample of that value"
 abbrev pub ceiling : ℕ
 ceiling = 65535
 
 abbrev pub isCeiling : ℕ → Bool
 isCeiling s = eqb s ceiling
+
+-- some of these samples is at the ceiling
+abbrev pub hasCeiling : List ℕ → Bool
+hasCeiling [] = false
+hasCeiling (s ∷ samples) = isCeiling s || hasCeiling samples
 
 -- "Threshold t: 1 to 65,534"
 abbrev pub noThreshold : Cut → Bool

@@ -1,5 +1,5 @@
-pub mod Accepted
 pub mod Answer
+pub mod Ceilings
 pub mod Grey
 pub mod Numbering
 pub mod Rows

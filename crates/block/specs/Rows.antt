@@ -1,15 +1,15 @@
--- Rows 1 to 4 of the table of refusals, each as a check of its own (document 01, "Numbers of refusal").
-use Prim.Native.Nat.{ℕ, zero, suc}
+-- Rows 1 to 3 of the table of refusals, each as a check of its own (document 01, "Numbers of refusal").
+use Prim.Native.Nat.{ℕ, suc}
 use mathlib.Core.Bool.{Bool, cond, _||_}
 use mathlib.Core.List.{List, [], _∷_}
 use lib.Dec.{ltb, eqb}
 use lib.ListN.{length}
 use Rattle.block.specs.declared.Checked.{Checked}
-use Rattle.block.specs.declared.Checked.the-variants.{Passes, Refuses}
+use Rattle.block.specs.declared.Checked.the-variants.{Passes}
 use Rattle.block.specs.declared.Cut.{Cut}
 use Rattle.block.specs.declared.Size.{Size}
 use Rattle.block.specs.Answer.{refuses}
-use Rattle.block.specs.Grey.{isCeiling, noThreshold}
+use Rattle.block.specs.Grey.{noThreshold}
 use Rattle.block.specs.Numbering.{sampleCount}
 
 -- the lowest place of a list at which the test holds; its length where there is none
@@ -43,11 +43,3 @@ countRow n count = cond (eqb count (sampleCount n)) Passes (refuses 2 (sampleCou
 -- 3: t is 0 or 65,535; t
 abbrev pub thresholdRow : Cut → Checked
 thresholdRow cut = cond (noThreshold cut) (refuses 3 (cut .t)) Passes
-
--- 4: some sample is 65,535; the lowest such index (of a cube's corners: the lowest corner; of an edge's ends: lower 0, upper 1)
-abbrev pub ceilingRow : List ℕ → Checked
-ceilingRow samples = lowestRow 4 isCeiling samples
-
--- rows 3 and 4, which are tried of samples wherever there are some
-abbrev pub sampleRows : Cut → List ℕ → List Checked
-sampleRows cut samples = thresholdRow cut ∷ ceilingRow samples ∷ []

@@ -1,8 +1,7 @@
 -- A block's size: what `Size::new` answers, in 01's numbers, and the limits that every size keeps.
 use Prim.Native.Nat.{ℕ, _≤_}
 use mathlib.Core.Path.{_≡_}
-use mathlib.Core.List.{List, [], _∷_}
-use Rattle.block.specs.declared.Refusal.{Refusal}
+use mathlib.Core.List.{[], _∷_}
 use Rattle.block.specs.declared.Size.{Size}
 use Rattle.block.specs.declared.Sized.{Sized}
 use Rattle.block.specs.declared.Sized.the-variants.{Made, BadAxis}

@@ -1,13 +1,15 @@
-// The block: its size, the threshold, refusals by number, and the checks of rows 1 to 4 (document 01, "The block and its numbering" and
-// "Numbers of refusal").
+// The block: its size, the threshold, refusals by number, the checks of rows 1 to 3 (document 01, "The block and its numbering" and
+// "Numbers of refusal"), and the samples at the detector's ceiling.
 ghost use mathlib.Core.Path.{_≡_};
 ghost use Prim.Native.Nat.{ℕ, _+_, _≤_};
 ghost use lib.ListN.{length, getD};
 ghost use Rattle.laws.specs.Bits.{bit};
 ghost use Rattle.laws.specs.Counting.{count};
+ghost use Rattle.block.specs.Answer.{given};
+ghost use Rattle.block.specs.Ceilings.{ceilingsBefore, ceilingsIn};
 ghost use Rattle.block.specs.Grey.{isCeiling};
 ghost use Rattle.block.specs.Numbering.{sampleCount};
-ghost use Rattle.block.specs.Rows.{countRow, thresholdRow, ceilingRow, lowest};
+ghost use Rattle.block.specs.Rows.{countRow, thresholdRow, lowest};
 ghost use Rattle.block.specs.Steps.{ClearBefore};
 ghost use Rattle.block.specs.Size.{Limits, SizeMade};
 
@@ -26,6 +28,12 @@ pub enum Checked {
 // The threshold, as a value that travels whole.
 pub struct Cut {
     pub t: u16,
+}
+
+// How many samples are at the detector's ceiling, and the lowest index of one.
+pub struct CeilingCount {
+    pub count: u32,
+    pub lowest: u32,
 }
 
 // A block's axis lengths, in samples. Only `Size::new` makes one.
@@ -138,46 +146,29 @@ pub fn check_threshold(cut: Cut) -> Checked
     Checked::Passes
 }
 
-// 1 for a sample at the detector's ceiling, 0 for another.
-fn at_ceiling(sample: u16) -> u16
-    ensures { λ r. ⌜ r ≡ bit (isCeiling sample) ⌝ }
-    ensures { λ r. ⌜ r ≤ 1 ⌝ }
+// A number in an answer: above 4,294,967,295 it is given as that.
+pub fn short(n: usize) -> u32
+    ensures { λ r. ⌜ r ≡ given n ⌝ }
 {
-    if sample == 65535 {
-        return 1;
+    if n > 4294967295 {
+        return 4294967295;
     }
-    0
+    n as u32
 }
 
-// How many of 256 samples are at the ceiling. The loop has no way out, so the compiler takes eight samples at a time.
-fn ceilings(samples: &[u16], from: usize) -> u16
-    requires { ⌜ from + 256 ≤ length (now samples) ⌝ }
-    ensures { λ r. ⌜ r ≡ count (λ (i : ℕ). isCeiling (getD (now (samples .entry)) (from + i) 0)) 256 ⌝ }
+// How many samples are at the detector's ceiling, and the lowest index of one; where there is none, the number of samples.
+pub fn ceilings(samples: &[u16]) -> CeilingCount
+    ensures { λ r. ⌜ r ≡ ceilingsIn (now (samples .entry)) ⌝ }
 {
-    let mut n: u16 = 0;
-    let mut i: usize = 0;
-    while i < 256 {
-        n += at_ceiling(samples[from + i]);
-        i += 1;
+    let lowest = lowest_ceiling(samples);
+    let count = count_ceilings(samples, lowest);
+    CeilingCount {
+        count: short(count),
+        lowest: short(lowest),
     }
-    n
 }
 
-// An index before which no sample is at the ceiling, 256 samples at a time.
-fn clear_before(samples: &[u16]) -> usize
-    ensures { λ r. ⌜ ClearBefore (now (samples .entry)) r ⌝ }
-{
-    let mut i: usize = 0;
-    while samples.len() - i >= 256 {
-        if ceilings(samples, i) != 0 {
-            return i;
-        }
-        i += 256;
-    }
-    i
-}
-
-// The index of the first sample at the detector's ceiling, or how many samples there are.
+// The index of the first sample at the ceiling, or how many samples there are.
 fn lowest_ceiling(samples: &[u16]) -> usize
     ensures { λ r. ⌜ r ≡ lowest isCeiling (now (samples .entry)) ⌝ }
 {
@@ -191,22 +182,60 @@ fn lowest_ceiling(samples: &[u16]) -> usize
     i
 }
 
-// Row 4: some sample is 65,535, the detector's ceiling.
-pub fn check_ceiling(samples: &[u16]) -> Checked
-    ensures { λ r. ⌜ r ≡ ceilingRow (now (samples .entry)) ⌝ }
+// An index before which no sample is at the ceiling, 256 samples at a time.
+fn clear_before(samples: &[u16]) -> usize
+    ensures { λ r. ⌜ ClearBefore (now (samples .entry)) r ⌝ }
 {
-    let i = lowest_ceiling(samples);
-    if i == samples.len() {
-        return Checked::Passes;
+    let mut i: usize = 0;
+    while samples.len() - i >= 256 {
+        if ceilings_in_run(samples, i) != 0 {
+            return i;
+        }
+        i += 256;
     }
-    if i < 4294967295 {
-        return Checked::Refuses(Refusal {
-            number: 4,
-            value: i as u32,
-        });
+    i
+}
+
+// How many samples are at the ceiling, where none before the index is: 256 samples at a time, then one by one.
+fn count_ceilings(samples: &[u16], from: usize) -> usize
+    requires { ⌜ ClearBefore (now samples) from ⌝ }
+    ensures { λ r. ⌜ r ≡ ceilingsBefore (now (samples .entry)) (length (now (samples .entry))) ⌝ }
+{
+    let mut n: usize = 0;
+    let mut i: usize = from;
+    while samples.len() - i >= 256 {
+        n += ceilings_in_run(samples, i) as usize;
+        i += 256;
     }
-    Checked::Refuses(Refusal {
-        number: 4,
-        value: 4294967295,
-    })
+    while i < samples.len() {
+        n += at_ceiling(samples[i]) as usize;
+        i += 1;
+    }
+    n
+}
+
+// How many of 256 samples are at the ceiling. The loop has no way out, so the compiler takes eight samples at a time.
+fn ceilings_in_run(samples: &[u16], from: usize) -> u16
+    requires { ⌜ from + 256 ≤ length (now samples) ⌝ }
+    ensures { λ r. ⌜ r ≡ count (λ (i : ℕ). isCeiling (getD (now (samples .entry)) (from + i) 0)) 256 ⌝ }
+    ensures { λ r. ⌜ r ≤ 256 ⌝ }
+{
+    let mut n: u16 = 0;
+    let mut i: usize = 0;
+    while i < 256 {
+        n += at_ceiling(samples[from + i]);
+        i += 1;
+    }
+    n
+}
+
+// 1 for a sample at the ceiling, 0 for another.
+fn at_ceiling(sample: u16) -> u16
+    ensures { λ r. ⌜ r ≡ bit (isCeiling sample) ⌝ }
+    ensures { λ r. ⌜ r ≤ 1 ⌝ }
+{
+    if sample == 65535 {
+        return 1;
+    }
+    0
 }

@@ -1,10 +1,12 @@
--- What the cube question's answer is made of: the verdict of rows 3 and 4, places for every loop of an accepted cube, and that its
+-- What the cube question's answer is made of: the verdict of row 3, words and places for every loop of an accepted cube, and that its
 -- promise fixes it.
 -- Assumes nothing.
 use mathlib.Core.Path.{_≡_, refl, ap, ap₂, sym, _∙_}
 use mathlib.Core.Bool.{Bool, true, false}
-use mathlib.Core.List.{List, [], _∷_, map, List·Memᴰ}
+use mathlib.Core.Logic.{_⊎_, inl, inr}
+use mathlib.Core.List.{List, [], _∷_, List·Memᴰ}
 use Prim.Native.Nat.{ℕ, _<_}
+use native.Mathlib.Nat.{eq-zero-or-pos}
 use native.Mathlib.Omega.{arith}
 use lib.ListN.{length, getD}
 use Rattle.laws.specs.Bits.{bit}
@@ -14,12 +16,10 @@ use Rattle.laws.proofs.Fixed.{Injective}
 use Rattle.laws.proofs.Bits.{some-ones}
 use Rattle.block.specs.declared.Cut.{Cut}
 use Rattle.block.specs.declared.Refusal.{Refusal}
-use Rattle.block.specs.declared.Checked.{Checked}
 use Rattle.block.specs.declared.Checked.the-variants.{Passes, Refuses}
 use Rattle.block.specs.Answer.{judged, decided}
-use Rattle.block.specs.Rows.{thresholdRow, ceilingRow}
-use Rattle.block.proofs.Accepted.{accepted-by}
-use Rattle.block.proofs.Order.{order-refuses, order-passes, order-last}
+use Rattle.block.specs.Rows.{thresholdRow}
+use Rattle.block.proofs.Order.{order-last}
 use Rattle.cube_rule.specs.Decider.{joined, loopsOf}
 use Rattle.cube_rule.specs.Edges.{crossedAt}
 use Rattle.cube_rule.proofs.Laws.{cube-laws}
@@ -35,13 +35,10 @@ use Rattle.cell.specs.Answer.{wordOf, origin, cubeVerdict, saidCube, loo
 use Rattle.cell.specs.Steps.{emptyAnswer}
 use Rattle.cell.proofs.Filled.{place-mask, with-mask, places-by-mask}
 
--- ---- the verdict: row 3 decides if it refuses, else row 4 does
+-- ---- the verdict is that of row 3
 
-pub verdict-first : (cut : Cut) (corners : List ℕ) (r : Refusal) → thresholdRow cut ≡ Refuses r → cubeVerdict cut corners ≡ Refuses r
-verdict-first cut corners r e = order-refuses (thresholdRow cut) (ceilingRow corners ∷ []) r e
-
-pub verdict-second : (cut : Cut) (corners : List ℕ) (k : Checked) → thresholdRow cut ≡ Passes → ceilingRow corners ≡ k → cubeVerdict cut corners ≡ k
-verdict-second cut corners k e f = order-passes (thresholdRow cut) (ceilingRow corners ∷ []) e ∙ order-last (ceilingRow corners) ∙ f
+pub verdict-is : (cut : Cut) → cubeVerdict cut ≡ thresholdRow cut
+verdict-is cut = order-last (thresholdRow cut)
 
 -- ---- the loops of a cube have places
 
@@ -53,7 +50,7 @@ module _ (cut : Cut) (corners : List ℕ) where
   crossed-of true h e = refl
   crossed-of false h e = absurd (omega arith)
 
-  -- a loop is a set of crossed edges, and not the empty one, whatever rows 3 and 4 say
+  -- a loop is a set of crossed edges, and not the empty one, whatever row 3 says
   pub loop-crossed : (m : ℕ) → List·Memᴰ m (loopsOf cut corners) → CrossedSet cut corners m
   loop-crossed m d = record {
     some = loop-some m d;
@@ -61,25 +58,25 @@ module _ (cut : Cut) (corners : List ℕ) where
     crossed = λ e he h. crossed-of (crossedAt cut corners e) (holding e (loopsOf cut corners) m d h) (cube-laws joined .each cut corners e he);
   }
 
-  pub loop-placeable : cubeVerdict cut corners ≡ Passes → (m : ℕ) → List·Memᴰ m (loopsOf cut corners) → Placeable cut corners m
-  loop-placeable v m d = record { small = loop-crossed m d .small; crossed = loop-crossed m d .crossed; accepted = accepted-by cut corners [] v }
+  pub loop-placeable : cubeVerdict cut ≡ Passes → (m : ℕ) → List·Memᴰ m (loopsOf cut corners) → Placeable cut corners m
+  loop-placeable v m d = record { small = loop-crossed m d .small; crossed = loop-crossed m d .crossed; threshold = sym (verdict-is cut) ∙ v }
 
   -- ---- the answer of an accepted cube, and of a refused one
 
-  pub accepted-found : cubeVerdict cut corners ≡ Passes → (n : ℕ) → n ≡ length (loopsOf cut corners)
-      → saidCube (Loops n) ≡ judged (cubeVerdict cut corners) (length (loopsOf cut corners))
+  pub accepted-found : cubeVerdict cut ≡ Passes → (n : ℕ) → n ≡ length (loopsOf cut corners)
+      → saidCube (Loops n) ≡ judged (cubeVerdict cut) (length (loopsOf cut corners))
   unfolding decided
   accepted-found v n e = rw (v, e)
 
-  pub accepted-loops : cubeVerdict cut corners ≡ Passes → loopsAnswered cut corners ≡ loopsOf cut corners
+  pub accepted-loops : cubeVerdict cut ≡ Passes → loopsAnswered cut corners ≡ loopsOf cut corners
   unfolding decided
   accepted-loops v = rw v
 
-  pub refused-loops : (r : Refusal) → cubeVerdict cut corners ≡ Refuses r → loopsAnswered cut corners ≡ []
+  pub refused-loops : (r : Refusal) → cubeVerdict cut ≡ Refuses r → loopsAnswered cut corners ≡ []
   unfolding decided
   refused-loops r v = rw v
 
-  pub refused-found : (r : Refusal) → cubeVerdict cut corners ≡ Refuses r → saidCube (Refused r) ≡ judged (cubeVerdict cut corners) (length (loopsOf cut corners))
+  pub refused-found : (r : Refusal) → cubeVerdict cut ≡ Refuses r → saidCube (Refused r) ≡ judged (cubeVerdict cut) (length (loopsOf cut corners))
   unfolding decided
   refused-found r v = rw v
 
@@ -103,7 +100,7 @@ cube-fixed corners cut a b p q =
 -- ---- the whole answer
 
 module _ (cut : Cut) (corners : List ℕ) where
-  pub refused-answer : (r : Refusal) → cubeVerdict cut corners ≡ Refuses r → CubeAnswered corners cut (emptyAnswer r)
+  pub refused-answer : (r : Refusal) → cubeVerdict cut ≡ Refuses r → CubeAnswered corners cut (emptyAnswer r)
   unfolding filled
   refused-answer r v = record {
     found = refused-found cut corners r v;
@@ -112,21 +109,31 @@ module _ (cut : Cut) (corners : List ℕ) where
   }
 
   -- a mask in one of the four places
-  pub mask-placeable : cubeVerdict cut corners ≡ Passes → (masks : List ℕ) → masks ≡ filled 4 0 (loopsOf cut corners) → (i : ℕ)
+  pub mask-placeable : cubeVerdict cut ≡ Passes → (masks : List ℕ) → masks ≡ filled 4 0 (loopsOf cut corners) → (i : ℕ)
       → 0 < getD masks i 0 → Placeable cut corners (getD masks i 0)
   mask-placeable v masks e i = rw e (λ h. loop-placeable cut corners v _ (place-mask (loopsOf cut corners) i h))
 
-  words-same : (ms : List ℕ) → map (wordOf corners) ms ≡ ms
-  words-same [] = refl
-  words-same (m ∷ ms) = ap (λ (l : List ℕ). m ∷ l) (words-same ms)
+  -- and it is small
+  pub mask-small : (masks : List ℕ) → masks ≡ filled 4 0 (loopsOf cut corners) → (i : ℕ) → getD masks i 0 < 4096
+  mask-small masks e i = rw e (go (eq-zero-or-pos (getD (filled 4 0 (loopsOf cut corners)) i 0)))
+    where
+      go : (getD (filled 4 0 (loopsOf cut corners)) i 0 ≡ 0) ⊎ (0 < getD (filled 4 0 (loopsOf cut corners)) i 0) → getD (filled 4 0 (loopsOf cut corners)) i 0 < 4096
+      go (inl z) = omega (arith, z)
+      go (inr h) = loop-crossed cut corners _ (place-mask (loopsOf cut corners) i h) .small
+
+  -- the word and the place of a loop, and zeros where there is none
+  abbrev worded : ℕ → ℕ
+  worded m = with-mask (wordOf corners) 0 m
 
   abbrev placed : ℕ → Offset
   placed m = with-mask (placeOf cut corners) origin m
 
-  pub accepted-answer : cubeVerdict cut corners ≡ Passes → (n : ℕ) (masks : List ℕ) → n ≡ length (loopsOf cut corners) → masks ≡ filled 4 0 (loopsOf cut corners)
-      → CubeAnswered corners cut (made (Loops n) masks (placed (getD masks 0 0) ∷ placed (getD masks 1 0) ∷ placed (getD masks 2 0) ∷ placed (getD masks 3 0) ∷ []))
+  pub accepted-answer : cubeVerdict cut ≡ Passes → (n : ℕ) (masks : List ℕ) → n ≡ length (loopsOf cut corners) → masks ≡ filled 4 0 (loopsOf cut corners)
+      → CubeAnswered corners cut (made (Loops n)
+      (worded (getD masks 0 0) ∷ worded (getD masks 1 0) ∷ worded (getD masks 2 0) ∷ worded (getD masks 3 0) ∷ [])
+      (placed (getD masks 0 0) ∷ placed (getD masks 1 0) ∷ placed (getD masks 2 0) ∷ placed (getD masks 3 0) ∷ []))
   accepted-answer v n masks e f = record {
     found = accepted-found cut corners v n e;
-    words = rw (accepted-loops cut corners v, words-same (loopsOf cut corners)) f;
+    words = rw (accepted-loops cut corners v, f) (sym (places-by-mask (wordOf corners) 0 (loopsOf cut corners) (cube-laws joined .four cut corners) (loop-some cut corners)));
     offsets = rw (accepted-loops cut corners v, f) (sym (places-by-mask (placeOf cut corners) origin (loopsOf cut corners) (cube-laws joined .four cut corners) (loop-some cut corners)));
   }

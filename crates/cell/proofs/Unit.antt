@@ -50,7 +50,7 @@ places-inside : (cut : Cut) (corners : List ℕ) → SixteenBit corners → Each
 unfolding filled
 places-inside cut corners grey =
     each-filled origin (placeOf cut corners) (loopsAnswered cut corners) (4 - length (map (placeOf cut corners) (loopsAnswered cut corners))) origin-inside
-    (λ m d. place-in-unit cut corners m grey (loop-crossed cut corners m (answered-loop (cubeVerdict cut corners) (loopsOf cut corners) m d)))
+    (λ m d. place-in-unit cut corners m grey (loop-crossed cut corners m (answered-loop (cubeVerdict cut) (loopsOf cut corners) m d)))
 
 -- "Each coordinate of each offset is at least 0 and at most 1."
 pub cube-offsets-inside : (corners : List ℕ) (cut : Cut) (r : CubeAnswer) → CubeAnswered corners cut r → SixteenBit corners → (o : Offset) → List·Memᴰ o (r .offsets) → Inside o

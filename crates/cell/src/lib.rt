@@ -5,14 +5,16 @@ use block::Refusal;
 use place::Offset;
 ghost use mathlib.Core.Path.{_≡_};
 ghost use mathlib.Core.Bool.{cond};
-ghost use Prim.Native.Nat.{_<_};
+ghost use mathlib.Core.List.{[], _∷_};
+ghost use Prim.Native.Nat.{ℕ, _≤_, _<_};
 ghost use lib.Dec.{eqb};
+ghost use lib.ListN.{getD};
 ghost use Rattle.block.specs.Grey.{SixteenBit};
 ghost use Rattle.cube.specs.Table.{maskTable};
 ghost use Rattle.place.specs.Place.{placeOf};
 ghost use Rattle.place.specs.Steps.{Placeable};
-ghost use Rattle.cell.specs.Answer.{CubeAnswered, cubeVerdict, origin};
-ghost use Rattle.cell.specs.Steps.{emptyAnswer};
+ghost use Rattle.cell.specs.Answer.{CubeAnswered, markOf, origin};
+ghost use Rattle.cell.specs.Steps.{emptyAnswer, wordOrZero};
 
 // How many loops a cube has, or why it is refused.
 pub enum Found {
@@ -40,7 +42,7 @@ pub fn cube_by(table: &[u32; 256], corners: [u16; 8], cut: Cut) -> CubeAnswer
     requires { ⌜ now table ≡ maskTable ⌝ }
     ensures { λ r. ⌜ CubeAnswered corners cut r ⌝ }
 {
-    let checked = check(corners, cut);
+    let checked = block::check_threshold(cut);
     if let Checked::Refuses(r) = checked {
         return refuse(r);
     }
@@ -51,22 +53,51 @@ pub fn cube_by(table: &[u32; 256], corners: [u16; 8], cut: Cut) -> CubeAnswer
     let b = place_or_zero(masks[1], samples, cut);
     let c = place_or_zero(masks[2], samples, cut);
     let d = place_or_zero(masks[3], samples, cut);
+    let words = words_of(masks, mark(corners));
     CubeAnswer {
         found: Found::Loops(loops.count),
-        words: masks,
+        words: words,
         offsets: [a, b, c, d],
     }
 }
 
-// Rows 3 and 4, in this order.
-fn check(corners: [u16; 8], cut: Cut) -> Checked
-    ensures { λ r. ⌜ r ≡ cubeVerdict cut corners ⌝ }
+// The mark that each vertex of a cube carries in its word: bit 12 if a corner is at the detector's ceiling, else nothing.
+pub fn mark(corners: [u16; 8]) -> u32
+    ensures { λ r. ⌜ r ≡ markOf corners ⌝ }
+    ensures { λ r. ⌜ r ≤ 4096 ⌝ }
 {
-    let first = block::check_threshold(cut);
-    if let Checked::Refuses(r) = first {
-        return Checked::Refuses(r);
+    let mut i: usize = 0;
+    while i < 8 {
+        if corners[i] == 65535 {
+            return 4096;
+        }
+        i += 1;
     }
-    block::check_ceiling(&corners)
+    0
+}
+
+// The words of a cube's loops by their masks, and 0 where there is none.
+fn words_of(masks: [u32; 4], marked: u32) -> [u32; 4]
+    requires { ⌜ ((i : ℕ) → getD masks i 0 < 4096) × (marked ≤ 4096) ⌝ }
+    ensures { λ r. ⌜ r ≡ wordOrZero marked (getD masks 0 0) ∷ wordOrZero marked (getD masks 1 0) ∷ wordOrZero marked (getD masks 2 0) ∷ wordOrZero marked (getD masks 3 0) ∷ [] ⌝ }
+{
+    [
+        word_or_zero(masks[0], marked),
+        word_or_zero(masks[1], marked),
+        word_or_zero(masks[2], marked),
+        word_or_zero(masks[3], marked),
+    ]
+}
+
+// The word of a loop: its mask and the mark; 0 where there is no loop.
+fn word_or_zero(mask: u32, marked: u32) -> u32
+    requires { ⌜ (mask < 4096) × (marked ≤ 4096) ⌝ }
+    ensures { λ r. ⌜ r ≡ wordOrZero marked mask ⌝ }
+{
+    if mask == 0 {
+        return 0;
+    }
+    mask + marked
 }
 
 fn zero() -> Offset

@@ -3,7 +3,6 @@
 use mathlib.Core.Path.{_≡_}
 use Prim.Native.Nat.{ℕ, _<_}
 use lib.ListN.{getD}
-use Rattle.laws.specs.Below.{below}
 use Rattle.laws.proofs.Bits.{mask-lt}
 use Rattle.laws.proofs.Over.{each-at}
 use Rattle.cube_rule.specs.Edges.{crossed, crossedMask}

@@ -1,6 +1,6 @@
 -- The asymptotic decider (document 01, "Faces, loops and places"): "The differences are signed and the comparison is exact."
 use Prim.Native.Nat.{ℕ}
-use mathlib.Core.Bool.{Bool, cond}
+use mathlib.Core.Bool.{cond}
 use mathlib.Core.List.{List}
 use lib.IntN.{ℤ, pos, _-ℤ_, _*ℤ_}
 use lib.Signed.{leZ}

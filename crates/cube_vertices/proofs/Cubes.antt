@@ -12,8 +12,7 @@ use lib.Ieee.{Float}
 use Rattle.laws.specs.Filled.{filled}
 use Rattle.block.specs.declared.Cut.{Cut}
 use Rattle.block.specs.declared.Checked.the-variants.{Passes}
-use Rattle.block.specs.Accepted.{Accepted}
-use Rattle.block.proofs.Accepted.{accepted-passes}
+use Rattle.block.specs.Rows.{thresholdRow}
 use Rattle.cube_rule.specs.Decider.{loopsOf}
 use Rattle.place.specs.declared.Offset.{Offset}
 use Rattle.place.specs.Place.{placeOf}
@@ -21,8 +20,8 @@ use Rattle.place.specs.Steps.{Placeable}
 use Rattle.cell.specs.declared.CubeAnswer.{CubeAnswer}
 use Rattle.cell.specs.declared.Found.{Found}
 use Rattle.cell.specs.declared.Found.the-variants as found
-use Rattle.cell.specs.Answer.{wordOf, origin, cubeVerdict, CubeAnswered}
-use Rattle.cell.proofs.Answers.{loop-placeable, accepted-found, accepted-loops, said-cube-injective}
+use Rattle.cell.specs.Answer.{markOf, wordOf, origin, cubeVerdict, CubeAnswered}
+use Rattle.cell.proofs.Answers.{verdict-is, loop-placeable, accepted-found, accepted-loops, said-cube-injective}
 use Rattle.cell.proofs.Found.{the-type}
 use Rattle.mesh_rule.specs.Buffers.{triples}
 use Rattle.mesh_rule.specs.Layers.{pairs}
@@ -88,10 +87,10 @@ module _ (loopsOf : Cut → List ℕ → List ℕ) (cut : Cut) (cs : List ℕ) w
       three = triples-length (map (placeOf cut cs) (loopsOf cut cs)) ∙ ap (λ (x : ℕ). 3 * x) (length-map (loopsOf cut cs) (placeOf cut cs));
     }
 
-    pub stored-single : (m : ℕ) → loopsOf cut cs ≡ m ∷ [] → (q : Offset) → q ≡ placeOf cut cs m → w ≡ sets w₀ (2 * v) (c ∷ m ∷ [])
+    pub stored-single : (m : ℕ) → loopsOf cut cs ≡ m ∷ [] → (d : ℕ) → d ≡ markOf cs → (q : Offset) → q ≡ placeOf cut cs m → w ≡ sets w₀ (2 * v) (c ∷ (m + d) ∷ [])
         → o ≡ sets o₀ (3 * v) (q .x ∷ q .y ∷ q .z ∷ []) → InBoth (v + 1)
-    stored-single m e q is p t =
-        stored (v + 1) (rw e) (p ∙ rw e) (t ∙ rw (is, e))
+    stored-single m e d marked q is p t =
+        stored (v + 1) (rw e) (p ∙ rw (marked, e)) (t ∙ rw (is, e))
 
     pub stored-many : (n : ℕ) → n ≡ length (loopsOf cut cs) → (four : List ℕ) → four ≡ filled 4 0 (namesBy loopsOf cut cs)
         → (places : List Offset) → places ≡ filled 4 origin (map (placeOf cut cs) (loopsOf cut cs))
@@ -101,11 +100,11 @@ module _ (loopsOf : Cut → List ℕ → List ℕ) (cut : Cut) (cs : List ℕ) w
         (p ∙ ap (λ (l : List ℕ). sets w₀ (2 * v) (pairs c l)) (first 0 (namesBy loopsOf cut cs) four n f (e ∙ sym names-count)))
         (q ∙ ap (λ (l : List Offset). sets o₀ (3 * v) (triples l)) (first origin (map (placeOf cut cs) (loopsOf cut cs)) places n g (e ∙ sym (length-map (loopsOf cut cs) (placeOf cut cs)))))
 
--- ---- the loops of 01, where neither row 3 nor row 4 refuses the cube
+-- ---- the loops of 01, where row 3 passes the threshold
 
-module _ (cut : Cut) (cs : List ℕ) (ok : Accepted cut cs) where
-  cube-passes : cubeVerdict cut cs ≡ Passes
-  cube-passes = accepted-passes ok
+module _ (cut : Cut) (cs : List ℕ) (ok : thresholdRow cut ≡ Passes) where
+  cube-passes : cubeVerdict cut ≡ Passes
+  cube-passes = verdict-is cut ∙ ok
 
   pub single-placeable : (m : ℕ) → loopsOf cut cs ≡ m ∷ [] → Placeable cut cs m
   single-placeable m e = loop-placeable cut cs cube-passes m (rw e (List·Memᴰ·head refl))

@@ -9,7 +9,8 @@ use lib.ListN.{length}
 use lib.Seq.{sets}
 use lib.Ieee.{Float}
 use Rattle.block.specs.declared.Cut.{Cut}
-use Rattle.block.specs.Accepted.{Accepted}
+use Rattle.block.specs.declared.Checked.the-variants.{Passes}
+use Rattle.block.specs.Rows.{thresholdRow}
 use Rattle.cube.specs.Table.{maskTable}
 use Rattle.cube_rule.specs.Edges.{patternOf, crossedMask}
 use Rattle.place.specs.Place.{placeOf}
@@ -56,9 +57,9 @@ pub record CubeReady (loopsOf : Cut → List ℕ → List ℕ) (cut : Cut) (corn
   pub masks : table ≡ maskTable
   pub one : single ≡ true → loopsOf cut corners ≡ crossedMask (patternOf cut corners) ∷ []
 
--- neither row 3 nor row 4 refuses the cube, both buffers have room for its vertices, and there is room for its numbers
+-- row 3 passes the threshold, both buffers have room for its vertices, and there is room for its numbers
 pub record CubeRoom (loopsOf : Cut → List ℕ → List ℕ) (cut : Cut) (corners : List ℕ) (spot : Spot) (words : List ℕ) (offsets : List Float) (numbers : List ℕ) : Type 0 where
-  pub accepted : Accepted cut corners
+  pub threshold : thresholdRow cut ≡ Passes
   pub words-room : 2 * (spot .v + length (loopsOf cut corners)) ≤ length words
   pub offsets-room : 3 * (spot .v + length (loopsOf cut corners)) ≤ length offsets
   pub numbers-room : 2 * spot .x + 2 ≤ length numbers

@@ -38,7 +38,8 @@ pub fn write_cube(
     if single {
         let m = cube::crossed_edges(table, cube::pattern(corners, cut));
         let o = place::place(m, place::wide(corners), cut);
-        put_vertex(words, offsets, v, spot.c, m, o);
+        let word = m + cell::mark(corners);
+        put_vertex(words, offsets, v, spot.c, word, o);
         notes::note(numbers, spot.x, v as u32, 0);
         return v + 1;
     }

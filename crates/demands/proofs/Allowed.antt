@@ -2,7 +2,7 @@
 -- there is exactly one. So there is a call of `mesh` wherever its checks pass.
 use Prim.Native.Nat.{ℕ, _≤_}
 use native.Mathlib.Omega.{arith}
-use mathlib.Core.Path.{_≡_, refl, sym}
+use mathlib.Core.Path.{_≡_, refl}
 use mathlib.Core.Bool.{Bool, true, false, cond}
 use mathlib.Core.List.{List, [], _∷_, map}
 use lib.Ieee.{Float}
@@ -11,14 +11,14 @@ use Rattle.laws.specs.Below.{over}
 use Rattle.laws.specs.Filled.{filled}
 use Rattle.laws.proofs.Over.{over-length}
 use Rattle.block.specs.declared.Cut.{Cut}
-use Rattle.block.specs.declared.Refusal.{Refusal}
 use Rattle.block.specs.declared.Sized.{Sized}
 use Rattle.block.specs.declared.Sized.the-variants as sized
 use Rattle.block.specs.declared.Checked.{Checked}
 use Rattle.block.specs.declared.Checked.the-variants.{Passes, Refuses}
 use Rattle.block.specs.Answer.{Answer, accepted, refused, decided, inOrder, judged}
+use Rattle.block.specs.Ceilings.{ceilingsIn}
 use Rattle.block.specs.Grey.{cutOf, apart}
-use Rattle.block.specs.Rows.{outOfLimits, sampleRows}
+use Rattle.block.specs.Rows.{outOfLimits, thresholdRow}
 use Rattle.block.specs.Size.{SizeMade}
 use Rattle.block.proofs.Sizes.{first-bad, second-bad, third-bad, none-bad}
 use Rattle.block.proofs.Order.{accepted-exactly}
@@ -41,7 +41,7 @@ use Rattle.closed.specs.declared.Closure.the-variants as closure-is
 use Rattle.closed.specs.Closed.{Finding, allSound, openAt, findingOf, lengthRow, saidClosure, ClosedAnswered}
 use Rattle.lines.specs.Output.{outputOf, Ran}
 use Rattle.lines.proofs.Outputs.{output-fits}
-use Rattle.parsniprow_c.specs.Told.{tellOver, toldEdge, toldFraction, toldCube, toldCounts, toldClosed, EdgeTold, CubeTold, CountsTold, MeshTold, ClosedTold}
+use Rattle.parsniprow_c.specs.Told.{tellOver, toldCeilings, toldEdge, toldFraction, toldCube, toldCounts, toldClosed, CeilingsTold, EdgeTold, CubeTold, CountsTold, MeshTold, ClosedTold}
 use Rattle.demands.specs.Answers.{MeshCall}
 
 -- ---- the size: a refusal is row 1's, so it has the number that is told
@@ -59,7 +59,7 @@ size-allows nx ny nz = go (outOfLimits nx) (outOfLimits ny) (outOfLimits nz) ref
 
 pub edge-allows : (p q t : ℕ) → (r : Crossing) × EdgeAnswered p q t r
 unfolding edgeAnswer crossing decided
-edge-allows p q t = go (inOrder (sampleRows (cutOf t) (p ∷ q ∷ []))) (apart (cutOf t) p q)
+edge-allows p q t = go (inOrder (thresholdRow (cutOf t) ∷ [])) (apart (cutOf t) p q)
   where
     go : (k : Checked) (b : Bool) → (r : Crossing) × (saidEdge r ≡ judged k (cond b (fraction (cutOf t) p q ∷ []) []))
     go Passes true = (crossing-is.At (fraction (cutOf t) p q), refl)
@@ -70,7 +70,7 @@ edge-allows p q t = go (inOrder (sampleRows (cutOf t) (p ∷ q ∷ []))) (apart 
 
 pub cube-allows : (corners : List ℕ) (cut : Cut) → (r : CubeAnswer) × CubeAnswered corners cut r
 cube-allows corners cut =
-    let f = found (judged (cubeVerdict cut corners) (length (loopsOf cut corners))) in (
+    let f = found (judged (cubeVerdict cut) (length (loopsOf cut corners))) in (
       record { found = f .0; words = filled 4 0 (map (wordOf corners) (loopsAnswered cut corners)); offsets = filled 4 origin (map (placeOf cut corners) (loopsAnswered cut corners)) },
       record { found = f .1; words = refl; offsets = refl },
     )
@@ -142,6 +142,9 @@ run-allows bytes out room =
     (length (outputOf bytes), over (outputOf bytes) out, record { count = refl; text = refl }, over-length (outputOf bytes) out (omega (arith, room, output-fits bytes)))
 
 -- ---- the functions for C: what the library allows, told
+
+pub ceilings-told-allows : (samples place : List ℕ) → (place′ : List ℕ) × CeilingsTold samples place place′
+ceilings-told-allows samples place = (tellOver (toldCeilings (accepted (ceilingsIn samples))) place, refl)
 
 pub edge-told-allows : (p q t : ℕ) (fraction : List Float) (place : List ℕ) → (fraction′ : List Float) × (place′ : List ℕ) × EdgeTold p q t fraction place fraction′ place′
 edge-told-allows p q t fraction place =

@@ -1,26 +1,22 @@
 -- Idle versions, which the promises exclude for every block (document 01, "How much each promise says"): one that refuses all blocks, one that gives a
 -- single mesh for all blocks, one that answers and writes nothing, and one with an invented vertex or quad number.
 use Prim.Native.Nat.{ℕ, _*_, _<_}
-use mathlib.Core.Path.{_≡_, refl, sym, ap, _∙_}
-use mathlib.Core.Bool.{Bool, true, false, cond}
-use mathlib.Core.List.{List, [], _∷_}
+use mathlib.Core.Path.{_≡_, sym, ap, _∙_}
+use mathlib.Core.Bool.{true}
+use mathlib.Core.List.{List, _∷_}
 use native.Mathlib.Nat.{mul-pos}
 use native.Mathlib.Omega.{arith}
-use lib.Dec.{eqb, leb}
+use lib.Dec.{leb}
 use lib.Ieee.{Float, nan}
 use lib.ListN.{length, getD, replicate, length-replicate}
-use borrow.Author.Tests.{eq-eqb, ne-eqb, le-leb}
+use borrow.Author.Tests.{le-leb}
 use Rattle.block.specs.declared.Cut.{Cut}
-use Rattle.block.specs.declared.Refusal.{Refusal}
 use Rattle.block.specs.declared.Size.{Size}
-use Rattle.block.specs.declared.Checked.{Checked}
-use Rattle.block.specs.declared.Checked.the-variants.{Passes, Refuses}
-use Rattle.block.specs.Answer.{inOrder}
-use Rattle.block.specs.Grey.{cutOf, isCeiling}
+use Rattle.block.specs.declared.Checked.the-variants.{Passes}
+use Rattle.block.specs.Grey.{cutOf}
 use Rattle.block.specs.Numbering.{cubeCount}
-use Rattle.block.specs.Rows.{axisRow, countRow, thresholdRow, ceilingRow}
+use Rattle.block.specs.Rows.{axisRow, countRow, thresholdRow}
 use Rattle.block.specs.Size.{Limits}
-use Rattle.block.proofs.Accepted.{clear-passes}
 use Rattle.block.proofs.Order.{passes-refuses, order-passes, order-last, orders-pass, refused-exactly}
 use Rattle.block.proofs.Rows.{count-passes}
 use Rattle.block.proofs.Sizes.{within-axes}
@@ -29,10 +25,10 @@ use Rattle.mesh_rule.specs.Buffers.{meshWords, meshOffsets}
 use Rattle.mesh_rule.specs.Grid.{metal, OffEdges, AtLeastThree}
 use Rattle.mesh_rule.specs.Mesh.{flat, quads}
 use Rattle.mesh_rule.specs.Boards.{board, hollow}
-use Rattle.mesh_rule.proofs.Checkerboard.{hollow-vertices, hollow-length, hollow-at, board-vertices, board-length, board-grey}
+use Rattle.mesh_rule.proofs.Checkerboard.{hollow-vertices, hollow-length, board-vertices, board-length}
 use Rattle.mesh.specs.declared.Totals.{Totals}
 use Rattle.mesh.specs.declared.Counted.{Counted}
-use Rattle.mesh.specs.Answer.{sizeOf, vertexCount, quadCount, countsOf, blockRows, vertexRow, quadRow, saidCounts, countsVerdict, CountsAnswered, meshVerdict, Meshed}
+use Rattle.mesh.specs.Answer.{sizeOf, vertexCount, quadCount, blockRows, vertexRow, quadRow, saidCounts, countsVerdict, CountsAnswered, meshVerdict, Meshed}
 use Rattle.demands.specs.Answers.{NotRefused, MeshCall, SameMesh}
 use Rattle.demands.proofs.Allowed.{mesh-call}
 use Rattle.demands.proofs.TheMesh.{mesh-given, quads-are, word-at, offset-at, number-at}
@@ -96,21 +92,19 @@ module _ {nx ny nz : ℕ} {s : List ℕ} {cut : Cut} (a : MeshCall nx ny nz s cu
 
 -- ---- a single mesh, by demand 2: of every size two accepted blocks have other counts, one without metal and the checkerboard
 
--- what 01's cut of 100 passes: a block of that size without a sample at the ceiling
+-- what 01's cut of 100 passes: any block of that size
 module _ (nx ny nz : ℕ) (l : Limits (sizeOf nx ny nz)) where
-  clear : (s : List ℕ) → length s ≡ nx * (ny * nz) → ((p : ℕ) → getD s p 0 < 65535) → countsVerdict nx ny nz s (cutOf 100) ≡ Passes
-  clear s long low =
+  of-size : (s : List ℕ) → length s ≡ nx * (ny * nz) → countsVerdict nx ny nz s (cutOf 100) ≡ Passes
+  of-size s long =
       order-passes (axisRow nx ny nz) _ (within-axes nx ny nz l)
       ∙ order-passes (countRow (sizeOf nx ny nz) (length s)) _ (count-passes (sizeOf nx ny nz) (length s) long)
-      ∙ order-passes (thresholdRow (cutOf 100)) _ refl
-      ∙ order-last (ceilingRow s)
-      ∙ clear-passes s (λ k h. ne-eqb (getD s k 0) 65535 (λ e. omega (arith, e, low k)))
+      ∙ order-last (thresholdRow (cutOf 100))
 
   pub hollow-accepted : countsVerdict nx ny nz (hollow (sizeOf nx ny nz)) (cutOf 100) ≡ Passes
-  hollow-accepted = clear (hollow (sizeOf nx ny nz)) (hollow-length (sizeOf nx ny nz)) (λ p. rw (hollow-at (sizeOf nx ny nz) p) (omega arith))
+  hollow-accepted = of-size (hollow (sizeOf nx ny nz)) (hollow-length (sizeOf nx ny nz))
 
   pub checkerboard-accepted : countsVerdict nx ny nz (board (sizeOf nx ny nz)) (cutOf 100) ≡ Passes
-  checkerboard-accepted = clear (board (sizeOf nx ny nz)) (board-length (sizeOf nx ny nz)) (board-grey (sizeOf nx ny nz))
+  checkerboard-accepted = of-size (board (sizeOf nx ny nz)) (board-length (sizeOf nx ny nz))
 
 -- an accepted block has a call with buffers of just its size
 module _ (nx ny nz : ℕ) (s : List ℕ) (cut : Cut) (passes : countsVerdict nx ny nz s cut ≡ Passes) where

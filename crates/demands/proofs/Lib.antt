@@ -2,8 +2,10 @@ pub mod Numbers
 pub mod RefusalText
 pub mod Refusals
 pub mod Allowed
-pub mod Ceiling
-pub mod Told
 pub mod TheMesh
+pub mod Marks
+pub mod TextMarks
+pub mod Told
+pub mod Four
 pub mod StandIn
 pub mod Idle

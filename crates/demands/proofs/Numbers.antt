@@ -1,35 +1,32 @@
--- Which numbers an entry point gives, and with which values: "Counting a mesh gives 1 to 4 only; cube and edge questions give 3 and 4 (value: lowest
--- corner; lower end 0, upper 1); the closed question only 7." And that no value is cut where the axes are accepted.
-use Prim.Native.Nat.{ℕ, zero, suc, _*_, _%_, _≤_, _<_}
-use mathlib.Core.Path.{_≡_, refl, sym, ap, _∙_}
-use mathlib.Core.Bool.{Bool, true, false, cond, _&&_}
+-- Which numbers an entry point gives: counting a mesh gives 1 to 3 only, the mesh 5 and 6 besides, cube and edge questions give 3, the closed question
+-- only 7. And that no value is cut where the axes are accepted.
+use Prim.Native.Nat.{ℕ, _*_, _%_, _≤_, _<_}
+use mathlib.Core.Path.{_≡_, sym, ap, _∙_}
+use mathlib.Core.Bool.{Bool, _&&_}
 use mathlib.Core.Logic.{_⊎_, inl, inr, ⊎-elim}
 use mathlib.Core.List.{List, [], _∷_, _++_}
 use native.Mathlib.Omega.{arith}
 use lib.Dec.{eqb, leb}
-use lib.ListN.{length, getD}
-use borrow.Author.Tests.{eqb-true, eqb-false}
+use lib.ListN.{length}
 use Rattle.block.specs.declared.Cut.{Cut}
 use Rattle.block.specs.declared.Refusal.{Refusal}
 use Rattle.block.specs.declared.Size.{Size}
 use Rattle.block.specs.declared.Checked.{Checked}
 use Rattle.block.specs.declared.Checked.the-variants.{Passes, Refuses}
-use Rattle.block.specs.Answer.{given, refuses, inOrder}
-use Rattle.block.specs.Grey.{cutOf, isCeiling, noThreshold}
+use Rattle.block.specs.Answer.{given, inOrder}
+use Rattle.block.specs.Grey.{cutOf, noThreshold}
 use Rattle.block.specs.Numbering.{sampleCount}
-use Rattle.block.specs.Rows.{lowest, lowestRow, outOfLimits, axisRow, countRow, thresholdRow, ceilingRow, sampleRows}
+use Rattle.block.specs.Rows.{lowest, lowestRow, outOfLimits, axisRow, countRow, thresholdRow}
 use Rattle.block.specs.Size.{Limits}
-use Rattle.block.proofs.Lowest.{lowest-there, lowest-before}
-use Rattle.block.proofs.Order.{order-splits, order-last, passes-refuses, Each, first-has}
+use Rattle.block.proofs.Order.{order-splits, order-last, first-has}
 use Rattle.block.proofs.Products.{product-le}
-use Rattle.block.proofs.Rows.{given-small, holds-where, holds-unless, lowest-refusal}
+use Rattle.block.proofs.Rows.{holds-where, holds-unless, lowest-refusal}
 use Rattle.block.proofs.Sizes.{axes-within}
 use Rattle.cube_rule.specs.Decider.{joined, loopsOf}
 use Rattle.cube_rule.proofs.Laws.{cube-laws}
 use Rattle.cell.specs.Answer.{cubeVerdict}
 use Rattle.mesh_rule.proofs.Counts.{most-vertices, most-quads}
 use Rattle.mesh.specs.Answer.{sizeOf, vertexCount, quadCount, countsOf, blockRows, roomRows, vertexRow, quadRow, countsVerdict, meshVerdict}
-use Rattle.mesh.proofs.Verdicts.{count-passed}
 use Rattle.closed.specs.Closed.{lengthRow}
 
 -- ---- numbers
@@ -55,45 +52,38 @@ quad-number q room x e = ap (λ (r : Refusal). r .number) (holds-unless (leb (4 
 pub size-numbers : (nx ny nz : ℕ) (x : Refusal) → inOrder (axisRow nx ny nz ∷ []) ≡ Refuses x → x .number ≡ 1
 size-numbers nx ny nz = first-has (λ (x : Refusal). x .number ≡ 1) _ (axis-number nx ny nz, tt)
 
-pub cube-numbers : (cut : Cut) (corners : List ℕ) (x : Refusal) → cubeVerdict cut corners ≡ Refuses x → (x .number ≡ 3) ⊎ (x .number ≡ 4)
-cube-numbers cut corners =
-    first-has (λ (x : Refusal). (x .number ≡ 3) ⊎ (x .number ≡ 4)) _ (λ x e. inl (threshold-number cut x e), (λ x e. inr (lowest-number 4 isCeiling corners x e), tt))
+pub cube-numbers : (cut : Cut) (x : Refusal) → cubeVerdict cut ≡ Refuses x → x .number ≡ 3
+cube-numbers cut = first-has (λ (x : Refusal). x .number ≡ 3) _ (threshold-number cut, tt)
 
-pub edge-numbers : (p q t : ℕ) (x : Refusal) → inOrder (sampleRows (cutOf t) (p ∷ q ∷ [])) ≡ Refuses x → (x .number ≡ 3) ⊎ (x .number ≡ 4)
-edge-numbers p q t = cube-numbers (cutOf t) (p ∷ q ∷ [])
+pub edge-numbers : (t : ℕ) (x : Refusal) → inOrder (thresholdRow (cutOf t) ∷ []) ≡ Refuses x → x .number ≡ 3
+edge-numbers t = cube-numbers (cutOf t)
 
 -- a number between two others
 from-to : (a b : ℕ) {n : ℕ} → (x : Refusal) → x .number ≡ n → a ≤ n → n ≤ b → (a ≤ x .number) × (x .number ≤ b)
 from-to a b x e l h = (omega (arith, e, l), omega (arith, e, h))
 
-pub counts-numbers : (nx ny nz : ℕ) (s : List ℕ) (cut : Cut) (x : Refusal) → countsVerdict nx ny nz s cut ≡ Refuses x → (1 ≤ x .number) × (x .number ≤ 4)
+pub counts-numbers : (nx ny nz : ℕ) (s : List ℕ) (cut : Cut) (x : Refusal) → countsVerdict nx ny nz s cut ≡ Refuses x → (1 ≤ x .number) × (x .number ≤ 3)
 counts-numbers nx ny nz s cut =
-    first-has (λ (x : Refusal). (1 ≤ x .number) × (x .number ≤ 4)) _ (
-      λ x e. from-to 1 4 x (axis-number nx ny nz x e) (omega arith) (omega arith),
+    first-has (λ (x : Refusal). (1 ≤ x .number) × (x .number ≤ 3)) _ (
+      λ x e. from-to 1 3 x (axis-number nx ny nz x e) (omega arith) (omega arith),
       (
-        λ x e. from-to 1 4 x (count-number (sizeOf nx ny nz) (length s) x e) (omega arith) (omega arith),
-        (
-          λ x e. from-to 1 4 x (threshold-number cut x e) (omega arith) (omega arith),
-          (λ x e. from-to 1 4 x (lowest-number 4 isCeiling s x e) (omega arith) (omega arith), tt),
-        ),
+        λ x e. from-to 1 3 x (count-number (sizeOf nx ny nz) (length s) x e) (omega arith) (omega arith),
+        (λ x e. from-to 1 3 x (threshold-number cut x e) (omega arith) (omega arith), tt),
       ),
     )
 
 pub mesh-numbers : (nx ny nz : ℕ) (s : List ℕ) (cut : Cut) (words offsets room : ℕ) (x : Refusal) → meshVerdict nx ny nz s cut words offsets room ≡ Refuses x
-    → (1 ≤ x .number) × (x .number ≤ 6)
+    → ((1 ≤ x .number) × (x .number ≤ 3)) ⊎ ((5 ≤ x .number) × (x .number ≤ 6))
 mesh-numbers nx ny nz s cut words offsets room =
-    first-has (λ (x : Refusal). (1 ≤ x .number) × (x .number ≤ 6)) _ (
-      λ x e. from-to 1 6 x (axis-number nx ny nz x e) (omega arith) (omega arith),
+    first-has (λ (x : Refusal). ((1 ≤ x .number) × (x .number ≤ 3)) ⊎ ((5 ≤ x .number) × (x .number ≤ 6))) _ (
+      λ x e. inl (from-to 1 3 x (axis-number nx ny nz x e) (omega arith) (omega arith)),
       (
-        λ x e. from-to 1 6 x (count-number (sizeOf nx ny nz) (length s) x e) (omega arith) (omega arith),
+        λ x e. inl (from-to 1 3 x (count-number (sizeOf nx ny nz) (length s) x e) (omega arith) (omega arith)),
         (
-          λ x e. from-to 1 6 x (threshold-number cut x e) (omega arith) (omega arith),
+          λ x e. inl (from-to 1 3 x (threshold-number cut x e) (omega arith) (omega arith)),
           (
-            λ x e. from-to 1 6 x (lowest-number 4 isCeiling s x e) (omega arith) (omega arith),
-            (
-              λ x e. from-to 1 6 x (vertex-number (vertexCount (sizeOf nx ny nz) s cut) words offsets x e) (omega arith) (omega arith),
-              (λ x e. from-to 1 6 x (quad-number (quadCount (sizeOf nx ny nz) s cut) room x e) (omega arith) (omega arith), tt),
-            ),
+            λ x e. inr (from-to 5 6 x (vertex-number (vertexCount (sizeOf nx ny nz) s cut) words offsets x e) (omega arith) (omega arith)),
+            (λ x e. inr (from-to 5 6 x (quad-number (quadCount (sizeOf nx ny nz) s cut) room x e) (omega arith) (omega arith)), tt),
           ),
         ),
       ),
@@ -104,28 +94,6 @@ closed-numbers quads =
     first-has (λ (x : Refusal). x .number ≡ 7) _ (λ x e. ap (λ (r : Refusal). r .number) (holds-unless (eqb (length quads % 4) 0) 7 (length quads % 4) x e), tt)
 
 -- ---- values
-
--- the end of an edge that row 4 names: the lower end if it is at the ceiling, else the upper
-pub edge-values : (p q t : ℕ) (x : Refusal) → inOrder (sampleRows (cutOf t) (p ∷ q ∷ [])) ≡ Refuses x → x .number ≡ 4
-    → ((x .value ≡ 0) × (p ≡ 65535)) ⊎ ((x .value ≡ 1) × (q ≡ 65535) × (p ≡ 65535 → ⊥))
-edge-values p q t =
-    first-has (λ (x : Refusal). x .number ≡ 4 → Named x) _
-    (λ x e n. absurd (omega (arith, n, threshold-number (cutOf t) x e)), (λ x e n. named x (lowest-refusal 4 isCeiling (p ∷ q ∷ []) x e) (lowest isCeiling (p ∷ q ∷ [])) refl, tt))
-  where
-    Named : Refusal → Type 0
-    Named x = ((x .value ≡ 0) × (p ≡ 65535)) ⊎ ((x .value ≡ 1) × (q ≡ 65535) × (p ≡ 65535 → ⊥))
-
-    named : (x : Refusal) → (lowest isCeiling (p ∷ q ∷ []) < 2) × (x ≡ record { number = 4; value = given (lowest isCeiling (p ∷ q ∷ [])) })
-        → (i : ℕ) → lowest isCeiling (p ∷ q ∷ []) ≡ i → Named x
-    named x (l, e) zero f =
-        inl (ap (λ (r : Refusal). r .value) e ∙ ap given f, eqb-true p 65535 (ap (λ (k : ℕ). isCeiling (getD (p ∷ q ∷ []) k 0)) (sym f) ∙ lowest-there isCeiling 0 (p ∷ q ∷ []) l))
-    named x (l, e) (suc zero) f =
-        inr (
-          ap (λ (r : Refusal). r .value) e ∙ ap given f,
-          eqb-true q 65535 (ap (λ (k : ℕ). isCeiling (getD (p ∷ q ∷ []) k 0)) (sym f) ∙ lowest-there isCeiling 0 (p ∷ q ∷ []) l),
-          eqb-false p 65535 (lowest-before isCeiling 0 (p ∷ q ∷ []) 0 (omega (arith, f))),
-        )
-    named x (l, e) (suc (suc i)) f = absurd (omega (arith, f, l))
 
 -- a value that is given is never more than it is
 given-le : (x : Refusal) {n : ℕ} (v : ℕ) → x ≡ record { number = n; value = given v } → x .value ≤ v
@@ -142,19 +110,13 @@ module _ (nx ny nz : ℕ) (s : List ℕ) (cut : Cut) (x : Refusal) (grey : cut .
   samples : nx * (ny * nz) ≤ 16777216
   samples = product-le nx ny nz 256 256 256 (limits .x-high) (limits .y-high) (limits .z-high)
 
-  index : (lowest isCeiling s < length s) × (x ≡ record { number = 4; value = given (lowest isCeiling s) }) → length s ≡ nx * (ny * nz) → x .value ≤ 66325500
-  index (l, h) count = omega (arith, samples, l, count, given-le x (lowest isCeiling s) h)
-
   -- whatever is tried behind them
   block-uncut : (ks : List Checked) → (inOrder ks ≡ Refuses x → x .value ≤ 66325500) → inOrder (blockRows n s cut ++ ks) ≡ Refuses x → x .value ≤ 66325500
   block-uncut ks rest e =
       ⊎-elim (λ h. omega (arith, samples, given-le x (sampleCount n) (holds-unless (eqb (length s) (sampleCount n)) 2 (sampleCount n) x h)))
       (λ h₁.
       ⊎-elim (λ h. omega (arith, grey, given-le x (cut .t) (holds-where (noThreshold cut) 3 (cut .t) x h)))
-      (λ h₂.
-      ⊎-elim (λ h. index (lowest-refusal 4 isCeiling s x h) (count-passed n (length s) (h₁ .0)))
-      (λ h₃. rest (h₃ .1))
-      (order-splits (ceilingRow s) ks x (h₂ .1)))
+      (λ h₂. rest (h₂ .1))
       (order-splits (thresholdRow cut) _ x (h₁ .1)))
       (order-splits (countRow n (length s)) _ x e)
 

@@ -16,14 +16,14 @@ use Rattle.block.specs.declared.Checked.{Checked}
 use Rattle.block.specs.declared.Checked.the-variants.{Passes, Refuses}
 use Rattle.block.specs.Answer.{Answer, accepted, refused, inOrder, First, decided, judged}
 use Rattle.block.specs.Grey.{cutOf}
-use Rattle.block.specs.Rows.{axisRow, sampleRows}
+use Rattle.block.specs.Rows.{axisRow, thresholdRow}
 use Rattle.block.specs.Size.{saidSize, SizeMade}
 use Rattle.block.proofs.Order.{order-last, first-exactly, refused-exactly, accepted-exactly}
 use Rattle.cube_rule.specs.Decider.{loopsOf}
 use Rattle.place.specs.declared.Crossing.{Crossing}
 use Rattle.place.specs.Crossing.{crossing, saidEdge, edgeAnswer, EdgeAnswered}
 use Rattle.cell.specs.declared.CubeAnswer.{CubeAnswer}
-use Rattle.cell.specs.Answer.{saidCube, cubeVerdict, CubeAnswered}
+use Rattle.cell.specs.Answer.{saidCube, CubeAnswered}
 use Rattle.mesh.specs.declared.Totals.{Totals}
 use Rattle.mesh.specs.declared.Counted.{Counted}
 use Rattle.mesh.specs.Answer.{sizeOf, countsOf, saidCounts, blockRows, countsVerdict, CountsAnswered, roomRows, meshVerdict, written, Meshed}
@@ -60,21 +60,21 @@ module _ (nx ny nz : ℕ) (r : Sized) (promise : SizeMade nx ny nz r) where
 
 -- the edge question
 module _ (p q t : ℕ) (r : Crossing) (promise : EdgeAnswered p q t r) where
-  pub edge-refuses : (x : Refusal) → (saidEdge r ≡ refused x) ↔ First (sampleRows (cutOf t) (p ∷ q ∷ [])) x
+  pub edge-refuses : (x : Refusal) → (saidEdge r ≡ refused x) ↔ First (thresholdRow (cutOf t) ∷ []) x
   unfolding edgeAnswer
   edge-refuses = refuses-by _ _ _ promise
 
-  pub edge-accepts : (c : List Float) → (saidEdge r ≡ accepted c) ↔ ((inOrder (sampleRows (cutOf t) (p ∷ q ∷ [])) ≡ Passes) × (c ≡ crossing (cutOf t) p q))
+  pub edge-accepts : (c : List Float) → (saidEdge r ≡ accepted c) ↔ ((thresholdRow (cutOf t) ≡ Passes) × (c ≡ crossing (cutOf t) p q))
   unfolding edgeAnswer
-  edge-accepts = accepted-exactly _ _ _ promise
+  edge-accepts = accepts-by _ _ _ promise
 
 -- the cube question
 module _ (corners : List ℕ) (cut : Cut) (r : CubeAnswer) (promise : CubeAnswered corners cut r) where
-  pub cube-refuses : (x : Refusal) → (saidCube (r .found) ≡ refused x) ↔ First (sampleRows cut corners) x
+  pub cube-refuses : (x : Refusal) → (saidCube (r .found) ≡ refused x) ↔ First (thresholdRow cut ∷ []) x
   cube-refuses = refuses-by _ _ _ (promise .found)
 
-  pub cube-accepts : (n : ℕ) → (saidCube (r .found) ≡ accepted n) ↔ ((cubeVerdict cut corners ≡ Passes) × (n ≡ length (loopsOf cut corners)))
-  cube-accepts = accepted-exactly _ _ _ (promise .found)
+  pub cube-accepts : (n : ℕ) → (saidCube (r .found) ≡ accepted n) ↔ ((thresholdRow cut ≡ Passes) × (n ≡ length (loopsOf cut corners)))
+  cube-accepts = accepts-by _ _ _ (promise .found)
 
 -- counting
 module _ (nx ny nz : ℕ) (s : List ℕ) (cut : Cut) (r : Counted) (promise : CountsAnswered nx ny nz s cut r) where
@@ -119,12 +119,11 @@ mesh-keeps nx ny nz s cut w o q r w′ o′ q′ promise x e =
 -- ---- the program
 
 -- two digits are enough for its numbers
-told-number : (x : Refusal) → (x .number ≡ 1) ⊎ ((x .number ≡ 3) ⊎ ((x .number ≡ 4) ⊎ ((x .number ≡ 8) ⊎ (x .number ≡ 9)))) → x .number < 256
+told-number : (x : Refusal) → (x .number ≡ 1) ⊎ ((x .number ≡ 3) ⊎ ((x .number ≡ 8) ⊎ (x .number ≡ 9))) → x .number < 256
 told-number x (inl e) = omega (arith, e)
 told-number x (inr (inl e)) = omega (arith, e)
 told-number x (inr (inr (inl e))) = omega (arith, e)
-told-number x (inr (inr (inr (inl e)))) = omega (arith, e)
-told-number x (inr (inr (inr (inr e)))) = omega (arith, e)
+told-number x (inr (inr (inr e))) = omega (arith, e)
 
 module _ (bytes : List ℕ) where
   -- the text of the block that was read

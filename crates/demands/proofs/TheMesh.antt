@@ -64,7 +64,7 @@ module _ {nx ny nz : ℕ} {s : List ℕ} {cut : Cut} (a : MeshCall nx ny nz s cu
   pub quads-are : a .counts .quads ≡ length (quads loopsOf size s cut)
   quads-are = ap (λ (x : Totals). x .quads) (both .1)
 
-  limits : Limits size
+  pub limits : Limits size
   limits = axes-within nx ny nz (order-first (axisRow nx ny nz) _ (both .0))
 
   quads-in : a .quads-after ≡ over (meshQuads loopsOf size s cut) (a .quads)

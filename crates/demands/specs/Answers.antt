@@ -3,7 +3,7 @@ use Prim.Native.Nat.{ℕ, _*_, _<_}
 use mathlib.Core.Path.{_≡_}
 use mathlib.Core.List.{List}
 use lib.Ieee.{Float}
-use lib.ListN.{length, getD}
+use lib.ListN.{getD}
 use Rattle.block.specs.declared.Cut.{Cut}
 use Rattle.block.specs.declared.Refusal.{Refusal}
 use Rattle.block.specs.Answer.{Answer, accepted, refused}
@@ -14,10 +14,6 @@ use Rattle.mesh.specs.Answer.{saidCounts, Meshed}
 -- anything but a refusal
 abbrev pub NotRefused : {A : Type 0} → Answer A → Type 0
 NotRefused a = (x : Refusal) → a ≡ refused x → ⊥
-
--- every sample is below 65,535, the detector's ceiling
-abbrev pub BelowCeiling : List ℕ → Type 0
-BelowCeiling s = (k : ℕ) → k < length s → getD s k 0 < 65535
 
 -- any call of `mesh` that its promise allows and that answers counts: the buffers before it and after it
 pub record MeshCall (nx ny nz : ℕ) (s : List ℕ) (cut : Cut) : Type 0 where

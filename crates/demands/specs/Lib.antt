@@ -1,2 +1,3 @@
 pub mod Answers
 pub mod Given
+pub mod Marks

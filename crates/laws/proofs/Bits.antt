@@ -40,29 +40,25 @@ above m n e h =
     power : 2 ^ n ≡ 2 ^ e * (2 * 2 ^ (n - e - 1))
     power = ap (λ (x : ℕ). 2 ^ x) parts ∙ pow-add 2 e (1 + (n - e - 1)) ∙ ap (λ (x : ℕ). 2 ^ e * x) (pow-add 2 1 (n - e - 1))
 
+-- a bit n put on a mask below 2 ^ n is read back
+pub holds-top : (m n : ℕ) (b : Bool) → m < 2 ^ n → holds (m + bit b * 2 ^ n) n ≡ b
+holds-top m n true h = rw (one-mul, add-div-right m (pow-pos n), div-eq-of-lt h)
+holds-top m n false h = rw (zero-mul, add-zero, div-eq-of-lt h)
+
+-- and changes none of the lower bits
+pub holds-under : (m n e : ℕ) (b : Bool) → e < n → holds (m + bit b * 2 ^ n) e ≡ holds m e
+holds-under m n e true h = rw (one-mul, above m n e h)
+holds-under m n e false h = rw (zero-mul, add-zero)
+
 -- it has the bits that the test says
 pub holds-mask : (f : ℕ → Bool) (n e : ℕ) → e < n → holds (maskOf f n) e ≡ f e
 unfolding maskOf
 holds-mask f zero e h = absurd (not-suc-le-zero h)
 holds-mask f (suc n) e h = go (eq-or-lt-of-le (le-of-suc-le-suc h)) (holds-mask f n e)
   where
-    m : ℕ
-    m = maskOf f n
-
-    low : m / 2 ^ n ≡ 0
-    low = div-eq-of-lt (mask-lt f n)
-
-    here : (b : Bool) → holds (m + bit b * 2 ^ n) n ≡ b
-    here true = rw (one-mul, add-div-right m (pow-pos n), low)
-    here false = rw (zero-mul, add-zero, low)
-
-    there : (b : Bool) → e < n → holds (m + bit b * 2 ^ n) e ≡ holds m e
-    there true l = rw (one-mul, above m n e l)
-    there false l = rw (zero-mul, add-zero)
-
-    go : (e ≡ n) ⊎ (e < n) → (e < n → holds m e ≡ f e) → holds (m + bit (f n) * 2 ^ n) e ≡ f e
-    go (inl q) ih = rw q (here (f n))
-    go (inr l) ih = there (f n) l ∙ ih l
+    go : (e ≡ n) ⊎ (e < n) → (e < n → holds (maskOf f n) e ≡ f e) → holds (maskOf f n + bit (f n) * 2 ^ n) e ≡ f e
+    go (inl q) ih = rw q (holds-top (maskOf f n) n (f n) (mask-lt f n))
+    go (inr l) ih = holds-under (maskOf f n) n e (f n) l ∙ ih l
 
 -- a test that nothing passes makes the empty mask
 pub mask-none : (f : ℕ → Bool) (n : ℕ) → ((e : ℕ) → e < n → f e ≡ false) → maskOf f n ≡ 0

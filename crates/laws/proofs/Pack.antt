@@ -12,7 +12,6 @@ use lib.Count.{ones, ones-cat, ones-step}
 use lib.Pow.{ones-split, ones-lt, pow-pos, pow-add, high, low, shl-exact}
 use Rattle.laws.specs.Bits.{bit, maskOf}
 use Rattle.laws.specs.Pack.{pack, total}
-use Rattle.laws.specs.Counting.{count}
 
 -- ---- the word of the bits of f
 

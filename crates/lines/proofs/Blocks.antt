@@ -1,8 +1,8 @@
--- From what `mesh` answers of a block of at most 8 samples an axis to what the program prints: refusal 4, or the whole mesh.
+-- From what `mesh` answers of a block of at most 8 samples an axis to what the program prints: the whole mesh, since no row refuses such a block.
 -- Assumes nothing.
 use Prim.Native.Nat.{ℕ, _*_, _≤_}
-use mathlib.Core.Path.{_≡_, refl, sym, ap, subst, _∙_}
-use mathlib.Core.List.{List, _∷_}
+use mathlib.Core.Path.{_≡_, sym, ap, subst, _∙_}
+use mathlib.Core.List.{List}
 use native.Mathlib.Omega.{arith}
 use lib.Ieee.{Float}
 use lib.ListN.{length, take}
@@ -10,10 +10,10 @@ use Rattle.block.specs.declared.Cut.{Cut}
 use Rattle.block.specs.declared.Size.{Size}
 use Rattle.block.specs.declared.Refusal.{Refusal}
 use Rattle.block.specs.declared.Checked.{Checked}
-use Rattle.block.specs.declared.Checked.the-variants.{Passes, Refuses}
-use Rattle.block.specs.Answer.{inOrder, decided}
-use Rattle.block.specs.Rows.{axisRow, countRow, thresholdRow, ceilingRow}
-use Rattle.block.proofs.Order.{order-passes, refused-says, accepted-says}
+use Rattle.block.specs.declared.Checked.the-variants.{Passes}
+use Rattle.block.specs.Answer.{decided}
+use Rattle.block.specs.Rows.{axisRow, countRow, thresholdRow}
+use Rattle.block.proofs.Order.{passes-refuses, order-passes, refused-says, accepted-says}
 use Rattle.block.proofs.Rows.{count-passes}
 use Rattle.cube_rule.specs.Decider.{loopsOf}
 use Rattle.mesh_rule.specs.Buffers.{meshWords, meshOffsets, meshQuads}
@@ -27,18 +27,12 @@ use Rattle.mesh.specs.declared.Counted.the-variants as counted
 use Rattle.mesh.specs.Answer.{sizeOf, vertexCount, quadCount, countsOf, meshVerdict, written, Meshed}
 use Rattle.mesh.proofs.RoomRows.{roomy}
 use Rattle.mesh.proofs.Tallies.{quads-all-length}
-use Rattle.lines.specs.Output.{refusalLine, meshText, blockText}
-use Rattle.lines.specs.Steps.{Numbers, Readable, printed}
+use Rattle.lines.specs.Output.{meshText, blockText}
+use Rattle.lines.specs.Steps.{Numbers, Readable}
 use Rattle.reading.proofs.Axes.{AtMostEight, at-most-eight}
 use Rattle.reading.proofs.Samples.{front}
 
 -- ---- the mesh
-
--- the ceiling decides where the others pass
-ceiling-decides : (k : Checked) (ks : List Checked) → inOrder ks ≡ Passes → inOrder (k ∷ ks) ≡ k
-unfolding inOrder
-ceiling-decides Passes ks e = e
-ceiling-decides (Refuses r) ks e = refl
 
 written-front : {A : Type 0} (k : Checked) (xs b c : List A) (m : ℕ) → k ≡ Passes → c ≡ written k xs b → length xs ≡ m → take m c ≡ xs
 unfolding decided
@@ -48,7 +42,7 @@ written-front k xs b c m e d l = rw (d, e) (front xs b m l)
 pub record Front (n : Size) (s : List ℕ) (cut : Cut) (w : List ℕ) (o : List Float) (q : List ℕ) (c : Totals) : Type 0 where
   pub few : (c .vertices ≤ 1372) × (c .quads ≤ 756)
   pub numbers : Numbers (take (3 * c .vertices) o)
-  pub text : meshText (c .vertices) (c .quads) (take (2 * c .vertices) w) (take (3 * c .vertices) o) (take (4 * c .quads) q) ≡ printed (ceilingRow s) (blockText n s cut)
+  pub text : meshText (c .vertices) (c .quads) (take (2 * c .vertices) w) (take (3 * c .vertices) o) (take (4 * c .quads) q) ≡ blockText n s cut
 
 module _ (nx ny nz t : ℕ) (s w : List ℕ) (o : List Float) (q : List ℕ) (r : Counted) (w′ : List ℕ) (o′ : List Float) (q′ : List ℕ)
     (read : Readable nx ny nz t) (count : length s ≡ nx * (ny * nz)) (lw : length w ≡ 2744) (lo : length o ≡ 4116) (lq : length q ≡ 3024)
@@ -71,18 +65,16 @@ module _ (nx ny nz t : ℕ) (s w : List ℕ) (o : List Float) (q : List ℕ) (r 
   few-q : quadCount size s cut ≤ 756
   few-q = few-quads size s cut (eight .x) (eight .y) (eight .z)
 
-  is-ceiling : verdict ≡ ceilingRow s
-  is-ceiling =
+  passes : verdict ≡ Passes
+  passes =
       order-passes (axisRow nx ny nz) _ (read .axes)
       ∙ order-passes (countRow size (length s)) _ (count-passes size (length s) count)
       ∙ order-passes (thresholdRow cut) _ (read .cut)
-      ∙ ceiling-decides (ceilingRow s) _
-      (roomy (vertexCount size s cut) (quadCount size s cut) (length w) (length o) (length q) (omega (arith, few-v, lw)) (omega (arith, few-v, lo)) (omega (arith, few-q, lq)))
+      ∙ roomy (vertexCount size s cut) (quadCount size s cut) (length w) (length o) (length q) (omega (arith, few-v, lw)) (omega (arith, few-v, lo)) (omega (arith, few-q, lq))
 
-  -- refused
-  pub refused-text : (x : Refusal) → r ≡ counted.Refused x → refusalLine x ≡ printed (ceilingRow s) (blockText size s cut)
-  unfolding decided
-  refused-text x e = rw (sym is-ceiling ∙ refused-says verdict (countsOf size s cut) x (rw e at (m .answer)))
+  -- so the answer is no refusal
+  pub no-refusal : (x : Refusal) → r ≡ counted.Refused x → ⊥
+  no-refusal x e = passes-refuses (sym passes ∙ refused-says verdict (countsOf size s cut) x (rw e at (m .answer)))
 
   -- accepted
   module _ (c : Totals) (e : r ≡ counted.Counts c) where
@@ -105,9 +97,8 @@ module _ (nx ny nz t : ℕ) (s w : List ℕ) (o : List Float) (q : List ℕ) (r 
     quad-numbers-are = written-front verdict (meshQuads loopsOf size s cut) q q′ (4 * c .quads) (both .0) (m .quads) (quads-all-length size s cut ∙ omega (arith, quads-are))
 
     accepted-text : meshText (c .vertices) (c .quads) (take (2 * c .vertices) w′) (take (3 * c .vertices) o′) (take (4 * c .quads) q′)
-        ≡ printed (ceilingRow s) (blockText size s cut)
-    unfolding decided
-    accepted-text = rw (words-are, offsets-are, quad-numbers-are, vertices-are, quads-are, sym is-ceiling ∙ both .0)
+        ≡ blockText size s cut
+    accepted-text = rw (words-are, offsets-are, quad-numbers-are, vertices-are, quads-are)
 
     pub accepted-front : SixteenBit s → Front size s cut w′ o′ q′ c
     accepted-front grey = record {

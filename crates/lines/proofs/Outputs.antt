@@ -2,7 +2,7 @@
 -- empty input. Assumes nothing.
 use Prim.Native.Nat.{ℕ, _≤_}
 use mathlib.Core.Path.{_≡_, refl, sym, ap, ap₂, _∙_}
-use mathlib.Core.List.{List, [], _∷_, _++_}
+use mathlib.Core.List.{List, []}
 use native.Mathlib.Nat.{zero-add}
 use native.Mathlib.Omega.{arith}
 use lib.ListN.{length, take}
@@ -14,14 +14,14 @@ use Rattle.block.specs.declared.Refusal.{Refusal}
 use Rattle.block.specs.declared.Checked.{Checked}
 use Rattle.block.specs.declared.Checked.the-variants.{Passes, Refuses}
 use Rattle.block.specs.Answer.{inOrder, decided}
-use Rattle.block.specs.Rows.{lowest, axisRow, ceilingRow}
-use Rattle.block.proofs.Order.{order-first, order-rest, order-last, orders-refuse, orders-pass}
+use Rattle.block.specs.Rows.{lowest, axisRow}
+use Rattle.block.proofs.Order.{order-first, order-rest}
 use Rattle.cube_rule.specs.Decider.{loopsOf}
 use Rattle.mesh_rule.proofs.Small.{few-vertices, few-quads}
 use Rattle.mesh_rule.specs.Buffers.{meshWords, meshOffsets, meshQuads}
 use Rattle.mesh.specs.Answer.{sizeOf, vertexCount, quadCount}
 use Rattle.reading.specs.Text.{digits, numberAt, lineRight}
-use Rattle.reading.specs.Input.{firstLineRow, largeRow, sizeRead, cutRead, samplesRead, earlyRows, inputVerdict}
+use Rattle.reading.specs.Input.{firstLineRow, largeRow, sizeRead, cutRead, samplesRead, inputRows, inputVerdict}
 use Rattle.lines.specs.Output.{refusalLine, blockText, outputOf, Ran}
 use Rattle.laws.specs.Put.{Put}
 use Rattle.lines.specs.Steps.{Readable, printed}
@@ -36,7 +36,7 @@ abbrev textFor : List ℕ → Size → Cut → List ℕ
 textFor bytes n cut = blockText n (samplesRead bytes n) cut
 
 abbrev outputFor : List ℕ → Size → Cut → List ℕ
-outputFor bytes n cut = printed (inOrder (earlyRows bytes n cut ++ ceilingRow (samplesRead bytes n) ∷ [])) (textFor bytes n cut)
+outputFor bytes n cut = printed (inOrder (inputRows bytes n cut)) (textFor bytes n cut)
 
 output-for : (bytes : List ℕ) (nx ny nz t : ℕ) → nx ≡ numberAt bytes 0 4 → ny ≡ numberAt bytes 4 4 → nz ≡ numberAt bytes 8 4 → t ≡ numberAt bytes 12 4
     → outputOf bytes ≡ outputFor bytes (sizeOf nx ny nz) (record { t = t })
@@ -44,23 +44,22 @@ unfolding outputOf
 output-for bytes nx ny nz t ex ey ez et = rw (ex, ey, ez, et)
 
 module _ (bytes : List ℕ) (nx ny nz t : ℕ) (ex : nx ≡ numberAt bytes 0 4) (ey : ny ≡ numberAt bytes 4 4) (ez : nz ≡ numberAt bytes 8 4) (et : t ≡ numberAt bytes 12 4) where
-  -- a row before row 4 refuses
-  pub output-refused : (r : Refusal) → inOrder (earlyRows bytes (sizeOf nx ny nz) (record { t = t })) ≡ Refuses r → refusalLine r ≡ outputOf bytes
+  -- a row refuses
+  pub output-refused : (r : Refusal) → inOrder (inputRows bytes (sizeOf nx ny nz) (record { t = t })) ≡ Refuses r → refusalLine r ≡ outputOf bytes
   unfolding decided
   output-refused r e =
       sym (output-for bytes nx ny nz t ex ey ez et
-      ∙ ap (λ (k : Checked). printed k (textFor bytes (sizeOf nx ny nz) (record { t = t })))
-      (orders-refuse (earlyRows bytes (sizeOf nx ny nz) (record { t = t })) (ceilingRow (samplesRead bytes (sizeOf nx ny nz)) ∷ []) r e))
+      ∙ ap (λ (k : Checked). printed k (textFor bytes (sizeOf nx ny nz) (record { t = t }))) e)
 
-  -- none does, and row 4 decides
-  pub output-block : inOrder (earlyRows bytes (sizeOf nx ny nz) (record { t = t })) ≡ Passes
-      → printed (ceilingRow (samplesRead bytes (sizeOf nx ny nz))) (blockText (sizeOf nx ny nz) (samplesRead bytes (sizeOf nx ny nz)) (record { t = t })) ≡ outputOf bytes
+  -- none does
+  pub output-block : inOrder (inputRows bytes (sizeOf nx ny nz) (record { t = t })) ≡ Passes
+      → blockText (sizeOf nx ny nz) (samplesRead bytes (sizeOf nx ny nz)) (record { t = t }) ≡ outputOf bytes
+  unfolding decided
   output-block e =
       sym (output-for bytes nx ny nz t ex ey ez et
-      ∙ ap (λ (k : Checked). printed k (textFor bytes (sizeOf nx ny nz) (record { t = t })))
-      (orders-pass (earlyRows bytes (sizeOf nx ny nz) (record { t = t })) (ceilingRow (samplesRead bytes (sizeOf nx ny nz)) ∷ []) e ∙ order-last _))
+      ∙ ap (λ (k : Checked). printed k (textFor bytes (sizeOf nx ny nz) (record { t = t }))) e)
 
-  pub readable : inOrder (earlyRows bytes (sizeOf nx ny nz) (record { t = t })) ≡ Passes → Readable nx ny nz t
+  pub readable : inOrder (inputRows bytes (sizeOf nx ny nz) (record { t = t })) ≡ Passes → Readable nx ny nz t
   readable e =
       let a = order-rest (firstLineRow bytes) _ e in
       let l = order-rest (axisRow nx ny nz) _ a in

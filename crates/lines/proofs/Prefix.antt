@@ -2,7 +2,7 @@
 -- Assumes nothing.
 use Prim.Native.Nat.{ℕ, _*_, _≤_}
 use mathlib.Core.Path.{_≡_, refl}
-use mathlib.Core.List.{List, [], _∷_, _++_}
+use mathlib.Core.List.{List, _∷_}
 use native.Mathlib.Omega.{arith}
 use lib.ListN.{take}
 use Rattle.block.specs.declared.Cut.{Cut}
@@ -11,8 +11,8 @@ use Rattle.block.specs.declared.Refusal.{Refusal}
 use Rattle.block.specs.declared.Checked.{Checked}
 use Rattle.block.specs.declared.Checked.the-variants.{Passes, Refuses}
 use Rattle.block.specs.Answer.{inOrder, decided}
-use Rattle.block.specs.Rows.{axisRow, ceilingRow}
-use Rattle.reading.specs.Input.{firstLineRow, largeRow, samplesRead, sizeRead, cutRead, earlyRows}
+use Rattle.block.specs.Rows.{axisRow}
+use Rattle.reading.specs.Input.{firstLineRow, largeRow, samplesRead, sizeRead, cutRead, inputRows}
 use Rattle.reading.proofs.Axes.{at-most-eight}
 use Rattle.reading.proofs.Prefix.{same-number, same-lines, same-samples, same-first}
 use Rattle.lines.specs.Output.{blockText, outputOf}
@@ -31,8 +31,8 @@ module _ (bytes : List ℕ) (B : ℕ) (room : 2130 ≤ B) where
 
   -- the verdict, and the text where it passes
   same-output : (n : Size) (cut : Cut) (k : Checked) → largeRow (n .nx) (n .ny) (n .nz) ≡ k
-      → printed (inOrder (earlyRows first n cut ++ ceilingRow (samplesRead first n) ∷ [])) (blockText n (samplesRead first n) cut)
-      ≡ printed (inOrder (earlyRows bytes n cut ++ ceilingRow (samplesRead bytes n) ∷ [])) (blockText n (samplesRead bytes n) cut)
+      → printed (inOrder (inputRows first n cut)) (blockText n (samplesRead first n) cut)
+      ≡ printed (inOrder (inputRows bytes n cut)) (blockText n (samplesRead bytes n) cut)
   same-output n cut Passes e =
       let h = at-most-eight (n .nx) (n .ny) (n .nz) e in
       rw (same-first bytes B room, same-lines bytes B room (n .nx) (n .ny * n .nz) (h .x) (h .rows), same-samples bytes B room n (h .x) (h .rows))

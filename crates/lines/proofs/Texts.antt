@@ -45,7 +45,7 @@ quad-line : (quads : List ℕ) (q : ℕ) → quadFields (getD quads (4 * q) 0) (
 unfolding quadLine quadFields below
 quad-line quads q = simp (append-assoc, add-zero)
 
-vertex-line-length : (words : List ℕ) (offsets : List Float) (v : ℕ) → length (vertexLine words offsets v) ≡ 63
+pub vertex-line-length : (words : List ℕ) (offsets : List Float) (v : ℕ) → length (vertexLine words offsets v) ≡ 63
 vertex-line-length words offsets v = ap length (sym (vertex-line words offsets v)) ∙ vertex-length _ _ _ _ _
 
 quad-line-length : (quads : List ℕ) (q : ℕ) → length (quadLine quads q) ≡ 35

@@ -1,12 +1,12 @@
 -- Texts put one behind the other, and a number digit by digit.
 -- Assumes nothing.
 use Prim.Native.Nat.{ℕ, _+_, _-_, _/_, _%_, _^_, _≤_}
-use mathlib.Core.Path.{_≡_, refl, sym, ap, _∙_}
+use mathlib.Core.Path.{_≡_, refl, sym, ap}
 use mathlib.Core.List.{List, [], _∷_, _++_}
-use native.Mathlib.Nat.{add-zero, sub-self, div-one}
+use native.Mathlib.Nat.{sub-self, div-one}
 use native.Mathlib.Numerals.{add-one}
 use native.Mathlib.Omega.{arith}
-use lib.ListN.{length, set, length-append}
+use lib.ListN.{set}
 use lib.Pow.{shr-shr}
 use Rattle.laws.specs.Put.{Put}
 use Rattle.laws.proofs.Puts.{put-none, put-then}

@@ -13,7 +13,6 @@ ghost use lib.ListN.{length, take};
 ghost use lib.Dec.{T};
 ghost use lib.Ieee.{isNan};
 ghost use Rattle.laws.specs.Below.{below};
-ghost use Rattle.block.specs.Rows.{ceilingRow};
 ghost use Rattle.reading.specs.Text.{hexOf, LF};
 ghost use Rattle.reading.specs.Steps.{glyph as glyphOf};
 ghost use Rattle.reading.specs.Input.{samplesRead};
@@ -22,7 +21,7 @@ ghost use Rattle.mesh.specs.Answer.{sizeOf};
 ghost use Rattle.block.specs.Grey.{SixteenBit};
 ghost use Rattle.lines.specs.Output.{refusalLine, headLine, vertexLine, quadLine, closedField, meshText, blockText, Ran};
 ghost use Rattle.laws.specs.Put.{Put};
-ghost use Rattle.lines.specs.Steps.{Numbers, Readable, vertexFields, quadFields, printed};
+ghost use Rattle.lines.specs.Steps.{Numbers, Readable, vertexFields, quadFields};
 
 // The longest output: a head line, four vertices in each of 7·7·7 cubes, and a quad for each of 3·7·6·6 inner edges.
 pub const ROOM: usize = 112917;
@@ -209,11 +208,11 @@ fn put_front(out: &mut [u8], totals: Totals, words: &[u32], offsets: &[f64], qua
     )
 }
 
-// The mesh of a block of at most 8 samples an axis, or refusal 4.
+// The mesh of a block of at most 8 samples an axis.
 fn put_block(out: &mut [u8], nx: u32, ny: u32, nz: u32, samples: &[u16], t: u16) -> usize
     requires { ⌜ Readable nx ny nz t × (length (now samples) ≡ nx * (ny * nz)) × SixteenBit (now samples) ⌝ }
     requires { ⌜ 112917 ≤ length (now out) ⌝ }
-    ensures { λ r. ⌜ Put (now (out .entry)) 0 (printed (ceilingRow (now (samples .entry))) (blockText (sizeOf nx ny nz) (now (samples .entry)) (record { t = t }))) (now (out .exit)) r ⌝ }
+    ensures { λ r. ⌜ Put (now (out .entry)) 0 (blockText (sizeOf nx ny nz) (now (samples .entry)) (record { t = t })) (now (out .exit)) r ⌝ }
 {
     let mut words = [0u32; 2744];
     let mut offsets = [0.0f64; 4116];
@@ -228,17 +227,18 @@ fn put_block(out: &mut [u8], nx: u32, ny: u32, nz: u32, samples: &[u16], t: u16)
         &mut offsets,
         &mut quads,
     );
-    match counted {
-        Counted::Refused(r) => put_refusal(out, r),
-        Counted::Counts(totals) => put_front(out, totals, &words, &offsets, &quads),
-    }
+    let Counted::Counts(totals) = counted else {
+        // Never reached: no row refuses the block.
+        return 0;
+    };
+    put_front(out, totals, &words, &offsets, &quads)
 }
 
 // The answer to an input whose lines are in order and whose axes and threshold pass.
 fn answer(input: &[u8], nx: u32, ny: u32, nz: u32, t: u16, out: &mut [u8]) -> usize
     requires { ⌜ Readable nx ny nz t ⌝ }
     requires { ⌜ 112917 ≤ length (now out) ⌝ }
-    ensures { λ r. ⌜ Put (now (out .entry)) 0 (printed (ceilingRow (samplesRead (now (input .entry)) (sizeOf nx ny nz))) (blockText (sizeOf nx ny nz) (samplesRead (now (input .entry)) (sizeOf nx ny nz)) (record { t = t }))) (now (out .exit)) r ⌝ }
+    ensures { λ r. ⌜ Put (now (out .entry)) 0 (blockText (sizeOf nx ny nz) (samplesRead (now (input .entry)) (sizeOf nx ny nz)) (record { t = t })) (now (out .exit)) r ⌝ }
 {
     let mut samples = [0u16; 512];
     let count = (nx * (ny * nz)) as usize;

@@ -1,8 +1,8 @@
 -- Layer by layer: the lists and counts up to a layer and of the layer are those up to the next.
 -- Assumes nothing.
 use Prim.Native.Nat.{ℕ, zero, suc, _+_, _*_, _-_}
-use mathlib.Core.Path.{_≡_, refl, ap, ap₂, sym, _∙_}
-use mathlib.Core.List.{List, [], _∷_, _++_, map}
+use mathlib.Core.Path.{_≡_, ap, ap₂, sym, _∙_}
+use mathlib.Core.List.{List, _++_, map}
 use native.Mathlib.Nat.{mul-add, mul-one, mul-assoc}
 use native.Mathlib.Omega.{arith}
 use lib.ListN.{length, length-append, length-map}
@@ -12,14 +12,12 @@ use Rattle.block.specs.declared.Cut.{Cut}
 use Rattle.block.specs.declared.Size.{Size}
 use Rattle.block.specs.Numbering.{cubeCount}
 use Rattle.cube_rule.specs.Decider.{loopsOf}
-use Rattle.place.specs.declared.Offset.{Offset}
 use Rattle.place.specs.Place.{placeOf}
 use Rattle.cell.specs.Answer.{wordOf}
 use Rattle.mesh_rule.proofs.Words.{pairs-length, triples-length}
 use Rattle.mesh_rule.specs.Grid.{cornersOf}
 use Rattle.mesh_rule.specs.Mesh.{verticesOf, verticesBefore, cubeLoops}
-use Rattle.mesh_rule.specs.Buffers.{triples}
-use Rattle.mesh_rule.specs.Layers.{pairs, cubeWords, cubeOffsets, layerSize, layerWords, layerCount, layerFirst}
+use Rattle.mesh_rule.specs.Layers.{cubeWords, cubeOffsets, layerSize, layerWords, layerCount, layerFirst}
 use Rattle.mesh_rule.proofs.Numbers.{one-for-each-loop}
 
 -- one layer of l more

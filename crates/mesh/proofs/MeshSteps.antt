@@ -1,4 +1,4 @@
--- The verdict of a call whose size is made: rows 2 to 4 first, then rows 5 and 6 with the counts. A refusal leaves the buffers, and where all
+-- The verdict of a call whose size is made: rows 2 and 3 first, then rows 5 and 6 with the counts. A refusal leaves the buffers, and where all
 -- rows pass there is room for the whole mesh.
 use Prim.Native.Nat.{ℕ}
 use mathlib.Core.Path.{_≡_, ap, sym, _∙_}
@@ -36,7 +36,7 @@ module _ (n : Size) (s : List ℕ) (cut : Cut) where
     abbrev verdict : Checked
     verdict = inOrder (blockRows n s cut ++ roomRows (countsOf n s cut) (length w) (length o) (length q))
 
-    -- rows 2 to 4 refuse
+    -- rows 2 and 3 refuse
     pub early-refused : (r : Refusal) → early ≡ Refuses r → MeshedBy verdict n s cut w o q (counted.Refused r) w o q
     early-refused r e = refused-by verdict n s cut w o q r (orders-refuse (blockRows n s cut) _ r e)
 

@@ -27,7 +27,7 @@ use Rattle.vertices.specs.Layers.{Ready, RowRoom}
 use Rattle.rows.specs.Rows.{RowReady}
 use Rattle.notes.specs.Tables.{Numbered}
 use Rattle.notes.proofs.Notes.{numbered}
-use Rattle.vertices.proofs.CubeCorners.{Windows, windows-accepted}
+use Rattle.vertices.proofs.CubeCorners.{Windows}
 use Rattle.vertices.proofs.Layers.{row-bounds, row-ready, masks-are, words-are, offsets-are, numbers-are}
 use Rattle.quads.specs.declared.Along.{Along}
 use Rattle.quads.specs.declared.Along.the-variants.{AxisX, AxisY, AxisZ}
@@ -154,11 +154,9 @@ module _ {n : Size} {s : List ℕ} {cut : Cut} {table a b : List ℕ} {j k : ℕ
   vertex-room : {lo hi : List ℕ} → Windows n s j k lo hi → RowRoom loopsOf lo hi cut (n .nx) first (m .v) w o (half j tab)
   vertex-room {lo} {hi} p =
       let count = ap length (masks-are loopsOf p cut (t .row)) in
-      let clear = windows-accepted n s j k lo hi p (ok .accepted) (ok .count) (t .row) (r .inside) in
       record {
         small = omega (arith, row-bounds n (n .nx) (n .ny) j k (ok .limits) refl refl (t .row) (r .inside));
-        low = clear .0;
-        high = clear .1;
+        threshold = ok .threshold;
         words-room = omega (arith, count, few, u .room .words, words-kept (u .writing));
         offsets-room = omega (arith, count, few, u .room .offsets, offsets-kept (u .writing));
         numbers-room = half-long j tab (t .tab-long);

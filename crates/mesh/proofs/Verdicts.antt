@@ -2,7 +2,7 @@
 -- Assumes nothing.
 use Prim.Native.Nat.{ℕ}
 use mathlib.Core.Path.{_≡_, refl, ap, ap₂, sym, _∙_, subst}
-use mathlib.Core.List.{List, [], _∷_, _++_}
+use mathlib.Core.List.{List, [], _++_}
 use mathlib.Core.Bool.{Bool, true, false, cond}
 use native.Mathlib.Omega.{arith}
 use lib.Dec.{eqb}
@@ -19,10 +19,9 @@ use Rattle.block.specs.declared.Checked.{Checked}
 use Rattle.block.specs.declared.Checked.the-variants.{Passes, Refuses}
 use Rattle.block.specs.Answer.{accepted, refused, inOrder, judged, refuses, decided}
 use Rattle.block.specs.Numbering.{sampleCount}
-use Rattle.block.specs.Rows.{axisRow, countRow}
+use Rattle.block.specs.Rows.{axisRow, countRow, thresholdRow}
 use Rattle.block.specs.Size.{SizeMade, Limits}
 use Rattle.block.proofs.Order.{passes-refuses, order-refuses, order-passes, order-first, order-rest}
-use Rattle.block.proofs.Accepted.{accepted-by}
 use Rattle.block.proofs.Sizes.{axis-refused, axis-passed, size-made}
 use Rattle.mesh.specs.declared.Counted.{Counted}
 use Rattle.mesh.specs.declared.Counted.the-variants as counted
@@ -93,7 +92,7 @@ mesh-fixed nx ny nz s cut w o q a b p r =
     ap₂ (λ (x : Counted) (y : List ℕ). (x, y, a .2, a .3)) (said-counts-injective (a .0) (b .0) (p .answer ∙ sym (r .answer))) (p .words ∙ sym (r .words))
     ∙ ap₂ (λ (x : List Float) (y : List ℕ). (b .0, b .1, x, y)) (p .offsets ∙ sym (r .offsets)) (p .quads ∙ sym (r .quads))
 
--- ---- what follows where rows 2 to 4 pass
+-- ---- what follows where rows 2 and 3 pass
 
 pub judged-passed : {A : Type 0} (k : Checked) (a b : A) → k ≡ Passes → a ≡ b → accepted a ≡ judged k b
 unfolding decided
@@ -111,4 +110,4 @@ block-of n s cut l e = record { limits = l; samples = count-passed n (length s) 
 
 pub meshable-of : (n : Size) (s : List ℕ) (cut : Cut) → Limits n → inOrder (blockRows n s cut) ≡ Passes → Meshable n s cut
 meshable-of n s cut l e =
-    record { limits = l; count = block-of n s cut l e .samples; accepted = accepted-by cut s [] (order-rest (countRow n (length s)) _ e) }
+    record { limits = l; count = block-of n s cut l e .samples; threshold = order-first (thresholdRow cut) [] (order-rest (countRow n (length s)) _ e) }

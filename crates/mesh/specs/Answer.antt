@@ -13,7 +13,7 @@ use Rattle.block.specs.declared.Size.{Size}
 use Rattle.block.specs.declared.Checked.{Checked}
 use Rattle.block.specs.declared.Checked.the-variants.{Passes}
 use Rattle.block.specs.Answer.{Answer, accepted, refused, refuses, inOrder, decided, judged}
-use Rattle.block.specs.Rows.{axisRow, countRow, sampleRows}
+use Rattle.block.specs.Rows.{axisRow, countRow, thresholdRow}
 use Rattle.cube_rule.specs.Decider.{loopsOf}
 use Rattle.mesh_rule.specs.Mesh.{vertices, quads}
 use Rattle.mesh_rule.specs.Buffers.{meshWords, meshOffsets, meshQuads}
@@ -40,9 +40,9 @@ saidCounts (counted.Refused r) = refused r
 abbrev pub sizeOf : ℕ → ℕ → ℕ → Size
 sizeOf nx ny nz = record { nx = nx; ny = ny; nz = nz }
 
--- "Counting a mesh gives 1 to 4 only": row 1, and the rows of a block whose size is made
+-- counting a mesh gives 1 to 3 only: row 1, and the rows of a block whose size is made
 abbrev pub blockRows : Size → List ℕ → Cut → List Checked
-blockRows n s cut = countRow n (length s) ∷ sampleRows cut s
+blockRows n s cut = countRow n (length s) ∷ thresholdRow cut ∷ []
 
 abbrev pub countsVerdict : ℕ → ℕ → ℕ → List ℕ → Cut → Checked
 countsVerdict nx ny nz s cut = inOrder (axisRow nx ny nz ∷ blockRows (sizeOf nx ny nz) s cut)

@@ -8,7 +8,8 @@ use lib.ListN.{length}
 use Rattle.laws.specs.Below.{below}
 use Rattle.block.specs.declared.Cut.{Cut}
 use Rattle.block.specs.declared.Size.{Size}
-use Rattle.block.specs.Accepted.{Accepted}
+use Rattle.block.specs.declared.Checked.the-variants.{Passes}
+use Rattle.block.specs.Rows.{thresholdRow}
 use Rattle.block.specs.Numbering.{Axis, X, Y, Z, sampleCount, cubeCount}
 use Rattle.block.specs.Size.{Limits}
 use Rattle.mesh_rule.specs.Mesh.{verticesBefore}
@@ -22,11 +23,11 @@ pub record Block (n : Size) (s : List ℕ) : Type 0 where
   pub limits : Limits n
   pub samples : length s ≡ sampleCount n
 
--- a block that rows 1 to 4 pass
+-- a block that rows 1 to 3 pass
 pub record Meshable (n : Size) (s : List ℕ) (cut : Cut) : Type 0 where
   pub limits : Limits n
   pub count : length s ≡ sampleCount n
-  pub accepted : Accepted cut s
+  pub threshold : thresholdRow cut ≡ Passes
 
 -- the row j of the layer k
 abbrev pub rowOf : Size → Cut → ℕ → ℕ → Row

@@ -31,7 +31,7 @@ pub enum Counted {
     Refused(Refusal),
 }
 
-// Rows 2, 3 and 4, in this order.
+// Rows 2 and 3, in this order.
 fn check(size: Size, samples: &[u16], cut: Cut) -> Checked
     requires { ⌜ Limits size ⌝ }
     ensures { λ r. ⌜ r ≡ inOrder (blockRows size (now (samples .entry)) cut) ⌝ }
@@ -40,11 +40,7 @@ fn check(size: Size, samples: &[u16], cut: Cut) -> Checked
     if let Checked::Refuses(r) = count {
         return Checked::Refuses(r);
     }
-    let threshold = block::check_threshold(cut);
-    if let Checked::Refuses(r) = threshold {
-        return Checked::Refuses(r);
-    }
-    block::check_ceiling(samples)
+    block::check_threshold(cut)
 }
 
 // Rows 5 and 6, in this order: the need, and the lengths of the three buffers.
@@ -378,7 +374,7 @@ fn write_block(
     }
 }
 
-// The mesh of a block whose size is made. The buffers are touched only when all of rows 2 to 6 pass.
+// The mesh of a block whose size is made. The buffers are touched only when rows 2, 3, 5 and 6 all pass.
 fn mesh_of(
     size: Size,
     samples: &[u16],

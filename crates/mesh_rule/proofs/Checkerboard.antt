@@ -2,7 +2,7 @@
 -- loops, and each of its inner edges is crossed. Up to the section on 256 the board is of any size. Beside it, a block without metal, which has
 -- no vertex.
 -- Assumes nothing.
-use Prim.Native.Nat.{ℕ, zero, suc, _+_, _*_, _-_, _/_, _%_, _<_, _≤_}
+use Prim.Native.Nat.{ℕ, zero, suc, _+_, _*_, _-_, _/_, _%_, _<_}
 use mathlib.Core.Path.{_≡_, refl, ap, _∙_}
 use mathlib.Core.Logic.{_⊎_, inl, inr}
 use mathlib.Core.Bool.{Bool, true, false, cond, _&&_}
@@ -11,23 +11,19 @@ use native.Mathlib.Nat.{mod-lt, div-lt-iff-lt-mul, mul-comm, mul-zero, zero-mul,
 use native.Mathlib.Omega.{arith}
 use lib.Count.{trailingZeros}
 use lib.Dec.{eqb, leb}
-use lib.ListN.{length, getD, replicate, length-append, length-replicate, List·getD-eq-default}
-use borrow.Author.Tests.{eqb-true, eq-eqb}
+use lib.ListN.{length, getD, replicate, length-append, length-replicate}
+use borrow.Author.Tests.{eq-eqb}
 use Rattle.laws.specs.Below.{below}
 use Rattle.laws.specs.Bits.{differ, maskOf}
 use Rattle.laws.specs.Counting.{count}
 use Rattle.laws.proofs.Counting.{count-same}
 use Rattle.laws.proofs.Index.{index-lt, index-x, index-y, index-z}
 use Rattle.laws.proofs.Over.{each-length, each-at}
-use Rattle.laws.proofs.Tests.{lt-or-ge}
 use Rattle.block.specs.declared.Checked.the-variants.{Passes}
-use Rattle.block.specs.declared.Cut.{Cut}
 use Rattle.block.specs.declared.Size.{Size}
 use Rattle.block.specs.Answer.{inOrder}
-use Rattle.block.specs.Grey.{ceiling, isCeiling}
 use Rattle.block.specs.Numbering.{Axis, X, Y, Z, sampleIndex, sampleCount, cubeCount}
-use Rattle.block.specs.Rows.{lowest, lowestRow, axisRow, countRow, ceilingRow, sampleRows}
-use Rattle.block.proofs.Lowest.{lowest-there, row-passes}
+use Rattle.block.specs.Rows.{lowestRow, axisRow, countRow, thresholdRow}
 use Rattle.cube_rule.specs.Edges.{patternOf, crossedMask}
 use Rattle.cube_rule.specs.Loops.{grow, loopFrom, loopsFrom, loopsBy}
 use Rattle.cube_rule.specs.Decider.{joined, loopsOf}
@@ -56,31 +52,7 @@ board-at n i j k hi hj hk =
     board-read n (sampleIndex n i j k) (index-lt (n .nx) (n .ny) i j k hi hj (n .nz) hk)
     ∙ rw (index-x (n .nx) (n .ny) i j k hi hj, index-y (n .nx) (n .ny) i j k hi hj, index-z (n .nx) (n .ny) i j k hi hj)
 
--- no sample is the detector's ceiling, nor is what is read past the last
-pub board-grey : (n : Size) (p : ℕ) → getD (board n) p 0 < 65535
-board-grey n p = go (lt-or-ge p (sampleCount n))
-  where
-    low : (b : Bool) → cond b 110 0 < 65535
-    low true = omega arith
-    low false = omega arith
-
-    go : (p < sampleCount n) ⊎ (sampleCount n ≤ p) → getD (board n) p 0 < 65535
-    go (inl l) = rw (board-read n p l) (low (eqb ((p % n .nx + p / n .nx % n .ny + p / n .nx / n .ny) % 2) 0))
-    go (inr g) = rw (List·getD-eq-default (board n) 0 {n = p} (rw (board-length n) g)) (omega arith)
-
--- so row 4 of the table of refusals passes, and row 2
-pub board-clear : (n : Size) → ceilingRow (board n) ≡ Passes
-board-clear n = row-passes isCeiling 4 (board n) (go (lt-or-ge (lowest isCeiling (board n)) (length (board n))))
-  where
-    go : (lowest isCeiling (board n) < length (board n)) ⊎ (length (board n) ≤ lowest isCeiling (board n)) → length (board n) ≤ lowest isCeiling (board n)
-    go (inl l) =
-        absurd (omega (
-          arith,
-          eqb-true (getD (board n) (lowest isCeiling (board n)) 0) ceiling (lowest-there isCeiling 0 (board n) l),
-          board-grey n (lowest isCeiling (board n)),
-        ))
-    go (inr g) = g
-
+-- so row 2 of the table of refusals passes
 pub board-counted : (n : Size) → countRow n (length (board n)) ≡ Passes
 board-counted n = rw (eq-eqb (length (board n)) (sampleCount n) (board-length n))
 
@@ -228,10 +200,10 @@ most-vertices-reached = board-vertices size
 pub most-quads-reached : length (quads loopsOf size (board size) cut) ≡ 49354740
 most-quads-reached = board-quads size
 
--- and the block is accepted: rows 1 to 4 pass
-pub board-accepted : inOrder (axisRow 256 256 256 ∷ countRow size (length (board size)) ∷ sampleRows cut (board size)) ≡ Passes
+-- and the block is accepted: rows 1 to 3 pass
+pub board-accepted : inOrder (axisRow 256 256 256 ∷ countRow size (length (board size)) ∷ thresholdRow cut ∷ []) ≡ Passes
 unfolding inOrder lowestRow
-board-accepted = rw (board-counted size, board-clear size)
+board-accepted = rw (board-counted size)
 
 -- ---- a block without metal has no vertex
 

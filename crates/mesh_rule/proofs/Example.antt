@@ -1,4 +1,5 @@
--- Blocks whose mesh is computed: that of document 01, "The program", one with a vertex that no quad uses, and one with its metal on a face.
+-- Blocks whose mesh is computed: that of document 01, "The program", also with a sample at the ceiling; metal round a ceiling; one with a vertex that no
+-- quad uses, and one with its metal on a face.
 -- Assumes nothing.
 use Prim.Native.Nat.{ℕ}
 use mathlib.Core.Path.{_≡_, refl}
@@ -9,10 +10,12 @@ use Rattle.laws.specs.Below.{below}
 use Rattle.laws.specs.Bits.{maskOf}
 use Rattle.block.specs.declared.Cut.{Cut}
 use Rattle.block.specs.declared.Size.{Size}
+use Rattle.block.specs.Grey.{ceiling}
 use Rattle.block.specs.Rows.{lowest}
 use Rattle.cube_rule.specs.Edges.{patternOf, crossedMask}
 use Rattle.cube_rule.specs.Loops.{grow, loopFrom, loopsFrom, loopsBy}
 use Rattle.cube_rule.specs.Decider.{joined, loopsOf}
+use Rattle.mesh_rule.specs.Buffers.{meshWords}
 use Rattle.mesh_rule.specs.Grid.{cornersOf}
 use Rattle.mesh_rule.specs.Mesh.{Vertex, flat, verticesOf, verticesBefore, vertices, vertexNumber, quadAt, quadsBefore, quads}
 
@@ -38,6 +41,17 @@ pub the-quads : flat (quads loopsOf (size 3) samples cut)
     ≡ 0 ∷ 4 ∷ 6 ∷ 2 ∷ 1 ∷ 3 ∷ 7 ∷ 5 ∷ 0 ∷ 1 ∷ 5 ∷ 4 ∷ 2 ∷ 6 ∷ 7 ∷ 3 ∷ 0 ∷ 2 ∷ 3 ∷ 1 ∷ 4 ∷ 5 ∷ 7 ∷ 6 ∷ []
 unfolding quads quadsBefore quadAt vertexNumber lowest verticesBefore verticesOf cornersOf below loopsBy joined patternOf crossedMask loopsFrom loopFrom grow maskOf trailingZeros
 the-quads = refl
+
+-- the same block with its last sample at the detector's ceiling: cube 7 has one vertex more, and both its vertices carry the mark
+pub the-marked : meshWords loopsOf (size 3) (replicate 13 0 ++ 400 ∷ replicate 12 0 ++ ceiling ∷ []) cut
+    ≡ 0 ∷ 0x888 ∷ 1 ∷ 0x448 ∷ 2 ∷ 0x284 ∷ 3 ∷ 0x144 ∷ 4 ∷ 0x822 ∷ 5 ∷ 0x412 ∷ 6 ∷ 0x221 ∷ 7 ∷ 0x1111 ∷ 7 ∷ 0x1888 ∷ []
+unfolding meshWords vertices verticesBefore verticesOf cornersOf below loopsBy joined patternOf crossedMask loopsFrom loopFrom grow maskOf trailingZeros
+the-marked = refl
+
+-- metal with one sample at the ceiling in its middle: no vertex, so no mark
+pub metal-round-ceiling : vertices loopsOf (size 3) (replicate 13 200 ++ ceiling ∷ replicate 13 200) cut ≡ []
+unfolding vertices verticesBefore verticesOf cornersOf below loopsBy joined patternOf crossedMask loopsFrom loopFrom grow maskOf trailingZeros
+metal-round-ceiling = refl
 
 -- one metal sample at the corner of the smallest block: its one vertex is on no inner edge
 pub unused-vertex : vertices loopsOf (size 2) (400 ∷ replicate 7 0) cut ≡ vertex 0 0x111 ∷ []

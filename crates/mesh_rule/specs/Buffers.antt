@@ -1,5 +1,5 @@
 -- What the lent buffers hold of a mesh (document 01, "The mesh"): "A vertex takes two u32 (cube number, mask) in one buffer and three f64 in
--- another", four u32 a quad.
+-- another", four u32 a quad. The second u32 is the vertex's word: the mask with the mark (document 02, One).
 use Prim.Native.Nat.{ℕ}
 use mathlib.Core.List.{List, [], _∷_, map}
 use lib.Ieee.{Float}

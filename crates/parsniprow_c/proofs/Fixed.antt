@@ -4,6 +4,9 @@ use mathlib.Core.Path.{_≡_, ap, ap₂, sym, _∙_}
 use mathlib.Core.List.{List}
 use lib.Ieee.{Float}
 use Rattle.laws.specs.Fixed.{Fixes}
+use Rattle.laws.proofs.Fixed.{equation-fixes}
+use Rattle.block.specs.Answer.{accepted}
+use Rattle.block.specs.Ceilings.{ceilingsIn}
 use Rattle.block.specs.Grey.{cutOf}
 use Rattle.place.specs.declared.Crossing.{Crossing}
 use Rattle.place.specs.Crossing.{saidEdge}
@@ -18,7 +21,10 @@ use Rattle.mesh.proofs.Verdicts.{counts-fixed, mesh-fixed}
 use Rattle.closed.specs.declared.Closure.{Closure}
 use Rattle.closed.specs.Closed.{saidClosure}
 use Rattle.closed.proofs.Fixed.{closed-fixed}
-use Rattle.parsniprow_c.specs.Told.{tellOver, toldEdge, toldFraction, toldCube, toldCounts, toldClosed, EdgeTold, CubeTold, CountsTold, MeshTold, ClosedTold}
+use Rattle.parsniprow_c.specs.Told.{tellOver, toldCeilings, toldEdge, toldFraction, toldCube, toldCounts, toldClosed, CeilingsTold, EdgeTold, CubeTold, CountsTold, MeshTold, ClosedTold}
+
+pub ceilings-told-fixed : (samples place : List ℕ) → Fixes (CeilingsTold samples place)
+ceilings-told-fixed samples place = equation-fixes (tellOver (toldCeilings (accepted (ceilingsIn samples))) place)
 
 -- the lent places at exit: of the edge question the fraction and the answer
 pub edge-told-fixed : (p q t : ℕ) (fraction : List Float) (place : List ℕ) → Fixes (λ (f : List Float × List ℕ). EdgeTold p q t fraction place (f .0) (f .1))

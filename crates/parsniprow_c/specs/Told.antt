@@ -6,7 +6,9 @@ use lib.ListN.{length, take}
 use lib.Ieee.{Float}
 use Rattle.laws.specs.Below.{over}
 use Rattle.laws.specs.Filled.{filled}
+use Rattle.block.specs.declared.CeilingCount.{CeilingCount}
 use Rattle.block.specs.Answer.{Answer, accepted, refused, given, told}
+use Rattle.block.specs.Ceilings.{ceilingsIn}
 use Rattle.block.specs.Grey.{cutOf}
 use Rattle.place.specs.declared.Crossing.{Crossing}
 use Rattle.place.specs.Crossing.{saidEdge, EdgeAnswered}
@@ -23,6 +25,10 @@ use Rattle.closed.specs.Closed.{Finding, allSound, openAt, saidClosure, ClosedA
 -- as many of these values as a place has room for; what is behind is kept
 abbrev pub tellOver : {A : Type 0} → List A → List A → List A
 tellOver values place = over (take (length place) values) place
+
+-- samples at the ceiling, and the lowest index of one
+abbrev pub toldCeilings : Answer CeilingCount → List ℕ
+toldCeilings = told 3 (λ c. c .count ∷ c .lowest ∷ [])
 
 -- crossings
 abbrev pub toldEdge : Answer (List Float) → List ℕ
@@ -50,6 +56,9 @@ abbrev pub toldClosed : Answer Finding → List ℕ
 toldClosed = told 4 findingNumbers
 
 -- the promises: the library's own, and what of its answer is told; each place at entry and at exit
+abbrev pub CeilingsTold : List ℕ → List ℕ → List ℕ → Type 0
+CeilingsTold samples place place′ = place′ ≡ tellOver (toldCeilings (accepted (ceilingsIn samples))) place
+
 pub record EdgeTold (p q t : ℕ) (fraction : List Float) (place : List ℕ) (fraction′ : List Float) (place′ : List ℕ) : Type 0 where
   pub answer : Crossing
   pub answered : EdgeAnswered p q t answer

@@ -1,5 +1,6 @@
 // The library for C: exported functions over numbers and slices, each of which writes its answer to lent places. A slice is a pointer and
 // then a length. include/parsniprow.h declares and explains them.
+use block::CeilingCount;
 use block::Cut;
 use cell::CubeAnswer;
 use cell::Found;
@@ -9,15 +10,23 @@ use place::Crossing;
 use place::Offset;
 ghost use mathlib.Core.Path.{_≡_};
 ghost use mathlib.Core.List.{[], _∷_};
-ghost use lib.ListN.{length, take};
-ghost use Rattle.laws.specs.Below.{over};
-ghost use Rattle.block.specs.Answer.{given};
+ghost use Rattle.block.specs.Answer.{accepted};
 ghost use Rattle.place.specs.Crossing.{saidEdge};
 ghost use Rattle.cell.specs.Answer.{saidCube};
 ghost use Rattle.mesh_rule.specs.Buffers.{triples};
 ghost use Rattle.mesh.specs.Answer.{saidCounts};
 ghost use Rattle.closed.specs.Closed.{saidClosure};
-ghost use Rattle.parsniprow_c.specs.Told.{tellOver, toldEdge, toldFraction, toldCube, toldCounts, toldClosed, EdgeTold, CubeTold, CountsTold, MeshTold, ClosedTold};
+ghost use Rattle.parsniprow_c.specs.Told.{tellOver, toldCeilings, toldEdge, toldFraction, toldCube, toldCounts, toldClosed, CeilingsTold, EdgeTold, CubeTold, CountsTold, MeshTold, ClosedTold};
+
+// How many samples are at the detector's ceiling, and the lowest index of one.
+#[no_mangle]
+pub extern "C" fn parsniprow_ceilings(samples: &[u16], answer: &mut [u32])
+    ensures { λ _. ⌜ CeilingsTold (now (samples .entry)) (now (answer .entry)) (now (answer .exit)) ⌝ }
+{
+    let seen = block::ceilings(samples);
+    let told = tell_ceilings(seen);
+    put(answer, &told);
+}
 
 // Where the surface crosses an edge.
 #[no_mangle]
@@ -107,6 +116,12 @@ pub extern "C" fn parsniprow_closed(quads: &[u32], answer: &mut [u32])
     put(answer, &told);
 }
 
+fn tell_ceilings(seen: CeilingCount) -> [u32; 3]
+    ensures { λ r. ⌜ r ≡ toldCeilings (accepted seen) ⌝ }
+{
+    [0, seen.count, seen.lowest]
+}
+
 fn tell_edge(crossing: Crossing) -> [u32; 3]
     ensures { λ r. ⌜ r ≡ toldEdge (saidEdge crossing) ⌝ }
 {
@@ -169,19 +184,9 @@ fn tell_closed(closure: Closure) -> [u32; 4]
 {
     match closure {
         Closure::Closed => [0, 1, 0, 0],
-        Closure::Open { quad, side } => [0, 0, short(quad), short(side)],
+        Closure::Open { quad, side } => [0, 0, block::short(quad), block::short(side)],
         Closure::Refused(r) => [r.number, r.value, 0, 0],
     }
-}
-
-// A number above 4,294,967,295 is given as that.
-fn short(n: usize) -> u32
-    ensures { λ r. ⌜ r ≡ given n ⌝ }
-{
-    if n > 4294967295 {
-        return 4294967295;
-    }
-    n as u32
 }
 
 // Numbers over the front of a lent place, as many as it has room for.

@@ -1,4 +1,4 @@
--- What the edge question answers, by cases: row 3, then row 4 at the lower and at the upper end, then a fraction or no crossing.
+-- What the edge question answers, by cases: row 3, then a fraction or no crossing.
 -- Assumes nothing.
 use mathlib.Core.Path.{_≡_, refl, ap, _∙_}
 use mathlib.Core.Bool.{Bool, true, false, cond, _||_}
@@ -8,15 +8,12 @@ use native.Mathlib.Omega.{arith}
 use lib.Dec.{eqb}
 use lib.Ieee.{Float, div, ofInt}
 use borrow.Author.Tests.{eqb-true, ne-eqb}
-use Rattle.block.specs.declared.Cut.{Cut}
-use Rattle.block.specs.Answer.{Answer, accepted, refused, given, inOrder, judged, decided}
-use Rattle.block.specs.Grey.{cutOf, apart, isCeiling, noThreshold}
-use Rattle.block.specs.Rows.{lowest, lowestRow}
+use Rattle.block.specs.Answer.{Answer, accepted, refused, given, inOrder, decided}
+use Rattle.block.specs.Grey.{cutOf, apart, noThreshold}
 use Rattle.block.proofs.Rows.{given-small}
 use Rattle.place.specs.Crossing.{fraction, crossing, edgeAnswer}
 use Rattle.place.specs.Place.{plusZero}
 
--- a threshold as a value that travels whole
 -- a refusal by number and value
 abbrev pub refusedBy : ℕ → ℕ → Answer (List Float)
 refusedBy number value = refused (record { number = number; value = value })
@@ -52,46 +49,29 @@ module _ (p q t : ℕ) where
   edge-answers-threshold h = rw h (ap (refusedBy 3) (bad-given t h))
 
   module _ (good : noThreshold (cutOf t) ≡ false) where
-    -- the lower end at the ceiling, whatever the upper
-    pub edge-answers-lower : isCeiling p ≡ true → edgeAnswer p q t ≡ refusedBy 4 0
-    unfolding edgeAnswer inOrder decided lowestRow lowest
-    edge-answers-lower h = simp (good, h)
+    -- no row refuses
+    edge-accepts : edgeAnswer p q t ≡ accepted (crossing (cutOf t) p q)
+    unfolding edgeAnswer inOrder decided
+    edge-accepts = simp good
 
-    -- the upper end alone at the ceiling
-    pub edge-answers-upper : isCeiling p ≡ false → isCeiling q ≡ true → edgeAnswer p q t ≡ refusedBy 4 1
-    unfolding edgeAnswer inOrder decided lowestRow lowest
-    edge-answers-upper h k = simp (good, h, k)
+    -- the ends differ in sign
+    pub edge-answers-fraction : apart (cutOf t) p q ≡ true → edgeAnswer p q t ≡ accepted (fraction (cutOf t) p q ∷ [])
+    unfolding crossing
+    edge-answers-fraction h = edge-accepts ∙ simp h
 
-    module _ (p-grey : isCeiling p ≡ false) (q-grey : isCeiling q ≡ false) where
-      -- no row refuses
-      edge-accepts : edgeAnswer p q t ≡ accepted (crossing (cutOf t) p q)
-      unfolding edgeAnswer inOrder decided lowestRow lowest
-      edge-accepts = simp (good, p-grey, q-grey)
-
-      -- the ends differ in sign
-      pub edge-answers-fraction : apart (cutOf t) p q ≡ true → edgeAnswer p q t ≡ accepted (fraction (cutOf t) p q ∷ [])
-      unfolding crossing
-      edge-answers-fraction h = edge-accepts ∙ simp h
-
-      -- they do not
-      pub edge-answers-nothing : apart (cutOf t) p q ≡ false → edgeAnswer p q t ≡ accepted []
-      unfolding crossing
-      edge-answers-nothing h = edge-accepts ∙ simp h
+    -- they do not
+    pub edge-answers-nothing : apart (cutOf t) p q ≡ false → edgeAnswer p q t ≡ accepted []
+    unfolding crossing
+    edge-answers-nothing h = edge-accepts ∙ simp h
 
 -- what an edge answers, whatever the three numbers
 pub edge-answers : (p q t : ℕ)
     → edgeAnswer p q t
-    ≡ cond (noThreshold (cutOf t)) (refusedBy 3 t)
-    (cond (isCeiling p) (refusedBy 4 0)
-    (cond (isCeiling q) (refusedBy 4 1)
-    (cond (apart (cutOf t) p q) (accepted (fraction (cutOf t) p q ∷ [])) (accepted []))))
-edge-answers p q t = go (noThreshold (cutOf t)) (isCeiling p) (isCeiling q) (apart (cutOf t) p q) refl refl refl refl
+    ≡ cond (noThreshold (cutOf t)) (refusedBy 3 t) (cond (apart (cutOf t) p q) (accepted (fraction (cutOf t) p q ∷ [])) (accepted []))
+edge-answers p q t = go (noThreshold (cutOf t)) (apart (cutOf t) p q) refl refl
   where
-    go : (a b c d : Bool) → noThreshold (cutOf t) ≡ a → isCeiling p ≡ b → isCeiling q ≡ c → apart (cutOf t) p q ≡ d
-        → edgeAnswer p q t
-        ≡ cond a (refusedBy 3 t) (cond b (refusedBy 4 0) (cond c (refusedBy 4 1) (cond d (accepted (fraction (cutOf t) p q ∷ [])) (accepted []))))
-    go true b c d A B C D = edge-answers-threshold p q t A
-    go false true c d A B C D = edge-answers-lower p q t A B
-    go false false true d A B C D = edge-answers-upper p q t A B C
-    go false false false true A B C D = edge-answers-fraction p q t A B C D
-    go false false false false A B C D = edge-answers-nothing p q t A B C D
+    go : (a d : Bool) → noThreshold (cutOf t) ≡ a → apart (cutOf t) p q ≡ d
+        → edgeAnswer p q t ≡ cond a (refusedBy 3 t) (cond d (accepted (fraction (cutOf t) p q ∷ [])) (accepted []))
+    go true d A D = edge-answers-threshold p q t A
+    go false true A D = edge-answers-fraction p q t A D
+    go false false A D = edge-answers-nothing p q t A D

@@ -1,23 +1,19 @@
--- The edge question answers its fraction at a crossed edge of a cube that neither row 3 nor row 4 refuses.
+-- The edge question answers its fraction at a crossed edge of a cube, by a threshold that row 3 passes.
 -- Assumes nothing.
 use mathlib.Core.Path.{_≡_, refl, sym, ap, _∙_}
 use mathlib.Core.Bool.{Bool, true, false, cond}
-use mathlib.Core.Logic.{_⊎_, inl, inr}
+use mathlib.Core.Logic.{inl, inr}
 use mathlib.Core.List.{List, [], _∷_}
-use Prim.Native.Nat.{ℕ, _≤_, _<_}
+use Prim.Native.Nat.{ℕ}
 use native.Mathlib.Omega.{arith}
 use types.Run.{OneOf}
 use denote.Enum.Declared.{tagOf}
-use lib.ListN.{length, List·getD-eq-default}
 use lib.Ieee.{Float}
-use Rattle.laws.proofs.Tests.{lt-or-ge}
 use Rattle.block.specs.declared.Checked.the-variants.{Passes}
 use Rattle.block.specs.declared.Cut.{Cut}
-use Rattle.block.specs.Accepted.{Accepted}
 use Rattle.block.specs.Answer.{refuses}
-use Rattle.block.specs.Grey.{isCeiling, noThreshold}
+use Rattle.block.specs.Grey.{noThreshold}
 use Rattle.block.specs.Rows.{thresholdRow}
-use Rattle.block.proofs.Accepted.{accepted-clear}
 use Rattle.block.proofs.Order.{passes-refuses}
 use Rattle.cube_rule.specs.Edges.{lower, upper, cornerSample}
 use Rattle.place.specs.declared.Crossing.{Crossing}
@@ -37,15 +33,6 @@ passed-threshold cut = go (noThreshold cut)
     go true h = absurd (passes-refuses (sym h))
     go false h = refl
 
-module _ (cut : Cut) (corners : List ℕ) (passes : Accepted cut corners) where
-  -- row 4 passes the sample at each corner
-  pub passed-sample : (c : ℕ) → isCeiling (cornerSample corners c) ≡ false
-  passed-sample c = go (lt-or-ge c (length corners))
-    where
-      go : (c < length corners) ⊎ (length corners ≤ c) → isCeiling (cornerSample corners c) ≡ false
-      go (inl l) = accepted-clear passes c l
-      go (inr g) = ap isCeiling (List·getD-eq-default corners 0 g)
-
 module _ (cut : Cut) (corners : List ℕ) (e : ℕ) (asked : Fractional cut corners e) where
   -- the promise of `edge`, asked at the edge's ends, leaves one answer
   pub edge-at : (l u : ℕ) → l ≡ lower e → u ≡ upper e → (r : Crossing) → EdgeAnswered (cornerSample corners l) (cornerSample corners u) (cut .t) r
@@ -57,9 +44,7 @@ module _ (cut : Cut) (corners : List ℕ) (e : ℕ) (asked : Fractional cut corn
       ∙ ap (λ (c : ℕ). edgeAnswer (cornerSample corners c) (cornerSample corners u) (cut .t)) is-lower
       ∙ ap (λ (c : ℕ). edgeAnswer (cornerSample corners (lower e)) (cornerSample corners c) (cut .t)) is-upper
       ∙ edge-answers-fraction (cornerSample corners (lower e)) (cornerSample corners (upper e)) (cut .t)
-      (passed-threshold cut (asked .accepted .threshold))
-      (passed-sample cut corners (asked .accepted) (lower e))
-      (passed-sample cut corners (asked .accepted) (upper e))
+      (passed-threshold cut (asked .threshold))
       (asked .crossed))
 
 -- an answer with a fraction is of no other case (0: Nothing, 2: Refused)

@@ -18,7 +18,7 @@ use Rattle.laws.proofs.Bits.{ones-pos}
 use Rattle.laws.proofs.Within.{Within, wider, either, add-within, whole-within, div-within}
 use Rattle.block.specs.declared.Cut.{Cut}
 use Rattle.block.specs.Answer.{accepted}
-use Rattle.block.specs.Grey.{cutOf, positive, apart, isCeiling, noThreshold, SixteenBit}
+use Rattle.block.specs.Grey.{cutOf, positive, apart, noThreshold, SixteenBit}
 use Rattle.cube_rule.specs.Edges.{lower, upper, axisOf, cornerOn, cornerSample, crossedAt}
 use Rattle.place.specs.declared.Crossing.the-variants.{At}
 use Rattle.place.specs.Crossing.{gap, float, fraction, EdgeAnswered}
@@ -77,20 +77,17 @@ fraction-within cut p q P Q h =
 pub fraction-in-unit : (p q t : ℕ) (f : Float) → p < 65536 → q < 65536 → EdgeAnswered p q t (At f) → InUnit f
 fraction-in-unit p q t f P Q said =
     in-unit f
-    (go (noThreshold cut) (isCeiling p) (isCeiling q) (apart cut p q) (fraction-within cut p q P Q) (said ∙ edge-answers p q t))
+    (go (noThreshold cut) (apart cut p q) (fraction-within cut p q P Q) (said ∙ edge-answers p q t))
   where
     cut : Cut
     cut = cutOf t
 
-    go : (a b c d : Bool) → (d ≡ true → Within 1 (fraction (cutOf t) p q))
-        → accepted (f ∷ [])
-        ≡ cond a (refusedBy 3 t) (cond b (refusedBy 4 0) (cond c (refusedBy 4 1) (cond d (accepted (fraction (cutOf t) p q ∷ [])) (accepted []))))
+    go : (a d : Bool) → (d ≡ true → Within 1 (fraction (cutOf t) p q))
+        → accepted (f ∷ []) ≡ cond a (refusedBy 3 t) (cond d (accepted (fraction (cutOf t) p q ∷ [])) (accepted []))
         → Within 1 f
-    go true b c d w e = let z : _≡_ {A = ℕ} 0 1 = cc in absurd (omega arith)
-    go false true c d w e = let z : _≡_ {A = ℕ} 0 1 = cc in absurd (omega arith)
-    go false false true d w e = let z : _≡_ {A = ℕ} 0 1 = cc in absurd (omega arith)
-    go false false false true w e = let is : fraction (cutOf t) p q ≡ f = cc in subst (Within 1) is (w refl)
-    go false false false false w e = let z : _≡_ {A = ℕ} 0 1 = cc in absurd (omega arith)
+    go true d w e = let z : _≡_ {A = ℕ} 0 1 = cc in absurd (omega arith)
+    go false true w e = let is : fraction (cutOf t) p q ≡ f = cc in subst (Within 1) is (w refl)
+    go false false w e = let z : _≡_ {A = ℕ} 0 1 = cc in absurd (omega arith)
 
 -- ---- a place
 

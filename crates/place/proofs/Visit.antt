@@ -38,7 +38,7 @@ module _ (cut : Cut) (corners : List ℕ) (m : ℕ) where
 
     -- one that it holds: the edge question answers its fraction, which is added
     pub sum-asks : Placeable cut corners m → e < 12 → (m / 2 ^ e % 2 ≡ 0 → ⊥) → Fractional cut corners e
-    sum-asks ready l some = record { small = l; crossed = ready .crossed e l (held m e some); accepted = ready .accepted }
+    sum-asks ready l some = record { small = l; crossed = ready .crossed e l (held m e some); threshold = ready .threshold }
 
     pub sum-adds : (m / 2 ^ e % 2 ≡ 0 → ⊥) → (sum : Offset) → sum ≡ sumOf cut corners m e → plusEdge cut corners e sum ≡ sumOf cut corners m (e + 1)
     unfolding plusEdge plusCrossing sumOf sumOn

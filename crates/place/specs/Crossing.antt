@@ -8,7 +8,7 @@ use lib.Ieee.{Float, binary64, div, ofInt}
 use Rattle.block.specs.declared.Cut.{Cut}
 use Rattle.block.specs.Answer.{Answer, accepted, refused, inOrder, judged}
 use Rattle.block.specs.Grey.{cutOf, apart}
-use Rattle.block.specs.Rows.{sampleRows}
+use Rattle.block.specs.Rows.{thresholdRow}
 use Rattle.place.specs.declared.Crossing.{Crossing}
 use Rattle.place.specs.declared.Crossing.the-variants.{Nothing, At, Refused}
 
@@ -35,10 +35,10 @@ saidEdge Nothing = accepted []
 saidEdge (At f) = accepted (f ∷ [])
 saidEdge (Refused r) = refused r
 
--- two ends and a threshold have a crossing or none, or are refused by row 3 and then by row 4 (lower end 0, upper 1)
+-- two ends and a threshold have a crossing or none, or are refused by row 3
 unfoldable pub edgeAnswer : ℕ → ℕ → ℕ → Answer (List Float)
 unfolding crossing
-edgeAnswer p q t = judged (inOrder (sampleRows (cutOf t) (p ∷ q ∷ []))) (crossing (cutOf t) p q)
+edgeAnswer p q t = judged (inOrder (thresholdRow (cutOf t) ∷ [])) (crossing (cutOf t) p q)
 
 -- the promise of `edge`
 abbrev pub EdgeAnswered : ℕ → ℕ → ℕ → Crossing → Type 0

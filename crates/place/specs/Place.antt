@@ -1,7 +1,7 @@
 -- The place of a set of edges in its cube, axis by axis, for all samples and thresholds (document 01, "Faces, loops and places").
 -- A set of edges is a mask, a cube the list of its eight samples.
 use Prim.Native.Nat.{ℕ, zero, suc}
-use mathlib.Core.Bool.{true, false, cond}
+use mathlib.Core.Bool.{false, cond}
 use mathlib.Core.List.{List}
 use lib.Dec.{eqb}
 use lib.Count.{ones}

@@ -7,23 +7,24 @@ use mathlib.Core.List.{List}
 use lib.Ieee.{Float, binary64, add, div}
 use Rattle.laws.specs.Bits.{holds}
 use Rattle.block.specs.declared.Cut.{Cut}
-use Rattle.block.specs.Accepted.{Accepted}
+use Rattle.block.specs.declared.Checked.the-variants.{Passes}
+use Rattle.block.specs.Rows.{thresholdRow}
 use Rattle.cube_rule.specs.Edges.{crossedAt}
 use Rattle.place.specs.declared.Offset.{Offset}
 use Rattle.place.specs.Crossing.{float}
 use Rattle.place.specs.Place.{local, fractionAt, sumOn}
 
--- what `place` requires: a set of crossed edges of a cube that neither row 3 nor row 4 refuses
+-- what `place` requires: a set of crossed edges of a cube, and a threshold that row 3 passes
 pub record Placeable (cut : Cut) (corners : List ℕ) (m : ℕ) : Type 0 where
   pub small : m < 4096
   pub crossed : (e : ℕ) → e < 12 → holds m e ≡ true → crossedAt cut corners e ≡ true
-  pub accepted : Accepted cut corners
+  pub threshold : thresholdRow cut ≡ Passes
 
--- a crossed edge of a cube that neither row 3 nor row 4 refuses: the edge question answers its fraction
+-- a crossed edge of a cube, and a threshold that row 3 passes: the edge question answers its fraction
 pub record Fractional (cut : Cut) (corners : List ℕ) (e : ℕ) : Type 0 where
   pub small : e < 12
   pub crossed : crossedAt cut corners e ≡ true
-  pub accepted : Accepted cut corners
+  pub threshold : thresholdRow cut ≡ Passes
 
 -- the crossing of the edge e at the fraction f, added
 unfoldable pub plusCrossing : ℕ → Float → Offset → Offset

@@ -29,16 +29,10 @@ pub fn edge(p: u16, q: u16, t: u16) -> Crossing
     ensures { λ r. ⌜ EdgeAnswered p q t r ⌝ }
 {
     if t == 0 {
-        return refuse(3, 0);
+        return refuse(t);
     }
     if t == 65535 {
-        return refuse(3, 65535);
-    }
-    if p == 65535 {
-        return refuse(4, 0);
-    }
-    if q == 65535 {
-        return refuse(4, 1);
+        return refuse(t);
     }
     let cut = Cut { t: t };
     let lower_sign = is_positive(cut, p);
@@ -227,12 +221,12 @@ fn fraction_of(cut: Cut, p: u16, q: u16) -> f64
     (n as f64) / (d as f64)
 }
 
-// A refusal by 01's number and its value.
-fn refuse(number: u32, value: u32) -> Crossing
-    ensures { λ r. ⌜ saidEdge r ≡ refused (record { number = number; value = value }) ⌝ }
+// Refusal 3, with the threshold as its value.
+fn refuse(t: u16) -> Crossing
+    ensures { λ r. ⌜ saidEdge r ≡ refused (record { number = 3; value = t }) ⌝ }
 {
     Crossing::Refused(Refusal {
-        number: number,
-        value: value,
+        number: 3,
+        value: t as u32,
     })
 }

@@ -3,7 +3,6 @@
 -- Assumes nothing.
 use mathlib.Core.Path.{_≡_, refl, sym, ap, _∙_}
 use mathlib.Core.Bool.{Bool, true, false, _&&_, and-false}
-use mathlib.Core.Logic.{_⊎_, inl, inr}
 use mathlib.Core.List.{List}
 use Prim.Native.Nat.{ℕ, _+_, _*_, _-_, _≤_, _<_}
 use native.Mathlib.Omega.{arith}
@@ -13,7 +12,6 @@ use lib.Dec.{ltb}
 use lib.ListN.{getD}
 use Rattle.laws.specs.Bits.{bit}
 use Rattle.laws.proofs.Bits.{bit-le}
-use Rattle.laws.proofs.Tests.{lt-or-ge}
 use Rattle.laws.proofs.Words.{Word, word-same, word-xor, word-bit}
 use Rattle.block.specs.declared.Cut.{Cut}
 use Rattle.block.specs.declared.Size.{Size}

@@ -1,7 +1,7 @@
 -- What the program reads, and the rows of the table of refusals that it tries (document 01, "The program").
 use Prim.Native.Nat.{ℕ, _+_, _*_, _/_, _%_}
 use mathlib.Core.Bool.{Bool, cond}
-use mathlib.Core.List.{List, [], _∷_, _++_}
+use mathlib.Core.List.{List, [], _∷_}
 use lib.Dec.{ltb, eqb}
 use Rattle.laws.specs.Below.{below}
 use Rattle.laws.specs.Leading.{leading}
@@ -12,7 +12,7 @@ use Rattle.block.specs.declared.Checked.the-variants.{Passes}
 use Rattle.block.specs.Answer.{refuses, inOrder}
 use Rattle.block.specs.Grey.{cutOf}
 use Rattle.block.specs.Numbering.{sampleCount}
-use Rattle.block.specs.Rows.{lowestRow, axisRow, thresholdRow, ceilingRow}
+use Rattle.block.specs.Rows.{lowestRow, axisRow, thresholdRow}
 use Rattle.reading.specs.Text.{ended, readAt, numberAt, lineRight}
 
 -- 9: an axis is over 8; the lowest such axis
@@ -50,9 +50,9 @@ module _ (bytes : List ℕ) where
   abbrev pub cutRead : Cut
   cutRead = cutOf (numberAt bytes 12 4)
 
-  -- "Line 1 is read, then refusals 1, 9, 3 are tried, then the rows, then the end of input, then 4."
-  abbrev pub earlyRows : Size → Cut → List Checked
-  earlyRows n cut = firstLineRow ∷ axisRow (n .nx) (n .ny) (n .nz) ∷ largeRow (n .nx) (n .ny) (n .nz) ∷ thresholdRow cut ∷ linesRow (n .nx) (n .ny * n .nz) ∷ []
+  -- "Line 1 is read, then refusals 1, 9, 3 are tried, then the rows, then the end of input"
+  abbrev pub inputRows : Size → Cut → List Checked
+  inputRows n cut = firstLineRow ∷ axisRow (n .nx) (n .ny) (n .nz) ∷ largeRow (n .nx) (n .ny) (n .nz) ∷ thresholdRow cut ∷ linesRow (n .nx) (n .ny * n .nz) ∷ []
 
   abbrev pub inputVerdict : Checked
-  inputVerdict = inOrder (earlyRows sizeRead cutRead ++ ceilingRow (samplesRead sizeRead) ∷ [])
+  inputVerdict = inOrder (inputRows sizeRead cutRead)

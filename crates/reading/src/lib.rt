@@ -14,7 +14,7 @@ ghost use Rattle.block.specs.declared.Checked.the-variants.{Refuses};
 ghost use Rattle.block.specs.Answer.{inOrder};
 ghost use Rattle.block.specs.Rows.{axisRow};
 ghost use Rattle.reading.specs.Text.{readAt, digitOf, numberAt};
-ghost use Rattle.reading.specs.Input.{lineThere, rightLines, firstLineRow, linesRow, largeRow, earlyRows};
+ghost use Rattle.reading.specs.Input.{lineThere, rightLines, firstLineRow, linesRow, largeRow, inputRows};
 ghost use Rattle.reading.specs.Steps.{rightByte, rightBytes, sampleRead};
 
 fn wide(b: u8) -> u16
@@ -189,9 +189,9 @@ fn check_large(nx: u32, ny: u32, nz: u32) -> Checked
     Checked::Passes
 }
 
-// The rows that are tried before the samples are looked at, in 01's order.
+// All rows that the program tries, in 01's order.
 pub fn check(input: &[u8], nx: u32, ny: u32, nz: u32, t: u16) -> Checked
-    ensures { λ r. ⌜ r ≡ inOrder (earlyRows (now (input .entry)) (record { nx = nx; ny = ny; nz = nz }) (record { t = t })) ⌝ }
+    ensures { λ r. ⌜ r ≡ inOrder (inputRows (now (input .entry)) (record { nx = nx; ny = ny; nz = nz }) (record { t = t })) ⌝ }
 {
     let first = check_first_line(input);
     if let Checked::Refuses(r) = first {

@@ -5,13 +5,9 @@ use mathlib.Core.Path.{_≡_, ap, sym, _∙_}
 use mathlib.Core.List.{List}
 use native.Mathlib.Nat.{mul-le-mul-left}
 use native.Mathlib.Omega.{arith}
-use lib.ListN.{length, getD}
+use lib.ListN.{getD}
 use Rattle.laws.proofs.Index.{pair-lt}
 use Rattle.block.specs.declared.Size.{Size}
-use Rattle.block.specs.declared.Cut.{Cut}
-use Rattle.block.specs.Accepted.{Accepted}
-use Rattle.block.specs.Numbering.{sampleCount}
-use Rattle.block.proofs.Accepted.{accepted-part}
 use Rattle.mesh_rule.specs.Grid.{cornersAt, cornersOf}
 use Rattle.mesh_rule.specs.Layers.{rowCube, rowSample}
 use Rattle.mesh_rule.proofs.Numbers.{corners-of-number}
@@ -68,12 +64,3 @@ module _ (n : Size) (s : List ℕ) (j k : ℕ) (lo hi : List ℕ) (p : Windows n
     where
       number : (w h : ℕ) → x + w * (j + h * k) ≡ w * (j + h * k) + x
       number w h = omega arith
-
-  -- rows 3 and 4 pass them, where they pass the block
-  pub windows-accepted : {cut : Cut} → Accepted cut s → length s ≡ sampleCount n → j + 1 < n .ny → k + 1 < n .nz → Accepted cut lo × Accepted cut hi
-  windows-accepted {cut} ok count hj hk = (part-of lo k (p .low) (omega arith), part-of hi (k + 1) (p .high) hk)
-    where
-      part-of : (w : List ℕ) (z : ℕ) → Part s (rowSample (n .nx) (n .ny) j z) (2 * n .nx) w → z < n .nz → Accepted cut w
-      part-of w z part hz =
-          accepted-part w (λ (q : ℕ). rowSample (n .nx) (n .ny) j z + q) ok
-          (λ q l. (omega (arith, count, part .long, rows-in (n .nx) (n .ny) (n .nz) j z hj hz), part .at q (omega (arith, part .long))))

@@ -96,8 +96,7 @@ module _ {D : Decider} {loopsOf : Cut → List ℕ → List ℕ} (laws : CubeLaw
         let all = masks-le loopsOf lo hi cut nx (64 * (w + 1)) in
         record {
           small = omega (arith, room .small);
-          low = room .low;
-          high = room .high;
+          threshold = room .threshold;
           words-room = omega (arith, p .stored .number, stored-words (p .stored), room .words-room);
           offsets-room = omega (arith, p .stored .number, stored-offsets (p .stored), room .offsets-room);
           numbers-room = λ x h s. omega (arith, set-in ready w hw x h (rw (act-is laws ready w hw t) at s), ready .long, p .noted .long, room .numbers-room);

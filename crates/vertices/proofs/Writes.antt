@@ -3,11 +3,11 @@
 -- Assumes nothing.
 use Prim.Native.Nat.{ℕ, _+_, _*_, _-_, _≤_, _<_}
 use mathlib.Core.Path.{_≡_, ap, sym, _∙_, subst}
-use mathlib.Core.Bool.{true, false}
+use mathlib.Core.Bool.{true}
 use mathlib.Core.List.{List, []}
 use native.Mathlib.Omega.{arith}
 use lib.Count.{trailingZeros}
-use lib.ListN.{length, getD}
+use lib.ListN.{length}
 use lib.Ieee.{Float}
 use Rattle.laws.specs.Below.{below}
 use Rattle.laws.specs.Bits.{holds}
@@ -24,33 +24,6 @@ use Rattle.cube_rule.specs.Plain.{mixed}
 use Rattle.signs.specs.Windows.{windowCorners}
 use Rattle.cube_vertices.proofs.Cubes.{names-some}
 use Rattle.rows.proofs.Visits.{bitsOf, picked-set, picked-unset, visit-set, to-next, picked-next, picked-end, picked-room}
-use Rattle.block.specs.declared.Checked.the-variants.{Passes}
-use Rattle.block.specs.Accepted.{Accepted}
-use Rattle.block.specs.Grey.{isCeiling}
-use Rattle.block.specs.Rows.{ceilingRow, lowest, lowestRow}
-use Rattle.block.proofs.Accepted.{accepted-clear}
-use Rattle.cell.specs.declared.Found.the-variants as found
-
--- rows 3 and 4 pass a cube whose windows they pass
-corners-clear : (lo hi : List ℕ) (nx x : ℕ) → ((q : ℕ) → q < length lo → isCeiling (getD lo q 0) ≡ false) → ((q : ℕ) → q < length hi → isCeiling (getD hi q 0) ≡ false)
-    → x + 1 + nx < length lo → x + 1 + nx < length hi → ceilingRow (windowCorners nx lo hi x) ≡ Passes
-unfolding lowestRow lowest windowCorners
-corners-clear lo hi nx x low high l h =
-    simp (
-      low x (omega arith),
-      low (x + 1) (omega arith),
-      low (x + nx) (omega arith),
-      low (x + 1 + nx) (omega arith),
-      high x (omega arith),
-      high (x + 1) (omega arith),
-      high (x + nx) (omega arith),
-      high (x + 1 + nx) (omega arith),
-    )
-
-pub corners-accepted : (cut : Cut) (lo hi : List ℕ) (nx x : ℕ) → Accepted cut lo → Accepted cut hi → x + 1 + nx < length lo → x + 1 + nx < length hi
-    → Accepted cut (windowCorners nx lo hi x)
-corners-accepted cut lo hi nx x low high l h =
-    record { threshold = low .threshold; ceiling = corners-clear lo hi nx x (accepted-clear low) (accepted-clear high) l h }
 
 -- a cube whose bit is set has a vertex
 pub active-names : {lo hi : List ℕ} {cut : Cut} {table : List ℕ} {nx p : ℕ} {e : List ℕ} {act : ℕ} → WordReady lo hi cut table nx p e act → (x : ℕ) → x < 64 → holds act x ≡ true

@@ -12,7 +12,8 @@ use Rattle.laws.specs.Bits.{holds}
 use Rattle.block.specs.declared.Cut.{Cut}
 use Rattle.block.specs.declared.Size.{Size}
 use Rattle.block.specs.Numbering.{sampleCount}
-use Rattle.block.specs.Accepted.{Accepted}
+use Rattle.block.specs.declared.Checked.the-variants.{Passes}
+use Rattle.block.specs.Rows.{thresholdRow}
 use Rattle.block.specs.Size.{Limits}
 use Rattle.cube.specs.Table.{maskTable}
 use Rattle.signs.specs.Signs.{Plane}
@@ -30,11 +31,10 @@ module _ (loopsOf : Cut → List ℕ → List ℕ) (lo hi : List ℕ) (cut : Cut
   abbrev pub wordOffsets : List Float
   wordOffsets = below (picked act (λ (x : ℕ). offsetsAt loopsOf lo hi cut nx (p + x))) 64
 
--- neither row 3 nor row 4 refuses the row, and there is room for the vertices from the vertex v on
+-- row 3 passes the threshold, and there is room for the vertices from the vertex v on
 pub record WordRoom (loopsOf : Cut → List ℕ → List ℕ) (lo hi : List ℕ) (cut : Cut) (nx p act c v : ℕ) (words : List ℕ) (offsets : List Float) (numbers : List ℕ) : Type 0 where
   pub small : c ≤ 16777216
-  pub low : Accepted cut lo
-  pub high : Accepted cut hi
+  pub threshold : thresholdRow cut ≡ Passes
   pub words-room : 2 * (v + length (wordLoops loopsOf lo hi cut nx act p)) ≤ length words
   pub offsets-room : 3 * (v + length (wordLoops loopsOf lo hi cut nx act p)) ≤ length offsets
   pub numbers-room : (x : ℕ) → x < 64 → holds act x ≡ true → 2 * (p + x) + 2 ≤ length numbers
@@ -54,11 +54,10 @@ module _ (loopsOf : Cut → List ℕ → List ℕ) (lo hi : List ℕ) (cut : Cut
   abbrev pub rowOffsets : List Float
   rowOffsets = below (offsetsAt loopsOf lo hi cut nx) (nx - 1)
 
--- what a pass that writes the row requires besides `RowReady`: neither row 3 nor row 4 refuses, there is room from the vertex v on, and numbers fit
+-- what a pass that writes the row requires besides `RowReady`: row 3 passes the threshold, there is room from the vertex v on, and numbers fit
 pub record RowRoom (loopsOf : Cut → List ℕ → List ℕ) (lo hi : List ℕ) (cut : Cut) (nx c v : ℕ) (words : List ℕ) (offsets : List Float) (numbers : List ℕ) : Type 0 where
   pub small : c ≤ 16711680
-  pub low : Accepted cut lo
-  pub high : Accepted cut hi
+  pub threshold : thresholdRow cut ≡ Passes
   pub words-room : 2 * (v + length (rowMasks loopsOf lo hi cut nx)) ≤ length words
   pub offsets-room : 3 * (v + length (rowMasks loopsOf lo hi cut nx)) ≤ length offsets
   pub numbers-room : length numbers ≡ 512

@@ -1,70 +1,42 @@
--- `ceilings` meets its contract. The loop's invariant: n counts the first i samples. The measure is what is left of the 256.
+-- `ceilings` meets its promise: no sample before the lowest is at the ceiling, so the count may begin there.
 -- Assumes nothing.
-use Prim.Native.Nat.{ℕ, _+_, _-_, _≤_}
-use mathlib.Core.Path.{_≡_, sym, ap, ap₂, _∙_}
-use native.Mathlib.Omega.{arith}
-use lib.ListN.{getD}
+use mathlib.Core.Path.{ap, ap₂, sym, _∙_, subst}
+use Prim.Native.Nat.{ℕ}
 use borrow.Author.Needs.{needs}
-use Rattle.laws.specs.Counting.{count}
+use Rattle.block.specs.declared.CeilingCount.{CeilingCount}
+use Rattle.block.specs.Answer.{given}
 use Rattle.block.specs.Grey.{isCeiling}
-use Rattle.block.proofs.ClearRuns.{count-none, count-next}
+use Rattle.block.specs.Steps.{ClearBefore}
+use Rattle.block.proofs.Lowest.{lowest-le, lowest-before}
 use Rattle.block.proofs.ceilings.Statement.{statement}
 use Rattle.block.proofs.ceilings.Tie as tie
 use Rattle.block.proofs.ceilings.Reads as reads
 use Rattle.block.proofs.ceilings.Lts as lts
-use Rattle.block.proofs.at_ceiling.Reads as at-ceiling-reads
+use Rattle.block.proofs.count_ceilings.Reads as count-ceilings-reads
+use Rattle.block.proofs.lowest_ceiling.Reads as lowest-ceiling-reads
+use Rattle.block.proofs.short.Reads as short-reads
 
-abbrev Inv-loop : tie.InvT-loop
-Inv-loop samples from n₀ i₀ n i = (i ≤ 256) × (n ≤ i) × (n ≡ count (λ (x : ℕ). isCeiling (getD samples (from + x) 0)) i)
+lowest-ceiling-requires : tie.Need-lowest-ceiling-requires
+lowest-ceiling-requires c κs = search needs
 
-abbrev μ-loop : tie.MeasureT-loop
-μ-loop samples from n₀ i₀ n i = 256 - i
+count-ceilings-requires : tie.Need-count-ceilings-requires
+count-ceilings-requires c κs =
+    let s = c .before .before .args .samples .now in
+    subst (ClearBefore s) (sym (c .lowest-ceiling .ensures)) (lowest-le isCeiling s, lowest-before isCeiling 0 s)
 
-loop-holds : tie.Need-loop-holds Inv-loop μ-loop
-loop-holds c = (omega arith, omega arith, sym (count-none _))
+short-requires : tie.Need-short-requires
+short-requires c κs = search needs
 
-add-at-ceiling : tie.Need-add-at-ceiling Inv-loop μ-loop
-add-at-ceiling c = search needs
+short-requires-2 : tie.Need-short-requires-2
+short-requires-2 c κs = search needs
 
-mul-at-ceiling : tie.Need-mul-at-ceiling Inv-loop μ-loop
-mul-at-ceiling c = search needs
+abbrev made : ℕ → ℕ → CeilingCount
+made n i = record { count = n; lowest = i }
 
-shared-slice-read-at-ceiling : tie.Need-shared-slice-read-at-ceiling Inv-loop μ-loop
-shared-slice-read-at-ceiling c = search needs
-
-at-ceiling-requires : tie.Need-at-ceiling-requires Inv-loop μ-loop
-at-ceiling-requires c κs = search needs
-
-add-n : tie.Need-add-n Inv-loop μ-loop
-add-n c = search needs
-
-add-i : tie.Need-add-i Inv-loop μ-loop
-add-i c = search needs
-
-loop-less : tie.Need-loop-less Inv-loop μ-loop
-loop-less c = search needs
-
-loop-again : tie.Need-loop-again Inv-loop μ-loop
-loop-again c =
-    let l = c .before .before .before .loop in
-    (search needs, omega (arith, l .inv .1, c .at-ceiling .ensures .1), ap₂ (λ (a b : ℕ). a + b) (l .inv .2) (c .at-ceiling .ensures .0) ∙ sym (count-next _ (l .i)))
-
-returns : tie.Need-returns Inv-loop μ-loop
-returns c = let l = c .before .loop in l .inv .2 ∙ ap (count _) (omega arith)
+returns : tie.Need-returns
+returns c =
+    let n = c .before .before in
+    ap₂ made (c .before .short .ensures ∙ ap given (n .count-ceilings .ensures)) (c .short2 .ensures ∙ ap given (n .before .lowest-ceiling .ensures))
 
 pub ceilings-spec : {M : Type 1} → statement M
-ceilings-spec =
-    tie.close
-    (tie.spec
-    Inv-loop
-    μ-loop
-    loop-holds
-    add-at-ceiling
-    mul-at-ceiling
-    shared-slice-read-at-ceiling
-    at-ceiling-requires
-    add-n
-    add-i
-    loop-less
-    loop-again
-    returns)
+ceilings-spec = tie.close (tie.spec lowest-ceiling-requires count-ceilings-requires short-requires short-requires-2 returns)

@@ -1,7 +1,7 @@
 -- `check_count` meets its contract.
 -- Assumes nothing.
 use borrow.Author.Needs.{needs}
-use mathlib.Core.Path.{_≡_, sym, _∙_}
+use mathlib.Core.Path.{sym, _∙_}
 use native.Mathlib.Omega.{arith}
 use Rattle.block.proofs.Rows.{count-passes, count-refuses}
 use Rattle.block.proofs.check_count.Statement.{statement}

@@ -11,7 +11,7 @@ use Rattle.block.proofs.clear_before.Statement.{statement}
 use Rattle.block.proofs.clear_before.Tie as tie
 use Rattle.block.proofs.clear_before.Reads as reads
 use Rattle.block.proofs.clear_before.Lts as lts
-use Rattle.block.proofs.ceilings.Reads as ceilings-reads
+use Rattle.block.proofs.ceilings_in_run.Reads as ceilings-in-run-reads
 
 abbrev Inv-loop : tie.InvT-loop
 Inv-loop samples i₀ i = ClearBefore samples i
@@ -25,8 +25,8 @@ loop-holds c = (omega arith, λ k h. absurd (omega arith))
 sub-loop : tie.Need-sub-loop Inv-loop μ-loop
 sub-loop c = search needs
 
-ceilings-requires : tie.Need-ceilings-requires Inv-loop μ-loop
-ceilings-requires c κs = search needs
+ceilings-in-run-requires : tie.Need-ceilings-in-run-requires Inv-loop μ-loop
+ceilings-in-run-requires c κs = search needs
 
 returns : tie.Need-returns Inv-loop μ-loop
 returns c = c .before .before .before .loop .inv
@@ -38,7 +38,7 @@ loop-less : tie.Need-loop-less Inv-loop μ-loop
 loop-less c = search needs
 
 loop-again : tie.Need-loop-again Inv-loop μ-loop
-loop-again c = let l = c .before .before .before .loop in clear-more (c .before .before .before .before .before .args .samples .now) (l .i) (omega arith) (l .inv) (sym (c .before .ceilings .ensures) ∙ omega arith)
+loop-again c = let l = c .before .before .before .loop in clear-more (c .before .before .before .before .before .args .samples .now) (l .i) (omega arith) (l .inv) (sym (c .before .ceilings-in-run .ensures .0) ∙ omega arith)
 
 returns-2 : tie.Need-returns-2 Inv-loop μ-loop
 returns-2 c = c .before .loop .inv
@@ -51,7 +51,7 @@ clear-before-spec =
     μ-loop
     loop-holds
     sub-loop
-    ceilings-requires
+    ceilings-in-run-requires
     returns
     add-i
     loop-less

@@ -13,12 +13,12 @@ use Rattle.cube.specs.declared.Loops.{Loops}
 use Rattle.cube_rule.specs.Decider.{loopsOf}
 use Rattle.place.specs.Steps.{Placeable}
 use Rattle.cell.specs.Answer.{cubeVerdict}
-use Rattle.cell.proofs.Answers.{refused-answer, accepted-answer, mask-placeable}
+use Rattle.cell.proofs.Answers.{verdict-is, refused-answer, accepted-answer, mask-placeable, mask-small}
 use Rattle.cell.proofs.cube_by.Statement.{statement}
 use Rattle.cell.proofs.cube_by.Tie as tie
 
-check-requires : tie.Need-check-requires
-check-requires c κs = search needs
+check-threshold-requires : tie.Need-check-threshold-requires
+check-threshold-requires c κs = search needs
 
 enum-known-checked : tie.Need-enum-known-checked
 enum-known-checked c = search needs
@@ -30,7 +30,7 @@ returns : tie.Need-returns
 returns c =
     let a = c .before .before .before .before .before .args in
     rw (c .refuse .ensures)
-    (refused-answer (a .cut) (a .corners) _ (sym (c .before .before .before .before .check .ensures) ∙ c .before .before .checked .given .1))
+    (refused-answer (a .cut) (a .corners) _ (verdict-is (a .cut) ∙ sym (c .before .before .before .before .check-threshold .ensures) ∙ c .before .before .checked .given .1))
 
 enum-told : tie.Need-enum-told
 enum-told c = search needs
@@ -44,9 +44,9 @@ start m = m .before .before .before .before .before
 abbrev cutOf : tie.After-masks → Cut
 cutOf m = start m .args .cut
 
--- rows 3 and 4 passed
-passed : (m : tie.After-masks) → cubeVerdict (cutOf m) (start m .args .corners) ≡ Passes
-passed m = sym (m .before .before .before .before .check .ensures) ∙ m .before .before .enum-told .given .1
+-- row 3 passed
+passed : (m : tie.After-masks) → cubeVerdict (cutOf m) ≡ Passes
+passed m = verdict-is (cutOf m) ∙ sym (m .before .before .before .before .check-threshold .ensures) ∙ m .before .before .enum-told .given .1
 
 masks-are : (m : tie.After-masks) → m .before .loops-of .result .masks ≡ filled 4 0 (loopsOf (cutOf m) (start m .args .corners))
 masks-are m = ap (λ (l : Loops). l .masks) (m .before .loops-of .ensures .0)
@@ -76,18 +76,23 @@ place-or-zero-requires-3 c κs = asks (c .before .before) 2
 place-or-zero-requires-4 : tie.Need-place-or-zero-requires-4
 place-or-zero-requires-4 c κs = asks (c .before .before .before) 3
 
+words-of-requires : tie.Need-words-of-requires
+words-of-requires c κs = let m = c .before .before .before .before .before .before in (mask-small (cutOf m) (start m .args .corners) (m .before .loops-of .result .masks) (masks-are m), c .mark .ensures .1)
+
 returns-2 : tie.Need-returns-2
 returns-2 c =
-    let w = c .before .before .before .before in
+    let k = c .before in
+    let o = k .before in
+    let w = o .before .before .before .before in
     let m = w .before in
-    rw (c .before .before .before .place-or-zero .ensures, c .before .before .place-or-zero2 .ensures, c .before .place-or-zero3 .ensures, c .place-or-zero4 .ensures, w .wide .ensures .0)
+    rw (o .before .before .before .place-or-zero .ensures, o .before .before .place-or-zero2 .ensures, o .before .place-or-zero3 .ensures, o .place-or-zero4 .ensures, w .wide .ensures .0, c .words-of .ensures, k .mark .ensures .0)
     (accepted-answer (cutOf m) (start m .args .corners) (passed m) (m .before .loops-of .result .count) (m .before .loops-of .result .masks) (count-is m) (masks-are m))
 
 pub cube-by-spec : {M : Type 1} → statement M
 cube-by-spec =
     tie.close
     (tie.spec
-    check-requires
+    check-threshold-requires
     enum-known-checked
     refuse-requires
     returns
@@ -102,4 +107,6 @@ cube-by-spec =
     place-or-zero-requires-3
     (λ c. search needs)
     place-or-zero-requires-4
+    (λ c κs. search needs)
+    words-of-requires
     returns-2)

@@ -1,7 +1,7 @@
 -- `cube::loops_among` meets its contract. The loop's invariant: the first `n` loops are found, and `left` has the edges of the others.
 -- The measure is what is left of the four places. Assumes nothing.
 use mathlib.Core.Path.{ap₂, _∙_}
-use mathlib.Core.Logic.{_⊎_, inl, inr, ⊎-elim}
+use mathlib.Core.Logic.{inl, inr, ⊎-elim}
 use mathlib.Core.List.{List}
 use Prim.Native.Nat.{ℕ, _-_, _<_}
 use native.Mathlib.Omega.{arith}

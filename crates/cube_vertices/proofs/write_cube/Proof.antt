@@ -37,11 +37,14 @@ place-requires : tie.Need-place-requires
 place-requires c κs =
     let d = c .before in
     let p = start d .pre .1 in
-    (subst (λ (l : List ℕ). Placeable (start d .args .cut) l (d .crossed-edges .result)) (sym (c .wide .ensures .0)) (single-placeable _ _ (p .accepted) _ (one d)), c .wide .ensures .1)
+    (subst (λ (l : List ℕ). Placeable (start d .args .cut) l (d .crossed-edges .result)) (sym (c .wide .ensures .0)) (single-placeable _ _ (p .threshold) _ (one d)), c .wide .ensures .1)
+
+add-word : tie.Need-add-word
+add-word c = omega (arith, c .mark .ensures .1, c .before .before .before .crossed-edges .ensures .1)
 
 put-vertex-requires : tie.Need-put-vertex-requires
 put-vertex-requires c κs =
-    let d = c .before .before .before .before in
+    let d = c .before .before .before .before .before in
     let p = start d .pre .1 in
     let n = ap length (one d) in
     (omega (arith, n, p .words-room), omega (arith, n, p .offsets-room))
@@ -53,12 +56,13 @@ put c = c .before .before .before .before .before .before .before .before
 returns : tie.Need-returns
 returns c =
     let m = put c in
-    let p = m .before .before .before in
+    let k = m .before .before .before in
+    let p = k .before in
     let d = p .before .before in
     let a = start d .args in
     record {
       stored =
-          stored-single loopsOf _ _ _ _ _ _ _ _ _ (one d) _ (p .place .ensures ∙ ap (λ (l : List ℕ). placeOf (a .cut) l (d .crossed-edges .result)) (p .before .wide .ensures .0))
+          stored-single loopsOf _ _ _ _ _ _ _ _ _ (one d) _ (k .mark .ensures .0) _ (p .place .ensures ∙ ap (λ (l : List ℕ). placeOf (a .cut) l (d .crossed-edges .result)) (p .before .wide .ensures .0))
           (m .put-vertex .ensures .0) (m .put-vertex .ensures .1);
       noted = c .before .before .note .ensures ∙ ap (λ (w : ℕ). sets (now (a .numbers)) (2 * a .spot .x) (a .spot .v ∷ w ∷ [])) (which-single loopsOf _ _ _ (one d));
     }
@@ -71,7 +75,7 @@ begin d = d .before .before .before .before .before
 
 -- and answers its loops
 found-is : (d : tie.After-cube-by) → d .cube-by .result .found ≡ found.Loops (length (loopsOf (begin d .args .cut) (begin d .args .corners)))
-found-is d = answer-found _ _ (begin d .pre .1 .accepted) (d .cube-by .result) (d .cube-by .ensures)
+found-is d = answer-found _ _ (begin d .pre .1 .threshold) (d .cube-by .result) (d .cube-by .ensures)
 
 abbrev asked : tie.After-places → tie.After-cube-by
 asked d = d .before .before .before .before .before
@@ -80,12 +84,12 @@ number-is : (d : tie.After-places) → d .before .before .before .found .given .
 number-is d = cc (found-is (asked d), d .before .before .before .found .given .1)
 
 words-are : (d : tie.After-places) → asked d .cube-by .result .words ≡ filled 4 0 (namesBy loopsOf (begin (asked d) .args .cut) (begin (asked d) .args .corners))
-words-are d = answer-words _ _ (begin (asked d) .pre .1 .accepted) (asked d .cube-by .result) (asked d .cube-by .ensures)
+words-are d = answer-words _ _ (begin (asked d) .pre .1 .threshold) (asked d .cube-by .result) (asked d .cube-by .ensures)
 
 offsets-are : (d : tie.After-places)
     → asked d .cube-by .result .offsets
     ≡ filled 4 origin (map (placeOf (begin (asked d) .args .cut) (begin (asked d) .args .corners)) (loopsOf (begin (asked d) .args .cut) (begin (asked d) .args .corners)))
-offsets-are d = answer-offsets _ _ (begin (asked d) .pre .1 .accepted) (asked d .cube-by .result) (asked d .cube-by .ensures)
+offsets-are d = answer-offsets _ _ (begin (asked d) .pre .1 .threshold) (asked d .cube-by .result) (asked d .cube-by .ensures)
 
 few : (d : tie.After-places) → length (loopsOf (begin (asked d) .args .cut) (begin (asked d) .args .corners)) ≤ 4
 few d = cube-laws joined .four (begin (asked d) .args .cut) (begin (asked d) .args .corners)
@@ -129,6 +133,8 @@ write-cube-spec =
     (λ c κs. search needs)
     (λ c κs. search needs)
     place-requires
+    (λ c κs. search needs)
+    add-word
     put-vertex-requires
     (λ c. search needs)
     (λ c κs. search needs)

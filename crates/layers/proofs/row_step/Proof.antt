@@ -41,8 +41,7 @@ write-row-requires c κs =
       s .pre .0,
       record {
         small = r .small;
-        low = r .low;
-        high = r .high;
+        threshold = r .threshold;
         words-room = r .words-room;
         offsets-room = r .offsets-room;
         numbers-room = lent-long (s .args .row .j) (now (s .args .here)) (s .pre .3);

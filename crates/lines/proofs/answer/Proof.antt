@@ -8,10 +8,8 @@ use lib.Seq.{length-take-le}
 use Rattle.mesh.specs.Answer.{sizeOf}
 use Rattle.block.specs.Grey.{SixteenBit}
 use Rattle.block.proofs.Sizes.{axes-within}
-use Rattle.block.specs.Rows.{ceilingRow}
 use Rattle.lines.specs.Output.{blockText}
 use Rattle.laws.specs.Put.{Put}
-use Rattle.lines.specs.Steps.{printed}
 use Rattle.reading.proofs.Axes.{at-most-eight}
 use Rattle.reading.proofs.Samples.{block-small, samples-grey, samples-front}
 use borrow.Author.Needs.{needs}
@@ -75,7 +73,7 @@ returns c =
     let at-fill = at-put .before .before .before .before in
     let a = at-fill .before .before .before .before in
     let n = sizeOf (a .args .nx) (a .args .ny) (a .args .nz) in
-    subst (λ (s : List ℕ). Put (a .args .out .now) 0 (printed (ceilingRow s) (blockText n s (record { t = a .args .t }))) (at-put .put-block .last .0) (at-put .put-block .result))
+    subst (λ (s : List ℕ). Put (a .args .out .now) 0 (blockText n s (record { t = a .args .t })) (at-put .put-block .last .0) (at-put .put-block .result))
     (samples-front (a .args .input .now) n _ _ (at-fill .fill .ensures)) (at-put .put-block .ensures)
 
 pub answer-spec : {M : Type 1} → statement M

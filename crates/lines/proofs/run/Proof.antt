@@ -1,4 +1,4 @@
--- `run` meets its promise: a row before row 4 refuses, or the block is answered.
+-- `run` meets its promise: a row refuses, or the block is answered.
 -- Assumes nothing.
 use mathlib.Core.Path.{sym, _∙_}
 use Rattle.lines.proofs.Outputs.{output-refused, output-block, readable, ran}

@@ -1,4 +1,4 @@
--- `check` meets its contract: the first of rows 2, 3 and 4 that refuses decides.
+-- `check` meets its contract: the first of rows 2 and 3 that refuses decides.
 -- Assumes nothing.
 use mathlib.Core.Path.{sym, _∙_}
 use Rattle.block.proofs.Order.{order-refuses, order-passes, order-last}
@@ -7,7 +7,6 @@ use Rattle.mesh.proofs.check.Statement.{statement}
 use Rattle.mesh.proofs.check.Tie as tie
 use Rattle.mesh.proofs.check.Reads as reads
 use Rattle.mesh.proofs.check.Lts as lts
-use Rattle.block.proofs.check_ceiling.Reads as check-ceiling-reads
 use Rattle.block.proofs.check_count.Reads as check-count-reads
 use Rattle.block.proofs.check_threshold.Reads as check-threshold-reads
 
@@ -26,39 +25,10 @@ enum-told c = search needs
 check-threshold-requires : tie.Need-check-threshold-requires
 check-threshold-requires c κs = search needs
 
-enum-known-threshold : tie.Need-enum-known-threshold
-enum-known-threshold c = search needs
-
 returns-2 : tie.Need-returns-2
 returns-2 c =
-    let t = c .before .before .before in
-    sym (order-passes _ _ (sym (t .before .before .before .check-count .ensures) ∙ t .before .enum-told .given .1)
-    ∙ order-refuses _ _ _ (sym (t .check-threshold .ensures) ∙ c .before .threshold .given .1))
-
-enum-told-2 : tie.Need-enum-told-2
-enum-told-2 c = search needs
-
-check-ceiling-requires : tie.Need-check-ceiling-requires
-check-ceiling-requires c κs = search needs
-
-returns-3 : tie.Need-returns-3
-returns-3 c =
-    let t = c .before .before .before in
-    sym (order-passes _ _ (sym (t .before .before .before .check-count .ensures) ∙ t .before .enum-told .given .1)
-    ∙ order-passes _ _ (sym (t .check-threshold .ensures) ∙ c .before .enum-told2 .given .1)
-    ∙ order-last _ ∙ sym (c .check-ceiling .ensures))
+    sym (order-passes _ _ (sym (c .before .before .before .check-count .ensures) ∙ c .before .enum-told .given .1)
+    ∙ order-last _ ∙ sym (c .check-threshold .ensures))
 
 pub check-spec : {M : Type 1} → statement M
-check-spec =
-    tie.close
-    (tie.spec
-    check-count-requires
-    enum-known-count
-    returns
-    enum-told
-    check-threshold-requires
-    enum-known-threshold
-    returns-2
-    enum-told-2
-    check-ceiling-requires
-    returns-3)
+check-spec = tie.close (tie.spec check-count-requires enum-known-count returns enum-told check-threshold-requires returns-2)

@@ -1,4 +1,4 @@
--- `counts_of` meets its contract: a refusal of rows 2 to 4, or the counts of a whole tally.
+-- `counts_of` meets its contract: a refusal of rows 2 and 3, or the counts of a whole tally.
 -- Assumes nothing.
 use mathlib.Core.Path.{_≡_, sym, _∙_}
 use Rattle.block.specs.declared.Checked.the-variants.{Passes}
@@ -31,7 +31,7 @@ enum-told c = search needs
 abbrev start : tie.After-enum-told → tie.Start
 start c = c .before .before .before .before
 
--- rows 2 to 4 passed
+-- rows 2 and 3 passed
 passed : (c : tie.After-enum-told) → let a = start c in
     inOrder (blockRows (a .args .size) (a .args .samples .now) (a .args .cut)) ≡ Passes
 passed c = sym (c .before .before .check .ensures) ∙ c .enum-told .given .1

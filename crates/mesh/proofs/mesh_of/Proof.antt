@@ -1,4 +1,4 @@
--- `mesh_of` meets its contract: rows 2 to 4 refuse, or rows 5 and 6 with the counts, or the whole mesh is written.
+-- `mesh_of` meets its contract: rows 2 and 3 refuse, or rows 5 and 6 with the counts, or the whole mesh is written.
 -- Assumes nothing.
 use mathlib.Core.Path.{_≡_, sym, _∙_}
 use native.Mathlib.Omega.{arith}
@@ -35,7 +35,7 @@ returns c =
 enum-told : tie.Need-enum-told
 enum-told c = search needs
 
--- the places that the proof names: the entry, rows 2 to 4 passed, the counts made, rows 5 and 6 passed
+-- the places that the proof names: the entry, rows 2 and 3 passed, the counts made, rows 5 and 6 passed
 abbrev start : tie.After-enum-told → tie.Start
 start c = c .before .before .before .before .before .before .before
 
@@ -45,7 +45,7 @@ checked c = c .before .before
 abbrev counted : tie.After-enum-told2 → tie.After-total
 counted c = c .before .before .before
 
--- rows 2 to 4 passed
+-- rows 2 and 3 passed
 passed : (c : tie.After-enum-told) → let a = start c in
     inOrder (blockRows (a .args .size) (a .args .samples .now) (a .args .cut)) ≡ Passes
 passed c = sym (c .before .before .check .ensures) ∙ c .enum-told .given .1

@@ -12,7 +12,7 @@ use Rattle.parsniprow_c.proofs.tell_closed.Statement.{statement}
 use Rattle.parsniprow_c.proofs.tell_closed.Tie as tie
 use Rattle.parsniprow_c.proofs.tell_closed.Reads as reads
 use Rattle.parsniprow_c.proofs.tell_closed.Lts as lts
-use Rattle.parsniprow_c.proofs.short.Reads as short-reads
+use Rattle.block.proofs.short.Reads as short-reads
 
 enum-told : tie.Need-enum-told
 enum-told c = search needs

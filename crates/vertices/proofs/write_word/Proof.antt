@@ -18,7 +18,7 @@ use Rattle.rows.specs.Rows.{loopsAt, picked}
 use Rattle.cube_vertices.specs.Cubes.{namesAt, wordsAt, offsetsAt, Stored}
 use Rattle.notes.specs.Tables.{Noted}
 use Rattle.rows.proofs.Visits.{bitsOf, visit-start, visit-set, visit-in, picked-room}
-use Rattle.vertices.proofs.Writes.{stored-start, stored-next, stored-end, words-next, offsets-next, noted-next, noted-end, active-names, corners-accepted}
+use Rattle.vertices.proofs.Writes.{stored-start, stored-next, stored-end, words-next, offsets-next, noted-next, noted-end, active-names}
 use Rattle.notes.proofs.Notes.{one-noted, noted-none}
 use Rattle.rows.proofs.Words.{by-table}
 use Rattle.cube_vertices.proofs.Cubes.{written-as}
@@ -126,7 +126,7 @@ write-cube-requires c κs =
         one = λ t. rw (k .corners .ensures) (d .before .before .singles .ensures .1 (next d) (inside d) (set d) t);
       },
       record {
-        accepted = rw (k .corners .ensures) (corners-accepted _ _ _ _ _ (r .low) (r .high) (low-in d) (high-in d));
+        threshold = r .threshold;
         words-room = rw (k .corners .ensures) (words-next _ (h .inv .0) (loops s) (wordsOf s) (offsetsOf s) (h .inv .1) ne (r .words-room));
         offsets-room = rw (k .corners .ensures) (offsets-next _ (h .inv .0) (loops s) (wordsOf s) (offsetsOf s) (h .inv .1) ne (r .offsets-room));
         numbers-room = numbers-room d;

@@ -1,0 +1,82 @@
+-- What a sample at the detector's ceiling leaves in the answers (document 02, One): the mark of a vertex, and number 4, which nobody gives.
+use Prim.Native.Nat.{ℕ, _+_, _*_, _≤_, _<_}
+use mathlib.Core.Path.{_≡_}
+use mathlib.Core.Bool.{Bool, true, false}
+use mathlib.Core.List.{List}
+use lib.Ieee.{Float}
+use lib.ListN.{getD}
+use Rattle.laws.specs.Bits.{holds}
+use Rattle.block.specs.declared.Cut.{Cut}
+use Rattle.block.specs.declared.Refusal.{Refusal}
+use Rattle.block.specs.declared.Size.{Size}
+use Rattle.block.specs.declared.Sized.{Sized}
+use Rattle.block.specs.Answer.{Answer, refused}
+use Rattle.block.specs.Grey.{apart}
+use Rattle.block.specs.Size.{saidSize, SizeMade}
+use Rattle.cube_rule.specs.Edges.{cornerSample}
+use Rattle.place.specs.declared.Crossing.{Crossing}
+use Rattle.place.specs.Crossing.{saidEdge, EdgeAnswered}
+use Rattle.cell.specs.declared.CubeAnswer.{CubeAnswer}
+use Rattle.cell.specs.Answer.{saidCube, CubeAnswered}
+use Rattle.mesh_rule.specs.Grid.{cornersOf}
+use Rattle.mesh.specs.declared.Counted.{Counted}
+use Rattle.mesh.specs.Answer.{sizeOf, saidCounts, CountsAnswered, Meshed}
+use Rattle.closed.specs.declared.Closure.{Closure}
+use Rattle.closed.specs.Closed.{saidClosure, ClosedAnswered}
+use Rattle.lines.specs.Output.{refusalLine, Prints, Ran}
+use Rattle.parsniprow_c.specs.Told.{CeilingsTold, EdgeTold, CubeTold, CountsTold, MeshTold, ClosedTold}
+use Rattle.demands.specs.Answers.{MeshCall}
+
+-- the mark of a vertex is bit 12 of its word
+abbrev pub hasMark : ℕ → Bool
+hasMark word = holds word 12
+
+-- after a call of `mesh`: the word of vertex v, the corners of its cube, and that no vertex carries the mark
+module _ {nx ny nz : ℕ} {s : List ℕ} {cut : Cut} (a : MeshCall nx ny nz s cut) where
+  abbrev pub wordAfter : ℕ → ℕ
+  wordAfter v = getD (a .words-after) (2 * v + 1) 0
+
+  abbrev pub cornersAfter : ℕ → List ℕ
+  cornersAfter v = cornersOf (sizeOf nx ny nz) s (getD (a .words-after) (2 * v) 0)
+
+  abbrev pub Unmarked : Type 0
+  Unmarked = (v : ℕ) → v < a .counts .vertices → hasMark (wordAfter v) ≡ false
+
+-- a cube has corners of both signs
+pub record BothSigns (cut : Cut) (corners : List ℕ) : Type 0 where
+  pub one : ℕ
+  pub other : ℕ
+  pub one-there : one < 8
+  pub other-there : other < 8
+  pub apart-there : apart cut (cornerSample corners one) (cornerSample corners other) ≡ true
+
+-- (i,j,k) is a sample of the block
+abbrev pub InBox : Size → ℕ → ℕ → ℕ → Type 0
+InBox n i j k = (i < n .nx) × (j < n .ny) × (k < n .nz)
+
+-- where the line of vertex v begins in the program's text: behind the first line, which has 21 bytes, and 63 bytes for each vertex before it
+abbrev pub vertexPlace : ℕ → ℕ
+vertexPlace v = 21 + 63 * v
+
+-- an answer is not refusal 4
+abbrev pub NotFour : {A : Type 0} → Answer A → Type 0
+NotFour a = (x : Refusal) → a ≡ refused x → x .number ≡ 4 → ⊥
+
+-- no entry point gives number 4, and no C caller finds it
+pub record FourNever : Type 0 where
+  pub size : (nx ny nz : ℕ) (r : Sized) → SizeMade nx ny nz r → NotFour (saidSize r)
+  pub edge : (p q t : ℕ) (r : Crossing) → EdgeAnswered p q t r → NotFour (saidEdge r)
+  pub cube : (corners : List ℕ) (cut : Cut) (r : CubeAnswer) → CubeAnswered corners cut r → NotFour (saidCube (r .found))
+  pub counts : (nx ny nz : ℕ) (s : List ℕ) (cut : Cut) (r : Counted) → CountsAnswered nx ny nz s cut r → NotFour (saidCounts r)
+  pub mesh : (nx ny nz : ℕ) (s : List ℕ) (cut : Cut) (w : List ℕ) (o : List Float) (q : List ℕ) (r : Counted) (w′ : List ℕ) (o′ : List Float) (q′ : List ℕ)
+      → Meshed nx ny nz s cut w o q r w′ o′ q′ → NotFour (saidCounts r)
+  pub closed : (quads : List ℕ) (r : Closure) → ClosedAnswered quads r → NotFour (saidClosure r)
+  pub run : (bytes out : List ℕ) (r : ℕ) (out′ : List ℕ) → Ran bytes out r out′ → (v : ℕ) → v ≤ 4294967295 → Prints (refusalLine (record { number = 4; value = v })) out r out′ → ⊥
+  pub ceilings-told : (s place place′ : List ℕ) → CeilingsTold s place place′ → getD place′ 0 0 ≡ 4 → ⊥
+  pub edge-told : (p q t : ℕ) (f : List Float) (place : List ℕ) (f′ : List Float) (place′ : List ℕ) → EdgeTold p q t f place f′ place′ → getD place′ 0 0 ≡ 4 → ⊥
+  pub cube-told : (corners : List ℕ) (t : ℕ) (w : List ℕ) (o : List Float) (place w′ : List ℕ) (o′ : List Float) (place′ : List ℕ)
+      → CubeTold corners t w o place w′ o′ place′ → getD place′ 0 0 ≡ 4 → ⊥
+  pub counts-told : (nx ny nz : ℕ) (s : List ℕ) (t : ℕ) (place place′ : List ℕ) → CountsTold nx ny nz s t place place′ → getD place′ 0 0 ≡ 4 → ⊥
+  pub mesh-told : (nx ny nz : ℕ) (s : List ℕ) (t : ℕ) (w : List ℕ) (o : List Float) (q place w′ : List ℕ) (o′ : List Float) (q′ place′ : List ℕ)
+      → MeshTold nx ny nz s t w o q place w′ o′ q′ place′ → getD place′ 0 0 ≡ 4 → ⊥
+  pub closed-told : (quads place place′ : List ℕ) → ClosedTold quads place place′ → getD place′ 0 0 ≡ 4 → ⊥
