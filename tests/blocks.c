@@ -299,3 +299,85 @@ void fill_block(struct chance *chance, enum kind kind, const uint32_t length[3],
         for (size_t index = 0; index < count; index++)
             samples[index] = one_sample(chance, kind, t, mostly_metal);
 }
+
+/* ---- ceilings ---- */
+
+static void few_ceilings(struct chance *chance, size_t count, uint16_t *samples)
+{
+    size_t spots = chance_in_100(chance, 70) ? 1 : 1 + (size_t)chance_below(chance, 5);
+    for (size_t spot = 0; spot < spots; spot++) {
+        uint64_t how = chance_below(chance, 100);
+        size_t any = (size_t)chance_below(chance, count);
+        samples[how < 15 ? count - 1 : how < 25 ? 0 : any] = CEILING;
+    }
+}
+
+static void bush(struct chance *chance, const uint32_t length[3], uint16_t *samples)
+{
+    uint32_t from[3], to[3];
+    for (unsigned axis = 0; axis < 3; axis++) {
+        from[axis] = (uint32_t)chance_below(chance, length[axis]);
+        to[axis] = from[axis] + 1 + (uint32_t)chance_below(chance, length[axis] - from[axis]);
+    }
+    for (size_t k = from[2]; k < to[2]; k++)
+        for (size_t j = from[1]; j < to[1]; j++)
+            for (size_t i = from[0]; i < to[0]; i++)
+                samples[i + length[0] * (j + length[1] * k)] = CEILING;
+}
+
+static void bright(struct chance *chance, size_t count, uint16_t t, uint16_t *samples)
+{
+    uint16_t from = chance_in_100(chance, 30) ? t : metal(chance, t);
+    for (size_t index = 0; index < count; index++)
+        if (samples[index] >= from)
+            samples[index] = CEILING;
+}
+
+/* Are this sample and all that share a cube with it metal? */
+static int deep_in_metal(const uint32_t length[3], const size_t at[3], uint16_t t, const uint16_t *samples)
+{
+    size_t from[3], to[3];
+    for (unsigned axis = 0; axis < 3; axis++) {
+        from[axis] = at[axis] > 0 ? at[axis] - 1 : 0;
+        to[axis] = at[axis] + 1 < length[axis] ? at[axis] + 1 : at[axis];
+    }
+    for (size_t k = from[2]; k <= to[2]; k++)
+        for (size_t j = from[1]; j <= to[1]; j++)
+            for (size_t i = from[0]; i <= to[0]; i++)
+                if (samples[i + length[0] * (j + length[1] * k)] < t)
+                    return 0;
+    return 1;
+}
+
+static void deep_ceilings(struct chance *chance, const uint32_t length[3], uint16_t t, uint16_t *samples)
+{
+    unsigned cases = chance_in_100(chance, 50) ? 100 : 10;
+    size_t at[3];
+    for (at[2] = 0; at[2] < length[2]; at[2]++)
+        for (at[1] = 0; at[1] < length[1]; at[1]++)
+            for (at[0] = 0; at[0] < length[0]; at[0]++)
+                if (chance_in_100(chance, cases) && deep_in_metal(length, at, t, samples))
+                    samples[at[0] + length[0] * (at[1] + length[1] * at[2])] = CEILING;
+}
+
+static int has_ceiling(size_t count, const uint16_t *samples)
+{
+    for (size_t index = 0; index < count; index++)
+        if (samples[index] == CEILING)
+            return 1;
+    return 0;
+}
+
+void add_ceilings(struct chance *chance, const uint32_t length[3], uint16_t t, uint16_t *samples)
+{
+    size_t count = (size_t)length[0] * length[1] * length[2];
+    uint64_t how = chance_below(chance, 4);
+    if (how == 1)
+        bush(chance, length, samples);
+    else if (how == 2)
+        bright(chance, count, t, samples);
+    else if (how == 3)
+        deep_ceilings(chance, length, t, samples);
+    if (!has_ceiling(count, samples))
+        few_ceilings(chance, count, samples);
+}

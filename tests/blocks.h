@@ -59,4 +59,9 @@ uint16_t choose_sign(struct chance *chance, int is_metal, uint16_t t);
    where t is 100 and moved with the threshold elsewhere. */
 void fill_block(struct chance *chance, enum kind kind, const uint32_t length[3], uint16_t t, uint16_t *samples);
 
+/* Puts some samples of a block at the ceiling: a few, of which often the first or the last; all in a box, as a steel
+   bush does; all that are bright; or some with nothing but metal round them. Where the block has no such sample, a
+   few. */
+void add_ceilings(struct chance *chance, const uint32_t length[3], uint16_t t, uint16_t *samples);
+
 #endif

@@ -1,4 +1,4 @@
-/* A caller of the installed library, in the words that C and C++ share: the paper's samples through each of the five
+/* A caller of the installed library, in the words that C and C++ share: the paper's samples through each of the six
    functions, in a thread with a stack of 64 KiB, which the header says is enough. Prints what is wrong and ends with
    status 1, or ends with status 0.
    Assumes the installed header and archive, and POSIX threads. */
@@ -10,7 +10,7 @@
 #include <stdio.h>
 #include <string.h>
 
-enum { STACK = 65536, SAMPLES = 27, VERTICES = 8, QUADS = 6 };
+enum { STACK = 65536, SAMPLES = 27, VERTICES = 8, MARKED_VERTICES = 9, QUADS = 6, MARK = 4096 };
 
 static int faults;
 
@@ -35,9 +35,10 @@ static void ask_edge(void)
     expect("edge 0, 400", answers(answer, 0, 1, 0) && fraction[0] == 0.25);
     parsniprow_edge(100, 400, 100, fraction, 1, answer, 3);
     expect("edge 100, 400", answers(answer, 0, 0, 0) && fraction[0] == 0);
-    fraction[0] = 9;
     parsniprow_edge(0, 65535, 100, fraction, 1, answer, 3);
-    expect("edge at the ceiling", answers(answer, 4, 1, 0) && fraction[0] == 0);
+    expect("edge at the ceiling", answers(answer, 0, 1, 0) && fraction[0] == 100.0 / 65535.0);
+    parsniprow_edge(0, 65535, 0, fraction, 1, answer, 3);
+    expect("edge at a threshold that is none", answers(answer, 3, 0, 0) && fraction[0] == 0);
 }
 
 static void ask_cube(void)
@@ -47,6 +48,8 @@ static void ask_cube(void)
     parsniprow_cube(110, 0, 0, 110, 0, 110, 110, 0, 100, words, 4, offsets, 12, answer, 3);
     expect("a cube of four loops", answers(answer, 0, 4, 0) && words[0] == 0x111 && words[1] == 0x822 &&
                                        words[2] == 0x284 && words[3] == 0x448);
+    parsniprow_cube(65535, 0, 0, 0, 0, 0, 0, 0, 100, words, 4, offsets, 12, answer, 3);
+    expect("a cube with a ceiling", answers(answer, 0, 1, 0) && words[0] == MARK + 0x111 && words[1] == 0);
     parsniprow_cube(110, 0, 0, 110, 0, 0, 0, 0, 65535, words, 4, offsets, 12, answer, 3);
     expect("a cube at a threshold that is none", answers(answer, 3, 65535, 0) && words[0] == 0 && offsets[11] == 0);
 }
@@ -54,18 +57,26 @@ static void ask_cube(void)
 static void ask_block(uint32_t *quads)
 {
     uint16_t samples[SAMPLES] = {0};
-    uint32_t words[2 * VERTICES], answer[3] = {9, 9, 9};
-    double offsets[3 * VERTICES];
+    uint32_t words[2 * MARKED_VERTICES], answer[3] = {9, 9, 9};
+    double offsets[3 * MARKED_VERTICES];
     samples[13] = 400;
     parsniprow_counts(3, 3, 3, samples, SAMPLES, 100, answer, 3);
     expect("counts", answers(answer, 0, VERTICES, QUADS));
+    parsniprow_ceilings(samples, SAMPLES, answer, 3);
+    expect("no ceilings", answers(answer, 0, 0, SAMPLES));
     parsniprow_mesh(3, 3, 3, samples, SAMPLES, 100, words, 2 * VERTICES, offsets, 3 * VERTICES, quads, 4 * QUADS,
                     answer, 3);
     expect("mesh", answers(answer, 0, VERTICES, QUADS) && words[1] == 0x888 && offsets[0] == 0.75 && quads[1] == 4);
     samples[26] = 65535;
     parsniprow_mesh(3, 3, 3, samples, SAMPLES, 100, words, 2 * VERTICES, offsets, 3 * VERTICES, quads, 4 * QUADS,
                     answer, 3);
-    expect("a sample at the ceiling", answers(answer, 4, 26, 0));
+    expect("a ceiling, and no room for its vertex", answers(answer, 5, MARKED_VERTICES, 0));
+    parsniprow_mesh(3, 3, 3, samples, SAMPLES, 100, words, 2 * MARKED_VERTICES, offsets, 3 * MARKED_VERTICES, quads,
+                    4 * QUADS, answer, 3);
+    expect("a sample at the ceiling", answers(answer, 0, MARKED_VERTICES, QUADS) && words[1] == 0x888 &&
+                                          words[15] == MARK + 0x111 && words[17] == MARK + 0x888);
+    parsniprow_ceilings(samples, SAMPLES, answer, 3);
+    expect("ceilings", answers(answer, 0, 1, 26));
 }
 
 static void ask_closed(const uint32_t *quads)

@@ -1,5 +1,6 @@
-/* Compares the library with the plain implementation on many random blocks, edges, cubes and lists of quads: the
-   answers, and every byte of every lent buffer, with what is beside it. Usage: compare [blocks [seed [first block]]].
+/* Compares the library with the plain implementation on many random blocks, edges, cubes, lists of quads and lists of
+   samples: the answers, and every byte of every lent buffer, with what is beside it.
+   Usage: compare [blocks [seed [first block]]].
    From 20,000 blocks on it also fails if something that it should try never occurred. The last line is a summary, and
    the exit status is 0 only if nothing differed and nothing was missing.
    Assumes that the library is linked in; built with -DSELF the plain implementation stands in for it. */
@@ -14,8 +15,8 @@
 
 enum { DEFAULT_BLOCKS = 20000, DEFAULT_SEED = 1, ENOUGH_BLOCKS = 20000, LINE = 118, MOST_MISSING = 64 };
 
-static const char *const function_names[FUNCTIONS] = {"parsniprow_edge", "parsniprow_cube", "parsniprow_counts",
-                                                      "parsniprow_mesh", "parsniprow_closed"};
+static const char *const function_names[FUNCTIONS] = {"parsniprow_edge", "parsniprow_cube",   "parsniprow_counts",
+                                                      "parsniprow_mesh", "parsniprow_closed", "parsniprow_ceilings"};
 
 static uint64_t asked[FUNCTIONS][BESIDES], differences;
 static char occasion[120];
@@ -123,12 +124,16 @@ static void tally_asked(void)
 
 static void try_fixed(void)
 {
+    working_on(strcpy(occasion, "among the blocks that are asked once"));
+    try_fixed_blocks();
     working_on(strcpy(occasion, "among the edges that are asked once"));
     try_fixed_edges();
     working_on(strcpy(occasion, "among the cubes that are asked once"));
     try_fixed_cubes();
     working_on(strcpy(occasion, "among the lists that are asked once"));
     try_fixed_lists();
+    working_on(strcpy(occasion, "among the lists of samples that are asked once"));
+    try_fixed_ceilings();
 }
 
 static void try_with_block(uint64_t seed, uint64_t block)
@@ -143,6 +148,7 @@ static void try_with_block(uint64_t seed, uint64_t block)
     try_edges(&trial);
     try_cubes(&trial);
     try_lists(&trial);
+    try_ceilings(&trial);
 }
 
 static void print_missing(void)
@@ -153,22 +159,23 @@ static void print_missing(void)
 
 static int report(uint64_t blocks)
 {
-    uint64_t edges, cubes, lists;
+    uint64_t edges, cubes, lists, ceilings;
     char of_missing[40] = "";
     int enough = blocks >= ENOUGH_BLOCKS;
     tally_blocks();
     edges = tally_edges();
     cubes = tally_cubes();
     lists = tally_lists();
+    ceilings = tally_ceilings();
     tally_asked();
     printf("\n");
     if (enough) {
         print_missing();
         snprintf(of_missing, sizeof of_missing, "%zu cases missing, ", missing_count);
     }
-    printf("compare: %llu blocks, %llu edges, %llu cubes, %llu lists of quads, %s%llu differences\n",
+    printf("compare: %llu blocks, %llu edges, %llu cubes, %llu lists of quads, %llu of samples, %s%llu differences\n",
            (unsigned long long)blocks, (unsigned long long)edges, (unsigned long long)cubes, (unsigned long long)lists,
-           of_missing, (unsigned long long)differences);
+           (unsigned long long)ceilings, of_missing, (unsigned long long)differences);
     return differences > 0 || (enough && missing_count > 0);
 }
 

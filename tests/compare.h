@@ -14,11 +14,15 @@
 #define parsniprow_counts plain_counts
 #define parsniprow_mesh plain_mesh
 #define parsniprow_closed plain_closed
+#define parsniprow_ceilings plain_ceilings
 #endif
 
 enum { ANSWER = 3, CLOSED_ANSWER = 4, LOOPS = 4, COORDINATES = 12, MOST_SHIFT = 8 };
 
-enum function { EDGE, CUBE, COUNTS, MESH, CLOSED, FUNCTIONS };
+/* The mark of a vertex whose cube has a corner at the ceiling, a bit of its word. */
+enum { MARK = 4096 };
+
+enum function { EDGE, CUBE, COUNTS, MESH, CLOSED, CEILINGS, FUNCTIONS };
 
 /* ---- judging a call ---- */
 
@@ -63,21 +67,25 @@ struct trial {
 };
 
 /* Asks the counts and the mesh of a block and fills in the trial but for its chance; then what goes with the block:
-   some edges, some of its cubes, some lists of quads. */
+   some edges, some of its cubes, some lists of quads, its samples at the ceiling. */
 void try_block(struct trial *trial);
 void try_edges(struct trial *trial);
 void try_cubes(struct trial *trial);
 void try_lists(struct trial *trial);
+void try_ceilings(struct trial *trial);
 
 /* What is asked once, whatever the blocks. */
+void try_fixed_blocks(void);
 void try_fixed_edges(void);
 void try_fixed_cubes(void);
 void try_fixed_lists(void);
+void try_fixed_ceilings(void);
 
 /* Print what has occurred, and give the number of calls. */
 void tally_blocks(void);
 uint64_t tally_edges(void);
 uint64_t tally_cubes(void);
 uint64_t tally_lists(void);
+uint64_t tally_ceilings(void);
 
 #endif

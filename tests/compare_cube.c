@@ -1,5 +1,5 @@
-/* Compares the cube question with the plain implementation: the paper's nine cubes, all sign patterns and all refusals
-   once, cubes of each block with the block.
+/* Compares the cube question with the plain implementation: the paper's nine cubes, all sign patterns and all sets of
+   corners at the ceiling once, cubes of each block with the block.
    Assumes nothing more than compare.h. */
 #include "compare.h"
 
@@ -26,8 +26,9 @@ static struct lent answer_place = LENT("answer of the cube", sizeof(uint32_t), A
 /* ---- what occurred ---- */
 
 static struct {
-    uint64_t cubes, loops[LOOPS + 1], lengths[EDGES + 1], patterns[SIGN_PATTERNS], zero, top, corner[CORNERS], several;
-    uint64_t order, joined, tied, separated, close, large, bench[BENCH_CUBES];
+    uint64_t cubes, loops[LOOPS + 1], lengths[EDGES + 1], patterns[SIGN_PATTERNS], zero, top, refused;
+    uint64_t alone[CORNERS], several, marked[LOOPS + 1], deep, all;
+    uint64_t joined, tied, separated, close, large, bench[BENCH_CUBES];
 } tally;
 
 static int64_t difference(const struct cube *cube, unsigned corner)
@@ -75,13 +76,39 @@ static unsigned ones(uint32_t mask)
     return count;
 }
 
+/* Corners at the ceiling, as a mask. */
+static unsigned ceilings_in(const struct cube *cube)
+{
+    unsigned set = 0;
+    for (unsigned corner = 0; corner < CORNERS; corner++)
+        set |= (unsigned)(cube->corner[corner] == CEILING) << corner;
+    return set;
+}
+
+/* A cube with loops and a corner at the ceiling has the mark in each of its words. */
+static void count_marked(unsigned set, uint32_t loops, const uint32_t words[LOOPS])
+{
+    if (loops == 0) {
+        tally.deep += ones(set) < CORNERS;
+        tally.all += ones(set) == CORNERS;
+        return;
+    }
+    for (unsigned corner = 0; corner < CORNERS; corner++)
+        tally.alone[corner] += set == 1u << corner;
+    tally.several += ones(set) > 1;
+    tally.marked[loops] += words[loops - 1] >= MARK;
+}
+
 static void count_accepted(const struct cube *cube, uint32_t loops, const uint32_t words[LOOPS])
 {
+    unsigned set = ceilings_in(cube);
     tally.loops[loops]++;
     tally.patterns[sign_pattern(cube)]++;
     for (uint32_t loop = 0; loop < loops; loop++)
-        tally.lengths[ones(words[loop])]++;
+        tally.lengths[ones(words[loop] % MARK)]++;
     count_faces(cube);
+    if (set != 0)
+        count_marked(set, loops, words);
     for (unsigned i = 0; i < BENCH_CUBES; i++)
         tally.bench[i] += cube->t == BENCH_THRESHOLD &&
                           memcmp(cube->corner, bench_cubes[i].corners, sizeof cube->corner) == 0;
@@ -89,18 +116,12 @@ static void count_accepted(const struct cube *cube, uint32_t loops, const uint32
 
 static void count_cube(const struct cube *cube, const uint32_t answer[ANSWER], const uint32_t words[LOOPS])
 {
-    unsigned ceilings = 0;
-    for (unsigned corner = 0; corner < CORNERS; corner++)
-        ceilings += cube->corner[corner] == CEILING;
     tally.cubes++;
     if (answer[0] == 0)
         count_accepted(cube, answer[1], words);
     tally.zero += answer[0] == 3 && answer[1] == 0;
     tally.top += answer[0] == 3 && answer[1] == CEILING;
-    tally.order += answer[0] == 3 && ceilings > 0;
-    if (answer[0] == 4)
-        tally.corner[answer[1]]++;
-    tally.several += answer[0] == 4 && ceilings > 1;
+    tally.refused += answer[0] == 3 && ceilings_in(cube) != 0;
 }
 
 /* ---- one cube ---- */
@@ -177,25 +198,41 @@ static void try_sign_patterns(void)
         }
 }
 
-/* The ceiling at each set of corners, at good and bad thresholds. */
-static void try_cube_refusals(void)
+static struct cube cube_of_equal_corners(uint16_t corner, uint16_t t)
+{
+    uint16_t corners[CORNERS];
+    for (unsigned i = 0; i < CORNERS; i++)
+        corners[i] = corner;
+    return cube_of(corners, t);
+}
+
+static void try_with_ceilings(struct cube cube, unsigned set)
+{
+    for (unsigned corner = 0; corner < CORNERS; corner++)
+        if (set >> corner & 1)
+            cube.corner[corner] = CEILING;
+    try_cube(&cube);
+}
+
+/* The ceiling at each set of corners, at good and bad thresholds; the others as in one of the paper's cubes, 0, or one
+   under the threshold. So there is the cube of eight ceilings, and a ceiling with seven zeros. */
+static void try_cube_ceilings(void)
 {
     static const uint16_t thresholds[] = {0, 1, 100, 65534, 65535};
     for (size_t i = 0; i < sizeof thresholds / sizeof *thresholds; i++)
         for (unsigned set = 0; set < SIGN_PATTERNS; set++) {
-            struct cube cube = cube_of(bench_cubes[set % BENCH_CUBES].corners, thresholds[i]);
-            for (unsigned corner = 0; corner < CORNERS; corner++)
-                if (set >> corner & 1)
-                    cube.corner[corner] = CEILING;
-            try_cube(&cube);
+            uint16_t t = thresholds[i];
+            try_with_ceilings(cube_of(bench_cubes[set % BENCH_CUBES].corners, t), set);
+            try_with_ceilings(cube_of_equal_corners(0, t), set);
+            try_with_ceilings(cube_of_equal_corners(t > 0 ? (uint16_t)(t - 1) : 0, t), set);
         }
 }
 
-/* All lengths of the answer places: four loops, one loop, refusal 4, refusal 3. */
+/* All lengths of the answer places: four loops, one loop, a loop with the mark, refusal 3. */
 static void try_cube_lengths(void)
 {
     static const uint16_t ceiling[CORNERS] = {200, 0, CEILING, 0, 0, 0, 0, 0};
-    const uint16_t *corners[] = {bench_cubes[7].corners, bench_cubes[2].corners, ceiling, bench_cubes[7].corners};
+    const uint16_t *corners[] = {bench_cubes[7].corners, bench_cubes[2].corners, ceiling, ceiling};
     for (unsigned i = 0; i < 4; i++)
         for (size_t words_len = 0; words_len <= LOOPS + 2; words_len++)
             for (size_t offsets_len = 0; offsets_len <= COORDINATES + 2; offsets_len++)
@@ -212,7 +249,7 @@ void try_fixed_cubes(void)
 {
     try_bench_cubes();
     try_sign_patterns();
-    try_cube_refusals();
+    try_cube_ceilings();
     try_cube_lengths();
 }
 
@@ -288,12 +325,19 @@ uint64_t tally_cubes(void)
     tally_title("refusals of cubes");
     tally_case("3, t = 0", tally.zero);
     tally_case("3, t = 65535", tally.top);
-    tally_case("3 before 4", tally.order);
+    tally_case("3, a corner at the ceiling", tally.refused);
+    tally_title("cubes with a corner at the ceiling");
     for (unsigned corner = 0; corner < CORNERS; corner++) {
-        sprintf(name, "4, corner %u", corner);
-        tally_case(name, tally.corner[corner]);
+        sprintf(name, "marked by corner %u alone", corner);
+        tally_case(name, tally.alone[corner]);
     }
-    tally_case("4, several corners", tally.several);
+    tally_case("by several", tally.several);
+    for (unsigned loops = 1; loops <= LOOPS; loops++) {
+        sprintf(name, "%u marked", loops);
+        tally_case(name, tally.marked[loops]);
+    }
+    tally_case("no loop", tally.deep);
+    tally_case("all corners", tally.all);
     tally_reaches(&words_place);
     tally_reaches(&offsets_place);
     tally_reaches(&answer_place);

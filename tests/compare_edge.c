@@ -16,7 +16,8 @@ static struct lent fraction_place = LENT("fraction of the edge", sizeof(double),
 static struct lent answer_place = LENT("answer of the edge", sizeof(uint32_t), ANSWER, byte_pattern);
 
 static struct {
-    uint64_t edges, none, at_lower, between, at_upper, lower_metal, zero, top, lower, upper, both, order;
+    uint64_t edges, none, at_lower, between, at_upper, lower_metal, zero, top;
+    uint64_t lower_crossed, upper_crossed, uncrossed, both, half, refused;
 } tally;
 
 static void count_edge(const struct edge *edge, const uint32_t answer[ANSWER], double fraction)
@@ -30,10 +31,12 @@ static void count_edge(const struct edge *edge, const uint32_t answer[ANSWER], d
     tally.lower_metal += crossing && edge->p > edge->q;
     tally.zero += answer[0] == 3 && answer[1] == 0;
     tally.top += answer[0] == 3 && answer[1] == CEILING;
-    tally.lower += answer[0] == 4 && lower && !upper;
-    tally.upper += answer[0] == 4 && upper && !lower;
-    tally.both += answer[0] == 4 && lower && upper;
-    tally.order += answer[0] == 3 && (lower || upper);
+    tally.lower_crossed += crossing && lower;
+    tally.upper_crossed += crossing && upper;
+    tally.uncrossed += answer[0] == 0 && answer[1] == 0 && lower != upper;
+    tally.both += answer[0] == 0 && lower && upper;
+    tally.half += crossing && (lower || upper) && edge->t == HIGHEST && fraction == 0.5;
+    tally.refused += answer[0] == 3 && (lower || upper);
 }
 
 static void try_edge(const struct edge *edge)
@@ -80,7 +83,8 @@ static void try_special_edges(void)
 /* All lengths of the answer places, on edges with each kind of answer. */
 static void try_edge_lengths(void)
 {
-    static const uint16_t asked[][3] = {{0, 400, 100}, {100, 400, 100}, {0, CEILING, 100}, {0, 400, 0}, {300, 7, 100}};
+    static const uint16_t asked[][3] = {{0, 400, 100}, {100, 400, 100}, {0, CEILING, 100}, {CEILING, CEILING, 100},
+                                        {0, 400, 0},   {CEILING, 0, 0}, {300, 7, 100}};
     for (size_t i = 0; i < sizeof asked / sizeof *asked; i++)
         for (size_t fraction_len = 0; fraction_len <= 3; fraction_len++)
             for (size_t answer_len = 0; answer_len <= ANSWER + 2; answer_len++)
@@ -130,10 +134,13 @@ uint64_t tally_edges(void)
     tally_case("lower end metal", tally.lower_metal);
     tally_case("refusal 3, t = 0", tally.zero);
     tally_case("refusal 3, t = 65535", tally.top);
-    tally_case("refusal 4, lower end", tally.lower);
-    tally_case("refusal 4, upper end", tally.upper);
-    tally_case("refusal 4, both ends", tally.both);
-    tally_case("refusal 3 before 4", tally.order);
+    tally_title("edges with an end at the ceiling");
+    tally_case("lower end, crossed", tally.lower_crossed);
+    tally_case("upper end, crossed", tally.upper_crossed);
+    tally_case("one end, not crossed", tally.uncrossed);
+    tally_case("both ends", tally.both);
+    tally_case("65535 beside 65533, t = 65534", tally.half);
+    tally_case("refusal 3", tally.refused);
     tally_reaches(&fraction_place);
     tally_reaches(&answer_place);
     return tally.edges;

@@ -1,5 +1,6 @@
 /* Compares the counts and the mesh of random blocks with the plain implementation: good blocks, and blocks about which
-   one thing or several are wrong, so that every refusal and every order of two refusals occurs.
+   one thing or several are wrong, so that every refusal and every order of two refusals occurs. A third of the blocks
+   have samples at the ceiling. Some small blocks are asked once.
    Assumes nothing more than compare.h. */
 #include "compare.h"
 
@@ -10,9 +11,14 @@
 #include <stdlib.h>
 #include <string.h>
 
-enum { REFUSALS = 6, MOST_SAMPLES = 300000, PRINTED_SAMPLES = 128, SCANNED_SAMPLES = 1000, WORD_SAMPLES = 64 };
+enum { MOST_SAMPLES = 300000, PRINTED_SAMPLES = 128, SCANNED_SAMPLES = 1000, WORD_SAMPLES = 64 };
+enum { REFUSALS = 5, COUNT_REFUSALS = 3, LAST_REFUSAL = 6 };
+
+/* The refusals of a mesh; those of the counts stand first. Number 4 is given by nothing. */
+static const unsigned refusals[REFUSALS] = {1, 2, 3, 5, 6};
 
 struct call {
+    const char *name; /* of its kind, or its own */
     enum kind kind;
     uint32_t length[3];
     uint16_t t;
@@ -31,8 +37,8 @@ static struct lent plain_words = LENT("words of plain", sizeof(uint32_t), 0, byt
 static struct lent plain_offsets = LENT("offsets of plain", sizeof(double), 0, offset_pattern);
 static struct lent plain_quads = LENT("quads of plain", sizeof(uint32_t), 0, byte_pattern);
 
-/* What plain answers. */
-static uint32_t answer[ANSWER], counted[ANSWER];
+/* What plain answers; of the samples as they are lent, how many are at the ceiling and which is the first. */
+static uint32_t answer[ANSWER], counted[ANSWER], ceilings[ANSWER];
 
 /* The block before anything is made wrong about it, and its counts. */
 static uint16_t good[MOST_SAMPLES];
@@ -56,9 +62,9 @@ static uint64_t product(const uint32_t length[3])
 static unsigned choose_faults(struct chance *chance)
 {
     unsigned how = (unsigned)chance_below(chance, 100), faults = 0, wanted;
-    wanted = how < 50 ? 0 : how < 65 ? 1 : how < 95 ? 2 : 3 + (unsigned)chance_below(chance, 4);
+    wanted = how < 50 ? 0 : how < 65 ? 1 : how < 95 ? 2 : 3 + (unsigned)chance_below(chance, REFUSALS - 2);
     while (wanted > 0) {
-        unsigned bit = 1u << (1 + chance_below(chance, REFUSALS));
+        unsigned bit = 1u << refusals[chance_below(chance, REFUSALS)];
         if (!(faults & bit)) {
             faults |= bit;
             wanted--;
@@ -119,19 +125,8 @@ static void choose_sample_count(struct chance *chance, struct call *call, size_t
         call->samples_len++;
 }
 
-/* One sample or a few at the ceiling, the first and the last one more often than others. */
-static void spoil_samples(struct chance *chance, struct call *call, uint16_t *samples)
-{
-    size_t spots = chance_in_100(chance, 70) ? 1 : 1 + (size_t)chance_below(chance, 5);
-    for (size_t spot = 0; spot < spots; spot++) {
-        uint64_t how = chance_below(chance, 100);
-        size_t any = (size_t)chance_below(chance, call->samples_len);
-        samples[how < 15 ? call->samples_len - 1 : how < 25 ? 0 : any] = CEILING;
-    }
-}
-
 /* Lends the samples. Half of the margins are at the ceiling, so that a reading there changes the answer. */
-static void lend_samples(struct chance *chance, struct call *call, size_t good_count)
+static void lend_samples(struct chance *chance, const struct call *call, size_t good_count)
 {
     uint16_t *samples;
     samples_place.pattern = chance_in_100(chance, 50) ? ceiling_pattern : byte_pattern;
@@ -139,14 +134,10 @@ static void lend_samples(struct chance *chance, struct call *call, size_t good_c
     samples = start(&samples_place);
     for (size_t index = 0; index < call->samples_len; index++)
         samples[index] = index < good_count ? good[index] : (uint16_t)chance_below(chance, CEILING);
-    if (call->samples_len == 0)
-        call->faults &= ~(1u << 4);
-    if (due(call, 4))
-        spoil_samples(chance, call, samples);
 }
 
-/* A good block. Where a room is to be short it is of a kind that has a mesh; a block of bench cubes is often a single
-   one, and often at their threshold. */
+/* A good block, of which a third gets samples at the ceiling. Where a room is to be short it is of a kind that has a
+   mesh; a block of bench cubes is often a single one, and often at their threshold. */
 static void choose_good(struct chance *chance, struct call *call)
 {
     static const enum kind lively[] = {UNIFORM_NOISE, NEAR_THRESHOLD,     EQUAL_PRODUCTS, LARGE_PRODUCTS,
@@ -154,6 +145,7 @@ static void choose_good(struct chance *chance, struct call *call)
     int room_short = due(call, 5) || due(call, 6);
     call->kind = room_short ? lively[chance_below(chance, sizeof lively / sizeof *lively)]
                             : (enum kind)chance_below(chance, KINDS);
+    call->name = kind_names[call->kind];
     choose_size(chance, room_short, call->length);
     call->t = choose_threshold(chance);
     if (call->kind == TILED && chance_in_100(chance, 60))
@@ -161,6 +153,8 @@ static void choose_good(struct chance *chance, struct call *call)
     if (call->kind == TILED && !room_short && chance_in_100(chance, 40))
         call->length[0] = call->length[1] = call->length[2] = 2;
     fill_block(chance, call->kind, call->length, call->t, good);
+    if (chance_below(chance, 3) == 0)
+        add_ceilings(chance, call->length, call->t, good);
 }
 
 /* A good block first, whose mesh says which rooms are short; then the faults. */
@@ -194,11 +188,13 @@ static struct call choose_call(struct trial *trial)
 /* ---- what occurred ---- */
 
 static struct {
-    uint64_t answers[REFUSALS + 1], counts[REFUSALS + 1], kinds[KINDS], orders[REFUSALS + 1][REFUSALS + 1];
+    uint64_t answers[LAST_REFUSAL + 1], counts[LAST_REFUSAL + 1], kinds[KINDS];
+    uint64_t orders[LAST_REFUSAL + 1][LAST_REFUSAL + 1];
     uint64_t vertices, quads, samples, bad_axis[3];
     uint64_t no_vertex, no_quad, some_quads, below, at, above, one_wide, wider, zero, top, lowest, highest;
     uint64_t long_row, longest[3];
-    uint64_t ceiling_first, ceiling_last, ceiling_crossed, ceiling_uncrossed;
+    uint64_t marked, none_marked, some_marked, all_marked, no_surface, ceiling_first, ceiling_last, ceiling_everywhere;
+    uint64_t ceiling_refused[LAST_REFUSAL + 1];
     uint64_t words_alone, offsets_alone, both_short, rooms_exact, rooms_longer;
     uint64_t bench_alone[BENCH_CUBES], bench_within[BENCH_CUBES];
 } tally;
@@ -208,27 +204,22 @@ static size_t index_of(const uint32_t length[3], size_t i, size_t j, size_t k)
     return i + length[0] * (j + length[1] * k);
 }
 
-/* Is a sample next to this one hollow? */
-static int hollow_beside(const struct call *call, const uint16_t *samples, size_t index)
+/* An accepted block with a ceiling: how many of its vertices carry the mark? */
+static void count_ceilings(const struct call *call, size_t vertices)
 {
-    size_t at[3], step = 1;
-    at[0] = index % call->length[0];
-    at[1] = index / call->length[0] % call->length[1];
-    at[2] = index / call->length[0] / call->length[1];
-    for (unsigned axis = 0; axis < 3; step *= call->length[axis], axis++)
-        if ((at[axis] > 0 && samples[index - step] < call->t) ||
-            (at[axis] + 1 < call->length[axis] && samples[index + step] < call->t))
-            return 1;
-    return 0;
-}
-
-static void count_ceiling(const struct call *call, size_t index)
-{
-    int crossed = hollow_beside(call, start(&samples_place), index);
-    tally.ceiling_first += index == 0;
-    tally.ceiling_last += index + 1 == call->samples_len;
-    tally.ceiling_crossed += crossed;
-    tally.ceiling_uncrossed += !crossed;
+    const uint16_t *samples = start(&samples_place);
+    const uint32_t *words = start(&plain_words);
+    size_t marked = 0;
+    for (size_t vertex = 0; vertex < vertices; vertex++)
+        marked += words[2 * vertex + 1] >= MARK;
+    tally.marked += marked > 0;
+    tally.none_marked += marked == 0;
+    tally.some_marked += marked > 0 && marked < vertices;
+    tally.all_marked += vertices > 0 && marked == vertices;
+    tally.no_surface += vertices == 0;
+    tally.ceiling_first += samples[0] == CEILING;
+    tally.ceiling_last += samples[call->samples_len - 1] == CEILING;
+    tally.ceiling_everywhere += ceilings[1] == call->samples_len;
 }
 
 /* The paper's cubes as they stand there, each as a block of its own or within a larger one. */
@@ -283,6 +274,8 @@ static void count_accepted(const struct call *call)
                          call->quads_len == 4 * quads;
     tally.rooms_longer += quads > 0 && call->words_len > 2 * vertices && call->offsets_len > 3 * vertices &&
                           call->quads_len > 4 * quads;
+    if (ceilings[1] > 0)
+        count_ceilings(call, vertices);
     if (call->samples_len <= SCANNED_SAMPLES) {
         count_signs(call, start(&samples_place));
         if (call->kind == TILED && call->t == BENCH_THRESHOLD)
@@ -296,14 +289,13 @@ static void count_refused(const struct call *call)
     int offsets_short = call->offsets_len < 3 * (size_t)answer[1];
     if (answer[0] == 1)
         tally.bad_axis[answer[1]]++;
-    if (answer[0] == 4)
-        count_ceiling(call, answer[1]);
+    tally.ceiling_refused[answer[0]] += ceilings[1] > 0;
     tally.zero += answer[0] == 3 && answer[1] == 0;
     tally.top += answer[0] == 3 && answer[1] == CEILING;
     tally.words_alone += answer[0] == 5 && words_short && !offsets_short;
     tally.offsets_alone += answer[0] == 5 && !words_short && offsets_short;
     tally.both_short += answer[0] == 5 && words_short && offsets_short;
-    for (unsigned later = answer[0] + 1; later <= REFUSALS; later++)
+    for (unsigned later = answer[0] + 1; later <= LAST_REFUSAL; later++)
         if (due(call, answer[0]) && due(call, later))
             tally.orders[answer[0]][later]++;
 }
@@ -325,7 +317,7 @@ static void count_call(const struct call *call)
 static void print_call(const struct call *call)
 {
     const uint16_t *samples = start(&samples_place);
-    printf("  %s; axes %lu, %lu, %lu; t %u\n", kind_names[call->kind], (unsigned long)call->length[0],
+    printf("  %s; axes %lu, %lu, %lu; t %u\n", call->name, (unsigned long)call->length[0],
            (unsigned long)call->length[1], (unsigned long)call->length[2], (unsigned)call->t);
     printf("  lengths: samples %zu, words %zu, offsets %zu, quads %zu, answers %zu and %zu\n", call->samples_len,
            call->words_len, call->offsets_len, call->quads_len, call->counted_len, call->answer_len);
@@ -346,11 +338,12 @@ static void print_call(const struct call *call)
 static void run_plain(const struct call *c)
 {
     struct lying lying = {PATTERNS, 0};
-    int spoilt = due(c, 1) || due(c, 2) || due(c, 3) || due(c, 4);
+    int spoilt = due(c, 1) || due(c, 2) || due(c, 3);
     lend(&plain_words, c->words_len, lying);
     lend(&plain_offsets, c->offsets_len, lying);
     lend(&plain_quads, c->quads_len, lying);
-    asking("plain_counts and plain_mesh");
+    asking("plain_ceilings, plain_counts and plain_mesh");
+    plain_ceilings(start(&samples_place), c->samples_len, ceilings, ANSWER);
     memcpy(counted, good_counted, sizeof counted);
     if (spoilt)
         plain_counts(c->length[0], c->length[1], c->length[2], start(&samples_place), c->samples_len, c->t, counted,
@@ -393,42 +386,118 @@ static void run_mesh(const struct call *c, size_t vertices, size_t quads)
         print_call(c);
 }
 
-void try_block(struct trial *trial)
+static void run_call(const struct call *call)
 {
-    struct call call = choose_call(trial);
     size_t vertices, quads;
-    run_plain(&call);
+    run_plain(call);
     vertices = answer[0] == 0 ? answer[1] : 0;
     quads = answer[0] == 0 ? answer[2] : 0;
     if (!holds(&plain_words, start(&plain_words), 2 * vertices) ||
         !holds(&plain_offsets, start(&plain_offsets), 3 * vertices) ||
         !holds(&plain_quads, start(&plain_quads), 4 * quads))
         if (first_to_fail("plain wrote where it must keep"))
-            print_call(&call);
-    run_counts(&call);
-    run_mesh(&call, vertices, quads);
+            print_call(call);
+    run_counts(call);
+    run_mesh(call, vertices, quads);
+}
+
+void try_block(struct trial *trial)
+{
+    struct call call = choose_call(trial);
+    run_call(&call);
     count_call(&call);
     trial->quads = answer[0] == 0 ? start(&plain_quads) : NULL;
-    trial->quad_count = quads;
+    trial->quad_count = answer[0] == 0 ? answer[2] : 0;
+}
+
+/* ---- what is asked once ---- */
+
+/* Blocks of 3 samples an axis, all alike but for one or two of the 27. */
+static const struct fixed {
+    const char *name;
+    uint16_t t, others, sample[2];
+    size_t at[2];
+} fixed_blocks[] = {
+    {"the paper's block", 100, 0, {400, 400}, {13, 13}},
+    {"with its last sample at the ceiling", 100, 0, {400, CEILING}, {13, 26}},
+    {"with its first sample at the ceiling", 100, 0, {400, CEILING}, {13, 0}},
+    {"with its middle at the ceiling", 100, 0, {CEILING, CEILING}, {13, 13}},
+    {"a ceiling beside the middle", 100, 0, {400, CEILING}, {13, 14}},
+    {"a ceiling deep in metal", 100, 200, {CEILING, CEILING}, {13, 13}},
+    {"a ceiling at a corner in metal", 100, 200, {CEILING, CEILING}, {26, 26}},
+    {"a ceiling beside a pore", 100, 200, {0, CEILING}, {13, 14}},
+    {"a pore in ceilings", 100, CEILING, {0, 0}, {13, 13}},
+    {"nothing but ceilings", 100, CEILING, {CEILING, CEILING}, {13, 13}},
+    {"65535 among 65533, t = 65534", HIGHEST, 65533, {CEILING, CEILING}, {13, 13}},
+    {"65533 among 65535, t = 65534", HIGHEST, CEILING, {65533, 65533}, {13, 13}},
+    {"a ceiling and t = 0", 0, 0, {400, CEILING}, {13, 26}},
+    {"a ceiling and t = 65535", CEILING, 0, {400, CEILING}, {13, 26}},
+};
+
+enum { FIXED_BLOCKS = sizeof fixed_blocks / sizeof *fixed_blocks, FIXED_AXIS = 3, FIXED_SAMPLES = 27 };
+
+/* With exact rooms, with one vertex less, with one quad less. */
+static void try_fixed_block(const struct fixed *fixed, enum beside beside, size_t less_vertices, size_t less_quads)
+{
+    struct call call;
+    uint16_t *samples;
+    memset(&call, 0, sizeof call);
+    call.name = fixed->name;
+    for (unsigned axis = 0; axis < 3; axis++)
+        call.length[axis] = FIXED_AXIS;
+    call.t = fixed->t;
+    call.samples_len = FIXED_SAMPLES;
+    call.answer_len = call.counted_len = ANSWER;
+    call.lying.beside = beside;
+    lend(&samples_place, FIXED_SAMPLES, call.lying);
+    samples = start(&samples_place);
+    for (size_t index = 0; index < FIXED_SAMPLES; index++)
+        samples[index] = fixed->others;
+    for (unsigned i = 0; i < 2; i++)
+        samples[fixed->at[i]] = fixed->sample[i];
+    plain_counts(FIXED_AXIS, FIXED_AXIS, FIXED_AXIS, samples, FIXED_SAMPLES, fixed->t, good_counted, ANSWER);
+    if (good_counted[0] == 0) {
+        size_t vertices = good_counted[1], quads = good_counted[2];
+        call.words_len = 2 * (vertices < less_vertices ? 0 : vertices - less_vertices);
+        call.offsets_len = 3 * vertices;
+        call.quads_len = 4 * (quads < less_quads ? 0 : quads - less_quads);
+    }
+    run_call(&call);
+}
+
+void try_fixed_blocks(void)
+{
+    for (unsigned i = 0; i < FIXED_BLOCKS; i++)
+        for (unsigned beside = 0; beside < BESIDES; beside++) {
+            try_fixed_block(&fixed_blocks[i], (enum beside)beside, 0, 0);
+            try_fixed_block(&fixed_blocks[i], (enum beside)beside, 1, 0);
+            try_fixed_block(&fixed_blocks[i], (enum beside)beside, 0, 1);
+        }
 }
 
 /* ---- printing ---- */
 
-static void tally_numbers(const char *title, const uint64_t *counts, unsigned last)
+/* How often each of the first so many refusals was given. */
+static void tally_given(const uint64_t *counts, unsigned number)
 {
     char name[40];
+    for (unsigned i = 0; i < number; i++) {
+        sprintf(name, "refusal %u", refusals[i]);
+        tally_case(name, counts[refusals[i]]);
+    }
+}
+
+static void tally_numbers(const char *title, const uint64_t *counts, unsigned number)
+{
     tally_title(title);
     tally_case("accepted", counts[0]);
-    for (unsigned refusal = 1; refusal <= last; refusal++) {
-        sprintf(name, "refusal %u", refusal);
-        tally_case(name, counts[refusal]);
-    }
+    tally_given(counts, number);
 }
 
 static void tally_refusals(void)
 {
     char name[40];
-    tally_numbers("answers of the counts", tally.counts, 4);
+    tally_numbers("answers of the counts", tally.counts, COUNT_REFUSALS);
     tally_numbers("answers of the mesh", tally.answers, REFUSALS);
     for (unsigned axis = 0; axis < 3; axis++) {
         sprintf(name, "axis %c", "xyz"[axis]);
@@ -440,16 +509,25 @@ static void tally_refusals(void)
     tally_case("offsets alone short", tally.offsets_alone);
     tally_case("both short", tally.both_short);
     tally_title("two refusals due, the lower given");
-    for (unsigned first = 1; first <= REFUSALS; first++)
-        for (unsigned later = first + 1; later <= REFUSALS; later++) {
-            sprintf(name, "%u-%u", first, later);
-            tally_case(name, tally.orders[first][later]);
+    for (unsigned i = 0; i < REFUSALS; i++)
+        for (unsigned j = i + 1; j < REFUSALS; j++) {
+            sprintf(name, "%u-%u", refusals[i], refusals[j]);
+            tally_case(name, tally.orders[refusals[i]][refusals[j]]);
         }
-    tally_title("ceilings");
+}
+
+static void tally_with_ceilings(void)
+{
+    tally_title("blocks with a ceiling");
+    tally_case("marked", tally.marked);
+    tally_case("a ceiling, none marked", tally.none_marked);
+    tally_case("some vertices marked, others not", tally.some_marked);
+    tally_case("every vertex marked", tally.all_marked);
+    tally_case("no vertex", tally.no_surface);
     tally_case("first sample", tally.ceiling_first);
     tally_case("last sample", tally.ceiling_last);
-    tally_case("on a crossed edge", tally.ceiling_crossed);
-    tally_case("on no crossed edge", tally.ceiling_uncrossed);
+    tally_case("every sample", tally.ceiling_everywhere);
+    tally_given(tally.ceiling_refused, REFUSALS);
 }
 
 static void tally_accepted(void)
@@ -487,6 +565,7 @@ void tally_blocks(void)
     for (unsigned kind = 0; kind < KINDS; kind++)
         tally_case(kind_names[kind], tally.kinds[kind]);
     tally_refusals();
+    tally_with_ceilings();
     tally_accepted();
     tally_reaches(&counted_place);
     tally_reaches(&answer_place);

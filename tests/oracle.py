@@ -12,6 +12,7 @@ import struct
 import sys
 
 CEILING = 65535
+MARK = 4096  # bit 12 of the word of a vertex whose cube has a corner at the ceiling
 LONGEST_AXIS, LONGEST_PROGRAM_AXIS, SHORTEST_AXIS = 256, 8, 2
 DIGITS = b"0123456789ABCDEF"
 
@@ -81,8 +82,6 @@ def read(data):
     for _ in range(ny * nz):
         samples += lines.numbers(nx)
     lines.end()
-    if CEILING in samples:
-        raise Refused(4, samples.index(CEILING))
     return axes, t, samples
 
 
@@ -158,7 +157,7 @@ def corners_of(axes, samples, i, j, k):
 
 
 def vertices_of(axes, t, samples):
-    """(cube, mask, offset) of each vertex, in order."""
+    """(cube, word, offset) of each vertex, in order. The word is the mask, with the mark where it is due."""
     nx, ny, nz = axes
     found = []
     for k in range(nz - 1):
@@ -166,8 +165,9 @@ def vertices_of(axes, t, samples):
             for i in range(nx - 1):
                 corners = corners_of(axes, samples, i, j, k)
                 cube = i + (nx - 1) * (j + (ny - 1) * k)
+                mark = MARK if CEILING in corners else 0
                 for loop in loops(corners, t):
-                    found.append((cube, sum(1 << e for e in loop), offset(corners, t, loop)))
+                    found.append((cube, mark + sum(1 << e for e in loop), offset(corners, t, loop)))
     return found
 
 
@@ -185,8 +185,8 @@ def inner_edges(axes):
 def quads_of(axes, t, samples, vertices):
     nx, ny, _ = axes
     in_cube = {}
-    for number, (cube, mask, _) in enumerate(vertices):
-        in_cube.setdefault(cube, []).append((number, mask))
+    for number, (cube, word, _) in enumerate(vertices):
+        in_cube.setdefault(cube, []).append((number, word))
 
     def sample(at):
         return samples[at[0] + nx * (at[1] + ny * at[2])]
@@ -200,7 +200,7 @@ def quads_of(axes, t, samples, vertices):
         for step, edge in AROUND[axis]:
             i, j, k = (x + s for x, s in zip(lower, step))
             cube = i + (nx - 1) * (j + (ny - 1) * k)
-            holders = [number for number, mask in in_cube[cube] if mask >> edge & 1]
+            holders = [number for number, word in in_cube[cube] if word >> edge & 1]
             assert len(holders) == 1
             quad += holders
         if sample(lower) < t:
@@ -233,8 +233,8 @@ def answer(data):
     vertices = vertices_of(axes, t, samples)
     quads = quads_of(axes, t, samples, vertices)
     text = [b"00%08X%08X%02X\n" % (len(vertices), len(quads), closed(quads))]
-    for cube, mask, place in vertices:
-        text.append(b"01%08X%04X" % (cube, mask) + b"".join(b"%016X" % bits(x) for x in place) + b"\n")
+    for cube, word, place in vertices:
+        text.append(b"01%08X%04X" % (cube, word) + b"".join(b"%016X" % bits(x) for x in place) + b"\n")
     for quad in quads:
         text.append(b"02" + b"".join(b"%08X" % vertex for vertex in quad) + b"\n")
     return b"".join(text)

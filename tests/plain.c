@@ -6,7 +6,7 @@
 #include <stdio.h>
 #include <stdlib.h>
 
-enum { AXES = 3, CORNERS = 8, EDGES = 12, FACES = 6, MOST_LOOPS = 4, CEILING = 65535 };
+enum { AXES = 3, CORNERS = 8, EDGES = 12, FACES = 6, MOST_LOOPS = 4, CEILING = 65535, MARK = 4096 };
 enum { SHORTEST_AXIS = 2, LONGEST_AXIS = 256, WORDS = 2, SIDES = 4, ANSWER = 3, CLOSED_ANSWER = 4 };
 
 /* Corner pairs of the edges, the lower one first. */
@@ -182,6 +182,15 @@ static void place(const struct cube *cube, uint32_t mask, double offset[AXES])
     }
 }
 
+/* The mask of a loop, with the mark where a corner of its cube is at the ceiling. */
+static uint32_t word_of(const struct cube *cube, uint32_t mask)
+{
+    for (unsigned corner = 0; corner < CORNERS; corner++)
+        if (cube->sample[corner] == CEILING)
+            return mask + MARK;
+    return mask;
+}
+
 /* ---- the block ---- */
 
 static size_t sample_index(const struct block *block, size_t i, size_t j, size_t k)
@@ -247,7 +256,7 @@ static void write_vertices(const struct block *block, uint32_t *words, double *o
         unsigned count = quiet(&cube) ? 0 : loops(&cube, masks);
         for (unsigned loop = 0; loop < count; loop++, vertex++) {
             words[WORDS * vertex] = (uint32_t)number;
-            words[WORDS * vertex + 1] = masks[loop];
+            words[WORDS * vertex + 1] = word_of(&cube, masks[loop]);
             place(&cube, masks[loop], offsets + AXES * vertex);
         }
     }
@@ -270,7 +279,7 @@ static unsigned edge_from(unsigned lower, unsigned along)
     return EDGES;
 }
 
-/* The vertex of a cube whose mask holds the edge. */
+/* The vertex of a cube whose mask holds the edge; the mark is above all edges. */
 static uint32_t vertex_with(const uint32_t *first, const uint32_t *words, size_t number, unsigned edge)
 {
     for (uint32_t vertex = first[number]; vertex < first[number + 1]; vertex++)
@@ -338,22 +347,7 @@ static struct refusal check_threshold(uint16_t t)
     return t == 0 || t == CEILING ? refuse(3, t) : accepted;
 }
 
-static struct refusal check_ceiling(const uint16_t *samples, size_t samples_len)
-{
-    for (size_t index = 0; index < samples_len; index++)
-        if (samples[index] == CEILING)
-            return refuse(4, (uint32_t)index);
-    return accepted;
-}
-
-static struct refusal check_values(const uint16_t *samples, size_t samples_len, uint16_t t)
-{
-    struct refusal refusal = check_threshold(t);
-    return refusal.number ? refusal : check_ceiling(samples, samples_len);
-}
-
-static struct refusal check_block(uint32_t nx, uint32_t ny, uint32_t nz, const uint16_t *samples, size_t samples_len,
-                                  uint16_t t)
+static struct refusal check_block(uint32_t nx, uint32_t ny, uint32_t nz, size_t samples_len, uint16_t t)
 {
     uint32_t length[AXES], wanted;
     length[0] = nx;
@@ -365,10 +359,16 @@ static struct refusal check_block(uint32_t nx, uint32_t ny, uint32_t nz, const u
     wanted = nx * ny * nz;
     if (samples_len != wanted)
         return refuse(2, wanted);
-    return check_values(samples, samples_len, t);
+    return check_threshold(t);
 }
 
 /* ---- answer places ---- */
+
+/* A value above 4294967295 is given as that. */
+static uint32_t cut_to_u32(size_t value)
+{
+    return value > UINT32_MAX ? UINT32_MAX : (uint32_t)value;
+}
 
 /* As many items as the place has room for; what lies behind is kept. */
 static void put_words(uint32_t *place, size_t place_len, const uint32_t *items, size_t count)
@@ -471,12 +471,8 @@ static size_t first_side_at_fault(const uint32_t *quads, size_t quads_len)
 void plain_edge(uint16_t p, uint16_t q, uint16_t t, double *fraction, size_t fraction_len, uint32_t *answer,
                 size_t answer_len)
 {
-    uint16_t both[2];
-    struct refusal refusal;
+    struct refusal refusal = check_threshold(t);
     double found = 0.0;
-    both[0] = p;
-    both[1] = q;
-    refusal = check_values(both, 2, t);
     if (refusal.number) {
         say_refused(answer, answer_len, refusal);
     } else {
@@ -492,25 +488,27 @@ void plain_cube(uint16_t c0, uint16_t c1, uint16_t c2, uint16_t c3, uint16_t c4,
                 size_t answer_len)
 {
     struct cube cube = {{c0, c1, c2, c3, c4, c5, c6, c7}, t};
-    struct refusal refusal = check_values(cube.sample, CORNERS, t);
-    uint32_t masks[MOST_LOOPS] = {0};
+    struct refusal refusal = check_threshold(t);
+    uint32_t masks[MOST_LOOPS], items[MOST_LOOPS] = {0};
     double places[AXES * MOST_LOOPS] = {0.0};
     if (refusal.number) {
         say_refused(answer, answer_len, refusal);
     } else {
         unsigned count = loops(&cube, masks);
-        for (unsigned loop = 0; loop < count; loop++)
+        for (unsigned loop = 0; loop < count; loop++) {
+            items[loop] = word_of(&cube, masks[loop]);
             place(&cube, masks[loop], places + AXES * loop);
+        }
         say(answer, answer_len, 0, count, 0);
     }
-    put_words(words, words_len, masks, MOST_LOOPS);
+    put_words(words, words_len, items, MOST_LOOPS);
     put_doubles(offsets, offsets_len, places, AXES * MOST_LOOPS);
 }
 
 void plain_counts(uint32_t nx, uint32_t ny, uint32_t nz, const uint16_t *samples, size_t samples_len, uint16_t t,
                   uint32_t *answer, size_t answer_len)
 {
-    struct refusal refusal = check_block(nx, ny, nz, samples, samples_len, t);
+    struct refusal refusal = check_block(nx, ny, nz, samples_len, t);
     struct block block = block_of(nx, ny, nz, samples, t);
     if (refusal.number) {
         say_refused(answer, answer_len, refusal);
@@ -523,7 +521,7 @@ void plain_mesh(uint32_t nx, uint32_t ny, uint32_t nz, const uint16_t *samples, 
                 uint32_t *words, size_t words_len, double *offsets, size_t offsets_len, uint32_t *quads,
                 size_t quads_len, uint32_t *answer, size_t answer_len)
 {
-    struct refusal refusal = check_block(nx, ny, nz, samples, samples_len, t);
+    struct refusal refusal = check_block(nx, ny, nz, samples_len, t);
     struct block block = block_of(nx, ny, nz, samples, t);
     uint32_t vertex_count, quad_count, *first;
     if (refusal.number) {
@@ -557,9 +555,20 @@ void plain_closed(const uint32_t *quads, size_t quads_len, uint32_t *answer, siz
         size_t at = first_side_at_fault(quads, quads_len);
         items[1] = at == quads_len;
         if (at < quads_len) {
-            items[2] = at / SIDES > UINT32_MAX ? UINT32_MAX : (uint32_t)(at / SIDES);
+            items[2] = cut_to_u32(at / SIDES);
             items[3] = (uint32_t)(at % SIDES);
         }
     }
     put_words(answer, answer_len, items, CLOSED_ANSWER);
+}
+
+void plain_ceilings(const uint16_t *samples, size_t samples_len, uint32_t *answer, size_t answer_len)
+{
+    size_t count = 0, lowest = samples_len;
+    for (size_t index = samples_len; index-- > 0;)
+        if (samples[index] == CEILING) {
+            count++;
+            lowest = index;
+        }
+    say(answer, answer_len, 0, cut_to_u32(count), cut_to_u32(lowest));
 }

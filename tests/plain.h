@@ -10,22 +10,23 @@
 #include <stddef.h>
 #include <stdint.h>
 
-/* The edge question, lower value p and upper value q. Answer: 0, crossings (0 or 1), 0. Refusals 3 and 4.
+/* The edge question, lower value p and upper value q. Answer: 0, crossings (0 or 1), 0. Refusal 3.
    The fraction is plus zero where there is no crossing, on refusal too. */
 void plain_edge(uint16_t p, uint16_t q, uint16_t t, double *fraction, size_t fraction_len, uint32_t *answer,
                 size_t answer_len);
 
-/* The cube question over corners 0 to 7. Answer: 0, loops, 0. Refusals 3 and 4.
-   Four masks and four offsets of three coordinates; those that no loop uses hold zero, on refusal too. */
+/* The cube question over corners 0 to 7. Answer: 0, loops, 0. Refusal 3.
+   Four words and four offsets of three coordinates; those that no loop uses hold zero, on refusal too. A word is the
+   mask of a loop, and 4096 more where a corner is at the ceiling. */
 void plain_cube(uint16_t c0, uint16_t c1, uint16_t c2, uint16_t c3, uint16_t c4, uint16_t c5, uint16_t c6, uint16_t c7,
                 uint16_t t, uint32_t *words, size_t words_len, double *offsets, size_t offsets_len, uint32_t *answer,
                 size_t answer_len);
 
-/* The counts of a mesh. Answer: 0, vertices, quads. Refusals 1 to 4. */
+/* The counts of a mesh. Answer: 0, vertices, quads. Refusals 1, 2, 3. */
 void plain_counts(uint32_t nx, uint32_t ny, uint32_t nz, const uint16_t *samples, size_t samples_len, uint16_t t,
                   uint32_t *answer, size_t answer_len);
 
-/* The mesh into lent buffers. Answer: 0, vertices, quads. Refusals 1 to 6. */
+/* The mesh into lent buffers, its words as of the cube question. Answer: 0, vertices, quads. Refusals 1, 2, 3, 5, 6. */
 void plain_mesh(uint32_t nx, uint32_t ny, uint32_t nz, const uint16_t *samples, size_t samples_len, uint16_t t,
                 uint32_t *words, size_t words_len, double *offsets, size_t offsets_len, uint32_t *quads,
                 size_t quads_len, uint32_t *answer, size_t answer_len);
@@ -33,6 +34,10 @@ void plain_mesh(uint32_t nx, uint32_t ny, uint32_t nz, const uint16_t *samples, 
 /* The closed question. Answer: 0, 1, 0, 0 where the list is closed; 0, 0, quad, side of the first side at fault; or
    refusal 7, its value, 0, 0. */
 void plain_closed(const uint32_t *quads, size_t quads_len, uint32_t *answer, size_t answer_len);
+
+/* The samples at the ceiling. Answer: 0, how many there are, the lowest index of one or, where there is none,
+   samples_len; a number above 4294967295 is given as that. No refusal. */
+void plain_ceilings(const uint16_t *samples, size_t samples_len, uint32_t *answer, size_t answer_len);
 
 /* The edges of a face as a mask, worked out from the corners. Faces x=0, x=1, y=0, y=1, z=0, z=1 are 0 to 5. */
 uint32_t plain_face(unsigned face);

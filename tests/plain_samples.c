@@ -1,6 +1,6 @@
 /* Runs the plain implementation on the paper's samples: the example block with its whole output, the nine cubes, the
-   edges, the refusals, lists of quads and the table of faces. Prints each sample and its verdict; exits with 1 if one
-   differs.
+   edges, the refusals, lists of quads and the table of faces; and on samples at the ceiling, which are metal and leave
+   a mark. Prints each sample and its verdict; exits with 1 if one differs.
    Assumes nothing of the library. */
 #include "bench_cubes.h"
 #include "plain.h"
@@ -8,7 +8,9 @@
 #include <stdio.h>
 #include <string.h>
 
-enum { ANSWER = 3, CLOSED_ANSWER = 4, EXAMPLE_SAMPLES = 27, EXAMPLE_VERTICES = 8, EXAMPLE_QUADS = 6, CEILING = 65535 };
+enum { ANSWER = 3, CLOSED_ANSWER = 4, CEILING = 65535 };
+/* the example block has 8 vertices, and one more where its last sample is at the ceiling */
+enum { EXAMPLE_SAMPLES = 27, EXAMPLE_VERTICES = 8, MOST_VERTICES = 9, EXAMPLE_QUADS = 6 };
 
 static unsigned failures;
 
@@ -43,6 +45,25 @@ static const char example_output[] =
     "0200000000000000020000000300000001\n"
     "0200000004000000050000000700000006\n";
 
+/* Its last sample at the ceiling: two vertices in the last cube, both with the mark. */
+static const char marked_output[] =
+    "00000000090000000601\n"
+    "010000000008883FE80000000000003FE80000000000003FE8000000000000\n"
+    "010000000104483FD00000000000003FE80000000000003FE8000000000000\n"
+    "010000000202843FE80000000000003FD00000000000003FE8000000000000\n"
+    "010000000301443FD00000000000003FD00000000000003FE8000000000000\n"
+    "010000000408223FE80000000000003FE80000000000003FD0000000000000\n"
+    "010000000504123FD00000000000003FE80000000000003FD0000000000000\n"
+    "010000000602213FE80000000000003FD00000000000003FD0000000000000\n"
+    "010000000711113FD00000000000003FD00000000000003FD0000000000000\n"
+    "010000000718883FE55980042AAED53FE55980042AAED53FE55980042AAED5\n"
+    "0200000000000000040000000600000002\n"
+    "0200000001000000030000000700000005\n"
+    "0200000000000000010000000500000004\n"
+    "0200000002000000060000000700000003\n"
+    "0200000000000000020000000300000001\n"
+    "0200000004000000050000000700000006\n";
+
 static void example_block(uint16_t samples[EXAMPLE_SAMPLES])
 {
     memset(samples, 0, EXAMPLE_SAMPLES * sizeof *samples);
@@ -63,25 +84,24 @@ static unsigned long long bits(double x)
     return word;
 }
 
-static void example(void)
+/* A block of the example's size at t = 100, with so many vertices and the example's quads. */
+static void whole_output(const char *name, const uint16_t samples[EXAMPLE_SAMPLES], uint32_t vertices,
+                         const char *wanted)
 {
-    uint16_t samples[EXAMPLE_SAMPLES];
-    uint32_t words[2 * EXAMPLE_VERTICES], quads[4 * EXAMPLE_QUADS], answer[ANSWER];
-    double offsets[3 * EXAMPLE_VERTICES];
-    char output[sizeof example_output + 100];
+    uint32_t words[2 * MOST_VERTICES], quads[4 * EXAMPLE_QUADS], counted[ANSWER], answer[ANSWER];
+    double offsets[3 * MOST_VERTICES];
+    char output[sizeof marked_output + 100];
     size_t used;
-    example_block(samples);
-    plain_counts(3, 3, 3, samples, EXAMPLE_SAMPLES, 100, answer, ANSWER);
-    verdict("counts of the example", says(answer, 0, EXAMPLE_VERTICES, EXAMPLE_QUADS));
-    plain_mesh(3, 3, 3, samples, EXAMPLE_SAMPLES, 100, words, 2 * EXAMPLE_VERTICES, offsets, 3 * EXAMPLE_VERTICES,
-               quads, 4 * EXAMPLE_QUADS, answer, ANSWER);
-    if (!says(answer, 0, EXAMPLE_VERTICES, EXAMPLE_QUADS)) {
-        verdict("mesh of the example", 0);
+    plain_counts(3, 3, 3, samples, EXAMPLE_SAMPLES, 100, counted, ANSWER);
+    plain_mesh(3, 3, 3, samples, EXAMPLE_SAMPLES, 100, words, 2 * MOST_VERTICES, offsets, 3 * MOST_VERTICES, quads,
+               4 * EXAMPLE_QUADS, answer, ANSWER);
+    if (!says(counted, 0, vertices, EXAMPLE_QUADS) || !says(answer, 0, vertices, EXAMPLE_QUADS)) {
+        verdict(name, 0);
         return;
     }
     used = (size_t)sprintf(output, "00%08X%08X%02X\n", (unsigned)answer[1], (unsigned)answer[2],
                            closed(quads, EXAMPLE_QUADS) ? 1u : 0u);
-    for (size_t v = 0; v < EXAMPLE_VERTICES; v++)
+    for (size_t v = 0; v < vertices; v++)
         used += (size_t)sprintf(output + used, "01%08X%04X%016llX%016llX%016llX\n", (unsigned)words[2 * v],
                                 (unsigned)words[2 * v + 1], bits(offsets[3 * v]), bits(offsets[3 * v + 1]),
                                 bits(offsets[3 * v + 2]));
@@ -89,7 +109,16 @@ static void example(void)
         used += (size_t)sprintf(output + used, "02%08X%08X%08X%08X\n", (unsigned)quads[4 * q],
                                 (unsigned)quads[4 * q + 1], (unsigned)quads[4 * q + 2], (unsigned)quads[4 * q + 3]);
     fputs(output, stdout);
-    verdict("whole output of the example", strcmp(output, example_output) == 0);
+    verdict(name, strcmp(output, wanted) == 0);
+}
+
+static void example(void)
+{
+    uint16_t samples[EXAMPLE_SAMPLES];
+    example_block(samples);
+    whole_output("whole output of the example", samples, EXAMPLE_VERTICES, example_output);
+    samples[EXAMPLE_SAMPLES - 1] = CEILING;
+    whole_output("the same with its last sample at the ceiling", samples, MOST_VERTICES, marked_output);
 }
 
 /* ---- cubes ---- */
@@ -116,43 +145,71 @@ static void cubes(void)
     }
 }
 
-static void cube_refusals(void)
+/* Words with the mark, at t = 100. */
+static const struct {
+    const char *name;
+    uint16_t corners[8];
+    uint32_t count, words[4];
+} marked_cubes[] = {
+    {"cube 65535, seven times 0", {CEILING, 0, 0, 0, 0, 0, 0, 0}, 1, {0x1111}},
+    {"cube seven times 0, 65535", {0, 0, 0, 0, 0, 0, 0, CEILING}, 1, {0x1888}},
+    {"cube 200, six times 0, 65535", {200, 0, 0, 0, 0, 0, 0, CEILING}, 2, {0x1111, 0x1888}},
+    {"cube 65535,50,50,300,50,300,300,50",
+     {CEILING, 50, 50, 300, 50, 300, 300, 50},
+     4,
+     {0x1221, 0x1412, 0x1144, 0x1888}},
+    {"cube eight times 65535",
+     {CEILING, CEILING, CEILING, CEILING, CEILING, CEILING, CEILING, CEILING},
+     0,
+     {0}},
+    {"cube seven times 100, 65535", {100, 100, 100, 100, 100, 100, 100, CEILING}, 0, {0}},
+    {"cube 65534, seven times 0", {65534, 0, 0, 0, 0, 0, 0, 0}, 1, {0x111}},
+};
+
+static void ceilings_of_cubes(void)
 {
-    uint16_t corners[8] = {0, 0, 0, CEILING, 0, CEILING, 0, 0};
-    uint32_t masks[4], answer[ANSWER];
+    uint32_t words[4], answer[ANSWER];
     double offsets[12];
-    ask_cube(corners, 100, masks, offsets, answer);
-    verdict("cube with corners 3 and 5 at the ceiling",
-            says(answer, 4, 3, 0) && masks[0] == 0 && bits(offsets[0]) == 0);
-    ask_cube(corners, 0, masks, offsets, answer);
-    verdict("cube with t = 0", says(answer, 3, 0, 0));
-    ask_cube(corners, CEILING, masks, offsets, answer);
-    verdict("cube with t = 65535", says(answer, 3, CEILING, 0));
+    for (size_t i = 0; i < sizeof marked_cubes / sizeof *marked_cubes; i++) {
+        ask_cube(marked_cubes[i].corners, 100, words, offsets, answer);
+        verdict(marked_cubes[i].name, says(answer, 0, marked_cubes[i].count, 0) &&
+                                          memcmp(words, marked_cubes[i].words, sizeof words) == 0);
+    }
+    ask_cube(marked_cubes[0].corners, 0, words, offsets, answer);
+    verdict("cube with a ceiling and t = 0", says(answer, 3, 0, 0) && words[0] == 0 && bits(offsets[0]) == 0);
+    ask_cube(marked_cubes[0].corners, CEILING, words, offsets, answer);
+    verdict("cube with a ceiling and t = 65535",
+            says(answer, 3, CEILING, 0) && words[0] == 0 && bits(offsets[0]) == 0);
 }
 
 /* ---- edges ---- */
 
-static void edge(uint16_t p, uint16_t q, uint32_t number, uint32_t second, double wanted)
+static void edge(uint16_t p, uint16_t q, uint16_t t, uint32_t number, uint32_t second, double wanted)
 {
     uint32_t answer[ANSWER];
     double fraction;
     char name[64];
-    plain_edge(p, q, 100, &fraction, 1, answer, ANSWER);
-    sprintf(name, "edge %u,%u: %s %g", (unsigned)p, (unsigned)q,
+    plain_edge(p, q, t, &fraction, 1, answer, ANSWER);
+    sprintf(name, "edge %u,%u at %u: %s %g", (unsigned)p, (unsigned)q, (unsigned)t,
             number ? "refused, fraction" : second ? "fraction" : "none, fraction", wanted);
     verdict(name, says(answer, number, second, 0) && bits(fraction) == bits(wanted));
 }
 
 static void edges(void)
 {
-    edge(0, 400, 0, 1, 0.25);
-    edge(400, 0, 0, 1, 0.75);
-    edge(100, 0, 0, 1, 0.0);
-    edge(0, 100, 0, 1, 1.0);
-    edge(100, 400, 0, 0, 0.0);
-    edge(99, 0, 0, 0, 0.0);
-    edge(0, CEILING, 4, 1, 0.0);
-    edge(CEILING, CEILING, 4, 0, 0.0);
+    edge(0, 400, 100, 0, 1, 0.25);
+    edge(400, 0, 100, 0, 1, 0.75);
+    edge(100, 0, 100, 0, 1, 0.0);
+    edge(0, 100, 100, 0, 1, 1.0);
+    edge(100, 400, 100, 0, 0, 0.0);
+    edge(99, 0, 100, 0, 0, 0.0);
+    edge(0, CEILING, 100, 0, 1, 100.0 / 65535.0);
+    edge(CEILING, 0, 100, 0, 1, 65435.0 / 65535.0);
+    edge(CEILING, CEILING, 100, 0, 0, 0.0);
+    edge(CEILING, 65533, 65534, 0, 1, 0.5);
+    edge(65533, CEILING, 65534, 0, 1, 0.5);
+    edge(0, CEILING, 0, 3, 0, 0.0);
+    edge(0, CEILING, CEILING, 3, CEILING, 0.0);
 }
 
 /* ---- refusals of a block ---- */
@@ -195,8 +252,40 @@ static void refusals(void)
     plain_counts(3, 3, 3, samples, EXAMPLE_SAMPLES, 65534, answer, ANSWER);
     verdict("t = 65534 passes", says(answer, 0, 0, 0));
     samples[EXAMPLE_SAMPLES - 1] = CEILING;
+    plain_counts(3, 3, 3, samples, EXAMPLE_SAMPLES, 0, answer, ANSWER);
+    verdict("last sample at the ceiling, t = 0: 3", says(answer, 3, 0, 0));
+    plain_counts(3, 3, 3, samples, EXAMPLE_SAMPLES - 1, 100, answer, ANSWER);
+    verdict("a ceiling, one sample less: 2, value 27", says(answer, 2, EXAMPLE_SAMPLES, 0));
+}
+
+/* ---- samples at the ceiling ---- */
+
+static void ceilings(const char *name, const uint16_t *samples, size_t samples_len, uint32_t count, uint32_t lowest)
+{
+    uint32_t answer[ANSWER];
+    plain_ceilings(samples, samples_len, answer, ANSWER);
+    verdict(name, says(answer, 0, count, lowest));
+}
+
+static void ceilings_of_blocks(void)
+{
+    uint16_t samples[EXAMPLE_SAMPLES];
+    uint32_t answer[ANSWER] = {9, 9, 9};
+    example_block(samples);
+    ceilings("ceilings of the example: 0, none", samples, EXAMPLE_SAMPLES, 0, EXAMPLE_SAMPLES);
+    samples[EXAMPLE_SAMPLES - 1] = CEILING;
+    ceilings("its last sample at the ceiling: 1, at 26", samples, EXAMPLE_SAMPLES, 1, EXAMPLE_SAMPLES - 1);
+    samples[0] = samples[7] = CEILING;
+    ceilings("first, eighth and last: 3, at 0", samples, EXAMPLE_SAMPLES, 3, 0);
+    ceilings("all but the first: 2, at 6", samples + 1, EXAMPLE_SAMPLES - 1, 2, 6);
+    ceilings("ceilings of no sample: 0, none", samples, 0, 0, 0);
+    plain_ceilings(samples, EXAMPLE_SAMPLES, answer, 2);
+    verdict("an answer place of two items", says(answer, 0, 3, 9));
+    for (size_t index = 0; index < EXAMPLE_SAMPLES; index++)
+        samples[index] = index == EXAMPLE_SAMPLES / 2 ? CEILING : 200;
     plain_counts(3, 3, 3, samples, EXAMPLE_SAMPLES, 100, answer, ANSWER);
-    verdict("last sample at the ceiling: 4, value 26", says(answer, 4, EXAMPLE_SAMPLES - 1, 0));
+    verdict("a ceiling with metal all round: no vertex", says(answer, 0, 0, 0));
+    ceilings("and still counted: 1, at 13", samples, EXAMPLE_SAMPLES, 1, EXAMPLE_SAMPLES / 2);
 }
 
 /* ---- lists of quads ---- */
@@ -250,8 +339,9 @@ int main(void)
     faces();
     edges();
     cubes();
-    cube_refusals();
+    ceilings_of_cubes();
     refusals();
+    ceilings_of_blocks();
     lists();
     example();
     printf("plain_samples: %u differences\n", failures);

@@ -152,7 +152,7 @@ fn loop_at(answer: CubeAnswer, i: usize)
     end_line();
 }
 
-// "Run: edges (p,q)", at t = 100, then each refusal and each order of two.
+// "Run: edges (p,q)", at t = 100, then refusal 3, then ends at the ceiling, at good thresholds and at bad ones.
 fn edges() {
     ask_edge(0, 400, 100);
     ask_edge(400, 0, 100);
@@ -210,13 +210,17 @@ fn ties() {
     ask_cube([0, 65534, 65534, 0, 0, 0, 0, 0], 65534);
 }
 
-// Refusals 3 and 4 of a cube, and 3 before 4: every place holds zero.
-fn refusals() {
-    ask_cube([200, 0, 0, 0, 0, 0, 0, 0], 0);
+// Refusal 3 of a cube, also with a ceiling: every place holds zero. A ceiling at one corner marks the word of each loop; eight have no loop, so
+// every place holds zero.
+fn ceilings() {
     ask_cube([200, 0, 0, 0, 0, 0, 0, 0], 65535);
-    ask_cube([200, 0, 0, 65535, 0, 65535, 0, 0], 100);
-    ask_cube([200, 0, 0, 0, 0, 0, 0, 65535], 100);
     ask_cube([65535, 0, 0, 0, 0, 0, 0, 0], 0);
+    ask_cube([65535, 0, 0, 0, 0, 0, 0, 0], 100);
+    ask_cube([200, 0, 0, 0, 0, 0, 0, 65535], 100);
+    ask_cube(
+        [65535, 65535, 65535, 65535, 65535, 65535, 65535, 65535],
+        100,
+    );
 }
 
 fn word_is(word: u32) {
@@ -341,7 +345,7 @@ fn few_both(nx: u32, ny: u32, nz: u32, samples: &[u16], t: u16) {
     ask_mesh(nx, ny, nz, samples, t, &mut words, &mut offsets, &mut quads);
 }
 
-// Counting the block of the paper, and each refusal of a count.
+// Counting the block of the paper, and each refusal of a count. The last has a ceiling, which no count shows.
 fn counting(block: &[u16; 27], bright: &[u16; 27], less: &[u16; 26], more: &[u16; 28]) {
     ask_counts(3, 3, 3, block, 100);
     ask_counts(3, 3, 3, block, 1);
@@ -355,7 +359,7 @@ fn counting(block: &[u16; 27], bright: &[u16; 27], less: &[u16; 26], more: &[u16
     ask_counts(3, 3, 3, bright, 100);
 }
 
-// The mesh of that block, with each room, and each refusal.
+// The mesh of that block, with each room, and each refusal. With a ceiling it has one vertex more, and the mark in two words.
 fn meshing(block: &[u16; 27], bright: &[u16; 27], less: &[u16; 26], more: &[u16; 28]) {
     exact(3, 3, 3, block, 100);
     ample(3, 3, 3, block, 100);
@@ -367,14 +371,15 @@ fn meshing(block: &[u16; 27], bright: &[u16; 27], less: &[u16; 26], more: &[u16;
     exact(3, 3, 3, more, 100);
     exact(3, 3, 3, block, 0);
     exact(3, 3, 3, block, 65535);
-    exact(3, 3, 3, bright, 100);
+    ample(3, 3, 3, bright, 100);
     few_vertices(3, 3, 3, block, 100);
     few_offsets(3, 3, 3, block, 100);
     few_quads(3, 3, 3, block, 100);
     few_both(3, 3, 3, block, 100);
 }
 
-// Two refusals due: the lower number is given. 1 before 2 to 6, 2 before 3 to 6, 3 before 4 to 6, 4 before 5 and 6; 5 before 6 stands above.
+// Two refusals due: the lower number is given. 1 before 2, 3, 5 and 6, 2 before 3, 5 and 6, 3 before 5 and 6; 5 before 6 stands above. A ceiling is
+// no reason to refuse: 1, 2 and 3 are given as without it, and 5 where there is no room for its vertex.
 fn orders(block: &[u16; 27], bright: &[u16; 27], less: &[u16; 26], dark: &[u16; 26]) {
     exact(3, 3, 257, less, 100);
     exact(3, 3, 257, block, 0);
@@ -632,7 +637,7 @@ fn main() {
     edges();
     table();
     ties();
-    refusals();
+    ceilings();
     blocks();
     short_lists();
     six_quads();

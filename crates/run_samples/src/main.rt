@@ -367,31 +367,31 @@ fn ends() {
     );
 }
 
-// Refusal 4: a sample at the ceiling; the value is the lowest such index.
+// A sample at the ceiling is metal of that value, and each vertex whose cube has such a corner carries the mark, bit 12 of its word.
 fn ceilings() {
     try_case(
-        b"# a ceiling at the first sample: 4\n\
+        b"# a ceiling at the first sample: its loop is marked\n\
           0002000200020064\nFFFF0000\n00000000\n00000000\n00000000\n",
     );
     try_case(
-        b"# a ceiling at the last sample: 4\n\
+        b"# a ceiling at the last sample: both loops of the cube are marked\n\
           0002000200020064\n00C80000\n00000000\n00000000\n0000FFFF\n",
     );
     try_case(
-        b"# a ceiling at the second and at the fifth sample: 4, the second\n\
+        b"# ceilings at the second and at the fifth sample: one loop, which is marked\n\
           0002000200020064\n0000FFFF\n00000000\nFFFF0000\n00000000\n",
     );
     try_case(
-        b"# the paper's block with its last sample at the ceiling: 4\n\
+        b"# the paper's block with its last sample at the ceiling: two of nine vertices are marked\n\
           0003000300030064\n000000000000\n000000000000\n000000000000\n000000000000\n000001900000\n000000000000\n000000000000\n000000000000\n00000000FFFF\n",
     );
     try_case(
-        b"# one under the ceiling passes\n\
+        b"# one under the ceiling: no mark\n\
           0002000200020064\nFFFE0000\n00000000\n00000000\n00000000\n",
     );
 }
 
-// 8 of line 1 before 1, 9, 3, 4 and a bad row.
+// 8 of line 1 before 1, 9, 3 and a later line.
 fn eight_first() {
     try_case(
         b"# line 1 bad, an axis under 2: 8\n\
@@ -406,8 +406,8 @@ fn eight_first() {
           0002000200020000 \n00C80000\n00000000\n00000000\n00000000\n",
     );
     try_case(
-        b"# line 1 bad, a ceiling: 8, line 1\n\
-          0002000200020064 \nFFFF0000\n00000000\n00000000\n00000000\n",
+        b"# line 1 bad, the last row missing: 8, line 1\n\
+          0002000200020064 \n00C80000\n00000000\n00000000\n",
     );
     try_case(
         b"# line 1 bad, a row bad: 8, line 1\n\
@@ -419,7 +419,7 @@ fn eight_first() {
     );
 }
 
-// 1 before 9, 3, 8 and 4.
+// 1 before 9, 3 and 8, and with ceilings too.
 fn one_first() {
     try_case(
         b"# axes 9, 1, 2: 1 before 9\n\
@@ -446,12 +446,12 @@ fn one_first() {
           0002000100020064\n0000000G\n000",
     );
     try_case(
-        b"# an axis under 2, a ceiling: 1 before 4\n\
+        b"# an axis under 2, every sample at the ceiling: 1\n\
           0001000200020064\nFFFF\nFFFF\nFFFF\nFFFF\n",
     );
 }
 
-// 9 before 3, 8 and 4.
+// 9 before 3 and 8, and with a ceiling too.
 fn nine_first() {
     try_case(
         b"# an axis over 8, threshold 0: 9 before 3\n\
@@ -470,12 +470,12 @@ fn nine_first() {
           0009000200020064\nG\n000",
     );
     try_case(
-        b"# an axis over 8, a ceiling: 9 before 4\n\
+        b"# an axis over 8, a ceiling: 9\n\
           0009000200020064\nFFFF00000000000000000000000000000000\n000000000000000000000000000000000000\n000000000000000000000000000000000000\n000000000000000000000000000000000000\n",
     );
 }
 
-// 3 before 8 and 4.
+// 3 before 8, and with a ceiling too.
 fn three_first() {
     try_case(
         b"# threshold 0, no rows: 3 before 8\n\
@@ -490,40 +490,40 @@ fn three_first() {
           0002000200020000\n00C80000\n00000000\n00000000\n00000000\n00000000\n",
     );
     try_case(
-        b"# threshold 0, a ceiling: 3 before 4\n\
+        b"# threshold 0, a ceiling: 3\n\
           0002000200020000\nFFFF0000\n00000000\n00000000\n00000000\n",
     );
     try_case(
-        b"# threshold FFFF, a ceiling: 3 before 4\n\
+        b"# threshold FFFF, a ceiling: 3\n\
           000200020002FFFF\nFFFF0000\n00000000\n00000000\n00000000\n",
     );
 }
 
-// 8 of a row and of the end before 4.
-fn eight_before_four() {
+// Ceilings deep in metal and everywhere, beside a pore and two samples from it, at the highest threshold, and in a bad row.
+fn ceilings_in_blocks() {
     try_case(
-        b"# a ceiling, a later row bad: 8 before 4\n\
-          0002000200020064\nFFFF0000\n00000000\n0000000G\n00000000\n",
+        b"# a ceiling with metal all round: no vertices, closed\n\
+          0003000300030064\n00C800C800C8\n00C800C800C8\n00C800C800C8\n00C800C800C8\n00C8FFFF00C8\n00C800C800C8\n00C800C800C8\n00C800C800C8\n00C800C800C8\n",
     );
     try_case(
-        b"# a bad row with a ceiling in it: 8 before 4\n\
+        b"# every sample at the ceiling: no vertices, closed\n\
+          0002000200020064\nFFFFFFFF\nFFFFFFFF\nFFFFFFFF\nFFFFFFFF\n",
+    );
+    try_case(
+        b"# a ceiling beside a pore: four of eight vertices are marked\n\
+          0004000300030064\n0190019001900190\n0190019001900190\n0190019001900190\n0190019001900190\n01900000FFFF0190\n0190019001900190\n0190019001900190\n0190019001900190\n0190019001900190\n",
+    );
+    try_case(
+        b"# a ceiling two samples from a pore, at the box's side: none is marked\n\
+          0004000300030064\n0190019001900190\n0190019001900190\n0190019001900190\n0190019001900190\n019000000190FFFF\n0190019001900190\n0190019001900190\n0190019001900190\n0190019001900190\n",
+    );
+    try_case(
+        b"# threshold FFFE, a ceiling beside FFFD: half way\n\
+          000200020002FFFE\nFFFFFFFD\nFFFDFFFD\nFFFDFFFD\nFFFDFFFD\n",
+    );
+    try_case(
+        b"# a bad row with a ceiling in it: 8, line 3\n\
           0002000200020064\n00000000\nFFFF000G\n00000000\n00000000\n",
-    );
-    try_case(
-        b"# a ceiling, the last row missing: 8 before 4\n\
-          0002000200020064\nFFFF0000\n00000000\n00000000\n",
-    );
-    try_case(
-        b"# a ceiling, the last row not ended: 8 before 4\n\
-          0002000200020064\n00000000\n00000000\n00000000\n0000FFFF",
-    );
-    try_case(
-        b"# a ceiling, a row too many: 8 before 4\n\
-          0002000200020064\nFFFF0000\n00000000\n00000000\n00000000\n00000000\n",
-    );
-    try_case(
-        b"# a ceiling, a line end too many: 8 before 4\n\
-          0002000200020064\nFFFF0000\n00000000\n00000000\n00000000\n\n",
     );
 }
 
@@ -595,6 +595,6 @@ fn main() {
     one_first();
     nine_first();
     three_first();
-    eight_before_four();
+    ceilings_in_blocks();
     boards();
 }

@@ -1,7 +1,6 @@
 -- `number` ends: the invariant is that at most sixteen digits are left, and these are the measure.
 -- Assumes nothing.
 use Prim.Native.Nat.{_≤_}
-use native.Mathlib.Omega.{arith}
 use borrow.Author.Needs.{needs}
 use Rattle.bench_samples.proofs.number.Statement.{statement}
 use Rattle.bench_samples.proofs.number.Tie as tie
