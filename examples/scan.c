@@ -6,16 +6,19 @@
    Standard output is the record, in lines of a word and what it says: what was asked, and the library's answer.
      file, axes, threshold, byte-order    what was asked, as it was read
      values LEAST to GREATEST             the grey values in the file
+     ceiling COUNT                        how many of them are 65535, the detector's ceiling
      vertices COUNT, quads COUNT          the mesh
+     marked COUNT                         how many vertices have a corner of their cube at the ceiling
      refused NUMBER value VALUE           there is no mesh, and no line of values or counts
      note SENTENCE                        what the answer does not mean, or what to do
    Standard error has progress, a line each second, and a sentence where there is no answer; standard output then has
    nothing.
    Exit status: 0 a mesh; 1 a file or memory failed; 2 bad arguments; 3 refused by the library.
 
-   OUT is plain text: three lines that begin with # and say what follows, the record's lines without notes, a line for
+   OUT is plain text: four lines that begin with # and say what follows, the record's lines without notes, a line for
    each vertex by rising number from 0,
-     v NUMBER I J K X Y Z MASK            its cube, its place in the cube, the mask of its edges in hexadecimal
+     v NUMBER I J K X Y Z MASK            its cube, its place in the cube, its mask: four digits in hexadecimal, the
+                                          first 1 where the vertex is marked, the others its edges
    and a line for each quad, the numbers of its vertices: q A B C D. The vertex is at (I + X, J + Y, K + Z) in grid
    steps; X, Y and Z have so many digits that the same double is read back.
    OUT must not be there yet: nothing is overwritten. It is written as OUT.part and renamed when it is whole. */
@@ -36,9 +39,10 @@
 #include <unistd.h>
 
 enum { ANSWER = 3, AXES = 3, BYTES_A_SAMPLE = 2, WORDS_A_VERTEX = 2, OFFSETS_A_VERTEX = 3, VERTICES_A_QUAD = 4 };
-enum { NO_REFUSAL, BAD_AXIS, BAD_COUNT, BAD_THRESHOLD, AT_CEILING };
+enum { NO_REFUSAL, BAD_AXIS, BAD_COUNT, BAD_THRESHOLD };
 enum { STATUS_MESH, STATUS_FAILED, STATUS_ARGUMENTS, STATUS_REFUSED };
 enum { ARGUMENTS = 6, ARGUMENTS_WITH_MESH = 8, MOST_AT_ONCE = 1 << 20, MEGABYTE = 1000000 };
+enum { MARK = 1 << 12 }; /* in the word of a vertex */
 
 /* What was asked. Names as shown are one line, whatever the file is called. */
 struct request {
@@ -51,10 +55,11 @@ struct block {
     unsigned char *bytes;
     uint16_t *samples, least, greatest;
     size_t count;
+    uint32_t ceiling_count, first_ceiling;
 };
 
 struct mesh {
-    uint32_t *words, *quads, vertex_count, quad_count;
+    uint32_t *words, *quads, vertex_count, quad_count, marked_count;
     double *offsets;
 };
 
@@ -241,13 +246,18 @@ static void help(void)
          "\n"
          "  target/scan housing.raw 256 256 200 23000 little --mesh housing-mesh.txt\n"
          "\n"
-         "Standard output has what was asked, then the lines \"values\", \"vertices\" and \"quads\"; or the line\n"
-         "\"refused NUMBER value VALUE\", no count, and what to do. A scan with a value of 65535, the detector's\n"
-         "ceiling, is always refused. OUT has the same lines, then a line for each vertex, in steps of the grid at\n"
-         "I+X, J+Y, K+Z, with the mask of the edges of cube I J K that it joins; then a line for each quad:\n"
+         "Standard output has what was asked, then the lines \"values\", \"ceiling\", \"vertices\", \"quads\" and\n"
+         "\"marked\"; or the line \"refused NUMBER value VALUE\", no count, and what to do. OUT has the same lines,\n"
+         "then a line for each vertex, in steps of the grid at I+X, J+Y, K+Z, with the mask of the edges of cube\n"
+         "I J K that it joins; then a line for each quad:\n"
          "\n"
          "  v NUMBER I J K X Y Z MASK\n"
-         "  q VERTEX VERTEX VERTEX VERTEX\n"
+         "  q VERTEX VERTEX VERTEX VERTEX");
+    puts("\n"
+         "A value of 65535 is the detector's ceiling. What the detector saw there is not known. It is drawn as\n"
+         "metal. The line \"ceiling\" says how many such values there are. A vertex is marked if a corner of its\n"
+         "cube is at the ceiling. The line \"marked\" says how many vertices are. The MASK of a marked vertex begins\n"
+         "with 1, that of any other with 0.\n"
          "\n"
          "Exit status: 0 a mesh; 1 a file or memory failed; 2 bad arguments; 3 refused.");
     finish(STATUS_MESH);
@@ -315,8 +325,10 @@ static void put_request(FILE *to, const struct request *request)
 static void put_counts(FILE *to, const struct block *block, const struct mesh *mesh)
 {
     fprintf(to, "values %" PRIu16 " to %" PRIu16 "\n", block->least, block->greatest);
+    fprintf(to, "ceiling %" PRIu32 "\n", block->ceiling_count);
     fprintf(to, "vertices %" PRIu32 "\n", mesh->vertex_count);
     fprintf(to, "quads %" PRIu32 "\n", mesh->quad_count);
+    fprintf(to, "marked %" PRIu32 "\n", mesh->marked_count);
 }
 
 static void advise_on_axis(const struct request *request, uint32_t axis)
@@ -324,15 +336,6 @@ static void advise_on_axis(const struct request *request, uint32_t axis)
     printf("note Axis %c is %" PRIu32 " values long, and it must be 2 to 256. Check that the numbers stand in the "
            "order NX NY NZ THRESHOLD.\n", "xyz"[axis % AXES], request->length[axis % AXES]);
     printf("note Of a scan that is longer, cut out a part.\n");
-}
-
-static void advise_on_ceiling(const struct request *request, uint32_t index)
-{
-    uint32_t nx = request->length[0], ny = request->length[1];
-    printf("note Sample %" PRIu32 ", at (%" PRIu32 ", %" PRIu32 ", %" PRIu32 ") counted from 0, is 65535. That is the "
-           "detector's ceiling and no grey value, so it is not known to be metal. There may be more of them.\n",
-           index, index % nx, index / nx % ny, index / nx / ny);
-    printf("note Scan the part again with less exposure. Do not change the value in the file.\n");
 }
 
 static void refuse(const struct request *request, const uint32_t *answer)
@@ -343,17 +346,35 @@ static void refuse(const struct request *request, const uint32_t *answer)
         advise_on_axis(request, answer[1]);
     else if (answer[0] == BAD_THRESHOLD)
         printf("note The threshold must be from 1 to 65534. Choose one between the greys of hollow and of metal.\n");
-    else if (answer[0] == AT_CEILING)
-        advise_on_ceiling(request, answer[1]);
     else /* 2, 5 and 6 cannot come about: samples and room are as many as the library says */
         printf("note This is a fault of the scan tool and not of the scan. Report it together with these lines.\n");
     finish(STATUS_REFUSED);
+}
+
+/* What the values at the ceiling mean. A cube with such a corner and a hollow one has a vertex, and it is marked. */
+static void note_ceilings(const struct request *request, const struct block *block, const struct mesh *mesh)
+{
+    uint32_t nx = request->length[0], ny = request->length[1], index = block->first_ceiling;
+    printf("note Some values are 65535, the detector's ceiling. The first is sample %" PRIu32 ", at (%" PRIu32
+           ", %" PRIu32 ", %" PRIu32 ") counted from 0. What the detector saw there is not known. It is drawn as "
+           "metal. A pore inside such a saturated region cannot be seen.\n",
+           index, index % nx, index / nx % ny, index / nx / ny);
+    if (mesh->marked_count == 0)
+        printf("note No vertex is marked: each of these values has only metal round it. So the mesh does not show "
+               "where they are.\n");
+    else
+        printf("note A marked vertex has a corner of its cube at the ceiling, so the surface there is not certain. "
+               "With --mesh its mask begins with 1.\n");
+    printf("note If a marked vertex or a value at the ceiling is where the claim is judged, do not judge by the mesh "
+           "there. Scan the part again with less exposure. Do not change the value in the file.\n");
 }
 
 static void report(const struct request *request, const struct block *block, const struct mesh *mesh)
 {
     put_request(stdout, request);
     put_counts(stdout, block, mesh);
+    if (block->ceiling_count > 0)
+        note_ceilings(request, block, mesh);
     if (mesh->quad_count == 0) {
         printf("note No quads does not mean no pore: a pore at the edge of the box has none. Scan the part with a "
                "margin round it.\n");
@@ -443,6 +464,14 @@ static size_t samples_wanted(const struct request *request)
     return answer[1];
 }
 
+static void count_ceilings(struct block *block)
+{
+    uint32_t answer[ANSWER];
+    parsniprow_ceilings(block->samples, block->count, answer, ANSWER);
+    block->ceiling_count = answer[1];
+    block->first_ceiling = answer[2];
+}
+
 static struct mesh count_mesh(const struct request *request, const struct block *block)
 {
     const uint32_t *length = request->length;
@@ -476,6 +505,8 @@ static void make_mesh(const struct request *request, const struct block *block, 
         refuse(request, answer);
     if (answer[1] != mesh->vertex_count || answer[2] != mesh->quad_count)
         fail(STATUS_FAILED, "The mesh is not as large as it was counted. This is a fault of the scan tool: report it.");
+    for (size_t vertex = 0; vertex < mesh->vertex_count; vertex++)
+        mesh->marked_count += (mesh->words[WORDS_A_VERTEX * vertex + 1] & MARK) != 0;
 }
 
 /* ---- the mesh file ---- */
@@ -512,12 +543,12 @@ static FILE *open_part(const struct request *request)
 
 static int put_vertex(FILE *to, const struct request *request, const struct mesh *mesh, size_t vertex)
 {
-    uint32_t cube = mesh->words[WORDS_A_VERTEX * vertex], mask = mesh->words[WORDS_A_VERTEX * vertex + 1];
+    uint32_t cube = mesh->words[WORDS_A_VERTEX * vertex], word = mesh->words[WORDS_A_VERTEX * vertex + 1];
     uint32_t along_x = request->length[0] - 1, along_y = request->length[1] - 1;
     const double *offset = mesh->offsets + OFFSETS_A_VERTEX * vertex;
-    return fprintf(to, "v %zu %" PRIu32 " %" PRIu32 " %" PRIu32 " %.17g %.17g %.17g %03" PRIX32 "\n", vertex,
+    return fprintf(to, "v %zu %" PRIu32 " %" PRIu32 " %" PRIu32 " %.17g %.17g %.17g %04" PRIX32 "\n", vertex,
                    cube % along_x, cube / along_x % along_y, cube / along_x / along_y, offset[0], offset[1], offset[2],
-                   mask) > 0;
+                   word) > 0;
 }
 
 static int put_quad(FILE *to, const struct mesh *mesh, size_t quad)
@@ -533,6 +564,7 @@ static int put_mesh(FILE *to, const struct request *request, const struct block 
     uint64_t all = (uint64_t)mesh->vertex_count + mesh->quad_count;
     fputs("# The surface between metal and hollow. v: number of a vertex, cube I J K, place X Y Z in the cube, mask\n"
           "# of edges in hexadecimal; it is at I+X, J+Y, K+Z in steps of the grid. q: the vertices of a quad.\n"
+          "# A vertex whose mask begins with 1 is marked: a corner of its cube is 65535, the detector's ceiling.\n"
           "# Nothing is smoothed. No quads does not mean no pore: a pore at the edge of the box has none.\n", to);
     put_request(to, request);
     put_counts(to, block, mesh);
@@ -575,6 +607,7 @@ int main(int argc, char **argv)
     block.count = samples_wanted(&request);
     read_block(&request, &block);
     mesh = count_mesh(&request, &block);
+    count_ceilings(&block);
     make_mesh(&request, &block, &mesh);
     if (request.out)
         write_mesh(&request, &block, &mesh);

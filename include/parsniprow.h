@@ -23,17 +23,18 @@
      1       an axis is under 2 or over 256    lowest such axis, 0 to 2
      2       samples_len is not nx * ny * nz   nx * ny * nz
      3       t is 0 or 65535                   t
-     4       some sample is 65535              lowest such index; of a cube the corner; of an edge lower end 0, upper 1
      5       words_len is under 2, or          vertices needed
              offsets_len under 3, a vertex
      6       quads_len is under 4 a quad       quads needed
      7       quads_len is no multiple of 4     quads_len modulo 4
 
-   A value above 4294967295 is given as that.
+   A value above 4294967295 is given as that. Number 4 is given by nothing any more.
 
    GREY VALUES
    A sample is metal if it is at least the threshold t, else hollow. Samples stand x fastest: sample (i, j, k) has index
-   i + nx * (j + ny * k). 65535 is the detector's ceiling and no grey value: whatever is given one refuses it.
+   i + nx * (j + ny * k). 65535 is the detector's ceiling. It counts as metal, and what the detector saw there is not
+   known. So each vertex whose cube has a corner at 65535 carries a mark: bit 12 (4096) of its word. Counts show no
+   mark. A ceiling with metal all round leaves no vertex and so no mark: parsniprow_ceilings counts every one.
 
    THE MESH
    An edge joins two samples that are neighbours along x, y or z; its lower end has the smaller coordinate. It is
@@ -53,48 +54,51 @@
 extern "C" {
 #endif
 
-/* Where the surface crosses an edge.
+/* Where the surface crosses an edge. An end at 65535 counts as metal, and the answer shows no mark.
      p, q      the samples at the edge's two ends, p at the one with the smaller coordinate
      t         the threshold
      fraction  answer place, 1 item: how far the crossing is from the lower end, 0 to 1; 0 where there is none, on
                refusal too
-     answer    answer place, 3 items: 0, number of crossings (0 or 1), 0; or refusal (3 or 4), its value, 0 */
+     answer    answer place, 3 items: 0, number of crossings (0 or 1), 0; or refusal 3, its value, 0 */
 void parsniprow_edge(uint16_t p, uint16_t q, uint16_t t, double *fraction, size_t fraction_len, uint32_t *answer,
                      size_t answer_len);
 
 /* The loops of crossed edges in a cube, each of which is a vertex.
      c0 to c7  the samples at the corners; corner x + 2 * y + 4 * z is at (x, y, z)
      t         the threshold
-     words     answer place, 4 items: the mask of each loop, bit e for edge e, in the order of their lowest edges;
-               0 where there is no loop, on refusal too
+     words     answer place, 4 items: a word for each loop, in the order of their lowest edges: bits 0 to 11 are its
+               mask, bit e for edge e; bit 12 is the mark, set if a corner is 65535. 0 where there is no loop, on
+               refusal too
      offsets   answer place, 12 items: the place x, y, z of each loop in the cube, each 0 to 1; 0 where there is none,
                on refusal too
-     answer    answer place, 3 items: 0, number of loops (0 to 4), 0; or refusal (3 or 4), its value, 0
+     answer    answer place, 3 items: 0, number of loops (0 to 4), 0; or refusal 3, its value, 0
    Edges by number, each with its two corners, the lower first: 0: 0-1, 1: 2-3, 2: 4-5, 3: 6-7, 4: 0-2, 5: 1-3, 6: 4-6,
    7: 5-7, 8: 0-4, 9: 1-5, 10: 2-6, 11: 3-7. */
 void parsniprow_cube(uint16_t c0, uint16_t c1, uint16_t c2, uint16_t c3, uint16_t c4, uint16_t c5, uint16_t c6,
                      uint16_t c7, uint16_t t, uint32_t *words, size_t words_len, double *offsets, size_t offsets_len,
                      uint32_t *answer, size_t answer_len);
 
-/* How many vertices and quads the mesh of a block has. At most 66325500 and 49354740.
+/* How many vertices and quads the mesh of a block has. At most 66325500 and 49354740. They do not show whether a vertex
+   carries the mark.
      nx, ny, nz  axis lengths in samples, each 2 to 256
      samples     nx * ny * nz grey values
      t           the threshold, 1 to 65534
-     answer      answer place, 3 items: 0, vertices, quads; or refusal (1 to 4), its value, 0 */
+     answer      answer place, 3 items: 0, vertices, quads; or refusal (1, 2 or 3), its value, 0 */
 void parsniprow_counts(uint32_t nx, uint32_t ny, uint32_t nz, const uint16_t *samples, size_t samples_len, uint16_t t,
                        uint32_t *answer, size_t answer_len);
 
 /* The mesh of a block. Its time grows with the number of samples and with the size of the mesh. Ask parsniprow_counts
    first: words takes 2 * vertices items, offsets 3 * vertices, quads 4 * quads. More room is allowed.
      nx, ny, nz, samples, t  as of parsniprow_counts
-     words    room for 2 items a vertex: the number of its cube, then the mask of its loop. Cube (i, j, k) has number
+     words    room for 2 items a vertex: the number of its cube, then its word: bits 0 to 11 are the mask of its loop,
+              bit 12 is the mark, set if a corner of its cube is 65535. Cube (i, j, k) has number
               i + (nx - 1) * (j + (ny - 1) * k)
      offsets  room for 3 items a vertex: x, y, z from the cube's corner 0, each 0 to 1; the vertex is at
               (i + x, j + y, k + z) in grid steps
      quads    room for 4 items a quad: the numbers of its vertices, from 0. Seen along its edge from the hollow end they
               run against the clock where x, y, z are right-handed. A quad need be neither flat nor convex; vertices may
               share a place, so its area may be 0
-     answer   answer place, 3 items: 0, vertices, quads; or refusal (1 to 6), its value, 0
+     answer   answer place, 3 items: 0, vertices, quads; or refusal (1, 2, 3, 5 or 6), its value, 0
    The three buffers keep their contents on refusal, and always behind the mesh. */
 void parsniprow_mesh(uint32_t nx, uint32_t ny, uint32_t nz, const uint16_t *samples, size_t samples_len, uint16_t t,
                      uint32_t *words, size_t words_len, double *offsets, size_t offsets_len, uint32_t *quads,
@@ -108,6 +112,13 @@ void parsniprow_mesh(uint32_t nx, uint32_t ny, uint32_t nz, const uint16_t *samp
      answer  answer place, 4 items: 0, 1, 0, 0 if closed; 0, 0, quad, side of the first side at fault, by quad and then
              by side; or refusal 7, its value, 0, 0. A quad above 4294967295 is given as that */
 void parsniprow_closed(const uint32_t *quads, size_t quads_len, uint32_t *answer, size_t answer_len);
+
+/* How many samples are at the detector's ceiling, and which is the first. It looks at the samples alone, so it also
+   finds those that leave no mark. It refuses nothing.
+     samples  any number of grey values, also none
+     answer   answer place, 3 items: 0, how many samples are 65535, the lowest index of one; where there is none, that
+              index is samples_len. A number above 4294967295 is given as that */
+void parsniprow_ceilings(const uint16_t *samples, size_t samples_len, uint32_t *answer, size_t answer_len);
 
 #ifdef __cplusplus
 }
