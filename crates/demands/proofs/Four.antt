@@ -1,14 +1,12 @@
 -- No entry point gives number 4, and no C caller finds it: the table of refusals has no such row any more.
 use Prim.Native.Nat.{ℕ, _≤_}
-use mathlib.Core.Path.{_≡_, refl, ap, sym, _∙_}
+use mathlib.Core.Path.{_≡_, refl}
 use mathlib.Core.Logic.{_⊎_, inl, inr}
-use mathlib.Core.List.{List, [], _∷_}
+use mathlib.Core.List.{[], _∷_}
 use native.Mathlib.Omega.{arith}
-use lib.ListN.{length, getD}
-use Rattle.laws.specs.Below.{over}
-use Rattle.laws.specs.Filled.{filled}
+use lib.ListN.{length}
 use Rattle.block.specs.declared.CeilingCount.{CeilingCount}
-use Rattle.block.specs.Answer.{Answer, accepted, refused, told}
+use Rattle.block.specs.Answer.{accepted}
 use Rattle.block.specs.Ceilings.{ceilingsIn}
 use Rattle.block.specs.Grey.{cutOf}
 use Rattle.block.proofs.Order.{refused-exactly}
@@ -18,18 +16,10 @@ use Rattle.cell.specs.Answer.{saidCube}
 use Rattle.mesh.specs.Answer.{saidCounts}
 use Rattle.closed.specs.Closed.{saidClosure}
 use Rattle.reading.proofs.Verdicts.{run-numbers}
-use Rattle.parsniprow_c.specs.Told.{tellOver}
 use Rattle.demands.specs.Marks.{NotFour, FourNever}
 use Rattle.demands.proofs.Numbers.{size-numbers, edge-numbers, cube-numbers, counts-numbers, mesh-numbers, closed-numbers}
+use Rattle.demands.proofs.Places.{four-untold}
 use Rattle.demands.proofs.Refusals.{run-refuses}
-
--- the first number told is 0, or that of a refusal
-told-other : {A : Type 0} (n : ℕ) (values : A → List ℕ) (a : Answer A) (place place′ : List ℕ) → place′ ≡ tellOver (told n values a) place → NotFour a → getD place′ 0 0 ≡ 4 → ⊥
-unfolding filled over
-told-other n values (accepted b) [] place′ e h f = omega (arith, ap (λ (l : List ℕ). getD l 0 0) e, f)
-told-other n values (accepted b) (p ∷ place) place′ e h f = omega (arith, ap (λ (l : List ℕ). getD l 0 0) e, f)
-told-other n values (refused x) [] place′ e h f = omega (arith, ap (λ (l : List ℕ). getD l 0 0) e, f)
-told-other n values (refused x) (p ∷ place) place′ e h f = h x refl (sym (ap (λ (l : List ℕ). getD l 0 0) e) ∙ f)
 
 edge-other : (p q t : ℕ) (r : Crossing) → EdgeAnswered p q t r → NotFour (saidEdge r)
 unfolding edgeAnswer
@@ -54,10 +44,10 @@ four-never = record {
   mesh = λ nx ny nz s cut w o q r w′ o′ q′ m x e. of-mesh (x .number) (mesh-numbers nx ny nz s cut (length w) (length o) (length q) x (refused-exactly _ _ _ (m .answer) x .0 e));
   closed = λ quads r m x e f. omega (arith, f, closed-numbers quads x (refused-exactly _ _ _ m x .0 e));
   run = λ bytes out r out′ m v h p. of-run 4 (run-numbers bytes _ (run-refuses bytes out r out′ m (record { number = 4; value = v }) (omega arith) h .0 p)) refl;
-  ceilings-told = λ s place place′ m. told-other 3 (λ (c : CeilingCount). c .count ∷ c .lowest ∷ []) (accepted (ceilingsIn s)) place place′ m (λ x e f. let z : _≡_ {A = ℕ} 0 1 = cc in omega arith);
-  edge-told = λ p q t f place f′ place′ m. told-other 3 _ (saidEdge (m .answer)) place place′ (m .is-told) (edge-other p q t (m .answer) (m .answered));
-  cube-told = λ corners t w o place w′ o′ place′ m. told-other 3 _ (saidCube (m .answer .found)) place place′ (m .is-told) (λ x e f. omega (arith, f, cube-numbers (cutOf t) x (refused-exactly _ _ _ (m .answered .found) x .0 e)));
-  counts-told = λ nx ny nz s t place place′ m. told-other 3 _ (saidCounts (m .answer)) place place′ (m .is-told) (λ x e f. omega (arith, f, counts-numbers nx ny nz s (cutOf t) x (refused-exactly _ _ _ (m .answered) x .0 e) .1));
-  mesh-told = λ nx ny nz s t w o q place w′ o′ q′ place′ m. told-other 3 _ (saidCounts (m .answer)) place place′ (m .is-told) (λ x e. of-mesh (x .number) (mesh-numbers nx ny nz s (cutOf t) (length w) (length o) (length q) x (refused-exactly _ _ _ (m .meshed .answer) x .0 e)));
-  closed-told = λ quads place place′ m. told-other 4 _ (saidClosure (m .answer)) place place′ (m .is-told) (λ x e f. omega (arith, f, closed-numbers quads x (refused-exactly _ _ _ (m .answered) x .0 e)));
+  ceilings-told = λ s place place′ m. four-untold 3 (λ (c : CeilingCount). c .count ∷ c .lowest ∷ []) (accepted (ceilingsIn s)) place place′ m (λ x e f. let z : _≡_ {A = ℕ} 0 1 = cc in omega arith);
+  edge-told = λ p q t f place f′ place′ m. four-untold 3 _ (saidEdge (m .answer)) place place′ (m .is-told) (edge-other p q t (m .answer) (m .answered));
+  cube-told = λ corners t w o place w′ o′ place′ m. four-untold 3 _ (saidCube (m .answer .found)) place place′ (m .is-told) (λ x e f. omega (arith, f, cube-numbers (cutOf t) x (refused-exactly _ _ _ (m .answered .found) x .0 e)));
+  counts-told = λ nx ny nz s t place place′ m. four-untold 3 _ (saidCounts (m .answer)) place place′ (m .is-told) (λ x e f. omega (arith, f, counts-numbers nx ny nz s (cutOf t) x (refused-exactly _ _ _ (m .answered) x .0 e) .1));
+  mesh-told = λ nx ny nz s t w o q place w′ o′ q′ place′ m. four-untold 3 _ (saidCounts (m .answer)) place place′ (m .is-told) (λ x e. of-mesh (x .number) (mesh-numbers nx ny nz s (cutOf t) (length w) (length o) (length q) x (refused-exactly _ _ _ (m .meshed .answer) x .0 e)));
+  closed-told = λ quads place place′ m. four-untold 4 _ (saidClosure (m .answer)) place place′ (m .is-told) (λ x e f. omega (arith, f, closed-numbers quads x (refused-exactly _ _ _ (m .answered) x .0 e)));
 }

@@ -5,6 +5,7 @@ pub mod Allowed
 pub mod TheMesh
 pub mod Marks
 pub mod TextMarks
+pub mod Places
 pub mod Told
 pub mod Four
 pub mod StandIn

@@ -1,6 +1,6 @@
 -- What a sample at the detector's ceiling leaves in a mesh and in a cube's answer. A vertex is marked exactly if a corner of its cube is 65,535; and where no
 -- vertex is marked, no cube with corners of both signs has such a corner, so both ends of each crossed edge are below 65,535.
-use Prim.Native.Nat.{ℕ, zero, suc, _+_, _*_, _-_, _%_, _≤_, _<_, min}
+use Prim.Native.Nat.{ℕ, zero, suc, _+_, _*_, _-_, _%_, _≤_, _<_}
 use mathlib.Core.Path.{_≡_, refl, sym, ap, _∙_, subst}
 use mathlib.Core.Bool.{Bool, true, false, _||_, true≢false}
 use mathlib.Core.Logic.{_↔_, _⊎_, inl, inr}
@@ -198,13 +198,25 @@ corner-at n s i j k true false true = rw (add-zero j)
 corner-at n s i j k false true true = rw (add-zero i)
 corner-at n s i j k true true true = refl
 
--- on which side of a cube a coordinate is
-side : (b c : ℕ) → b ≤ c → c ≤ b + 1 → (x : Bool) × (c ≡ b + bit x)
-side b c l u = go (lt-or-ge b c)
+-- along one axis with m samples: a cube that has i and i′ as corners, by its lower corner, and on which side each of them is
+record Sides (m i i′ : ℕ) : Type 0 where
+  pub base : ℕ
+  pub inside : base < m - 1
+  pub low : Bool
+  pub high : Bool
+  pub low-is : i ≡ base + bit low
+  pub high-is : i′ ≡ base + bit high
+
+-- a coordinate that stays, and one that goes on by 1
+stays : (m i : ℕ) → 2 ≤ m → i < m → Sides m i i
+stays m i two h = go (lt-or-ge i (m - 1))
   where
-    go : (b < c) ⊎ (c ≤ b) → (x : Bool) × (c ≡ b + bit x)
-    go (inl h) = (true, omega (arith, h, u))
-    go (inr h) = (false, omega (arith, h, l))
+    go : (i < m - 1) ⊎ (m - 1 ≤ i) → Sides m i i
+    go (inl a) = record { base = i; inside = a; low = false; high = false; low-is = omega arith; high-is = omega arith }
+    go (inr a) = record { base = m - 2; inside = omega (arith, two); low = true; high = true; low-is = omega (arith, two, h, a); high-is = omega (arith, two, h, a) }
+
+goes : (m i : ℕ) → i + 1 < m → Sides m i (i + 1)
+goes m i h = record { base = i; inside = omega (arith, h); low = false; high = true; low-is = omega arith; high-is = omega arith }
 
 -- two samples of one cube that differ in sign are not at the ceiling
 module _ {nx ny nz : ℕ} {s : List ℕ} {cut : Cut} (a : MeshCall nx ny nz s cut) (none : Unmarked a) (grey : SixteenBit s) where
@@ -242,42 +254,25 @@ module _ {nx ny nz : ℕ} {s : List ℕ} {cut : Cut} (a : MeshCall nx ny nz s cu
     pair-below : (sampleAt n s (i + bit x) (j + bit y) (k + bit z) < 65535) × (sampleAt n s (i + bit x′) (j + bit y′) (k + bit z′) < 65535)
     pair-below = (corner-below x y z, corner-below x′ y′ z′)
 
-  -- two samples at corners of the cube (b₀,b₁,b₂)
-  near-below : (b₀ b₁ b₂ i j k i′ j′ k′ : ℕ) → (b₀ < nx - 1) × (b₁ < ny - 1) × (b₂ < nz - 1)
-      → (b₀ ≤ i) × (b₁ ≤ j) × (b₂ ≤ k) × (i ≤ b₀ + 1) × (j ≤ b₁ + 1) × (k ≤ b₂ + 1)
-      → (b₀ ≤ i′) × (b₁ ≤ j′) × (b₂ ≤ k′) × (i′ ≤ b₀ + 1) × (j′ ≤ b₁ + 1) × (k′ ≤ b₂ + 1)
+  -- two samples by their coordinates, at corners of the cube (b₀,b₁,b₂)
+  near-below : (i j k i′ j′ k′ b₀ b₁ b₂ : ℕ) (x y z x′ y′ z′ : Bool) → b₀ < nx - 1 → b₁ < ny - 1 → b₂ < nz - 1
+      → i ≡ b₀ + bit x → j ≡ b₁ + bit y → k ≡ b₂ + bit z → i′ ≡ b₀ + bit x′ → j′ ≡ b₁ + bit y′ → k′ ≡ b₂ + bit z′
       → apart cut (sampleAt n s i j k) (sampleAt n s i′ j′ k′) ≡ true → (sampleAt n s i j k < 65535) × (sampleAt n s i′ j′ k′ < 65535)
-  near-below b₀ b₁ b₂ i j k i′ j′ k′ (h₀, h₁, h₂) (l₀, l₁, l₂, u₀, u₁, u₂) (m₀, m₁, m₂, v₀, v₁, v₂) cross =
-      let x = side b₀ i l₀ u₀ in
-      let y = side b₁ j l₁ u₁ in
-      let z = side b₂ k l₂ u₂ in
-      let x′ = side b₀ i′ m₀ v₀ in
-      let y′ = side b₁ j′ m₁ v₁ in
-      let z′ = side b₂ k′ m₂ v₂ in
-      rw (x .1, y .1, z .1, x′ .1, y′ .1, z′ .1)
-      (pair-below b₀ b₁ b₂ h₀ h₁ h₂ (x .0) (y .0) (z .0) (x′ .0) (y′ .0) (z′ .0) (rw (x .1, y .1, z .1, x′ .1, y′ .1, z′ .1) at cross))
+  near-below i j k i′ j′ k′ b₀ b₁ b₂ x y z x′ y′ z′ h₀ h₁ h₂ e₀ e₁ e₂ f₀ f₁ f₂ cross =
+      rw (e₀, e₁, e₂, f₀, f₁, f₂) (pair-below b₀ b₁ b₂ h₀ h₁ h₂ x y z x′ y′ z′ (rw (e₀, e₁, e₂, f₀, f₁, f₂) at cross))
+
+  neighbours-below : (i j k i′ j′ k′ : ℕ) → Sides nx i i′ → Sides ny j j′ → Sides nz k k′
+      → apart cut (sampleAt n s i j k) (sampleAt n s i′ j′ k′) ≡ true → (sampleAt n s i j k < 65535) × (sampleAt n s i′ j′ k′ < 65535)
+  neighbours-below i j k i′ j′ k′ x y z =
+      near-below i j k i′ j′ k′ (x .base) (y .base) (z .base) (x .low) (y .low) (z .low) (x .high) (y .high) (z .high) (x .inside) (y .inside) (z .inside)
+      (x .low-is) (y .low-is) (z .low-is) (x .high-is) (y .high-is) (z .high-is)
 
   -- each crossed edge of the block, on its faces too, has both ends below 65,535
   pub crossed-below : (axis : Axis) (i j k : ℕ) → InBox n i j k → ahead (InBox n) axis i j k → crossedFrom n s cut axis i j k ≡ true
       → (sampleAt n s i j k < 65535) × (ahead (sampleAt n s) axis i j k < 65535)
-  crossed-below X i j k (hi, hj, hk) (g, _, _) e =
-      let l = limits a in
-      near-below i (min j (ny - 2)) (min k (nz - 2)) i j k (i + 1) j k
-      (omega (arith, g), omega (arith, l .y-low), omega (arith, l .z-low))
-      (omega arith, omega arith, omega arith, omega arith, omega (arith, hj), omega (arith, hk))
-      (omega arith, omega arith, omega arith, omega arith, omega (arith, hj), omega (arith, hk)) e
-  crossed-below Y i j k (hi, hj, hk) (_, g, _) e =
-      let l = limits a in
-      near-below (min i (nx - 2)) j (min k (nz - 2)) i j k i (j + 1) k
-      (omega (arith, l .x-low), omega (arith, g), omega (arith, l .z-low))
-      (omega arith, omega arith, omega arith, omega (arith, hi), omega arith, omega (arith, hk))
-      (omega arith, omega arith, omega arith, omega (arith, hi), omega arith, omega (arith, hk)) e
-  crossed-below Z i j k (hi, hj, hk) (_, _, g) e =
-      let l = limits a in
-      near-below (min i (nx - 2)) (min j (ny - 2)) k i j k i j (k + 1)
-      (omega (arith, l .x-low), omega (arith, l .y-low), omega (arith, g))
-      (omega arith, omega arith, omega arith, omega (arith, hi), omega (arith, hj), omega arith)
-      (omega arith, omega arith, omega arith, omega (arith, hi), omega (arith, hj), omega arith) e
+  crossed-below X i j k (hi, hj, hk) (g, _, _) = neighbours-below i j k (i + 1) j k (goes nx i g) (stays ny j (limits a .y-low) hj) (stays nz k (limits a .z-low) hk)
+  crossed-below Y i j k (hi, hj, hk) (_, g, _) = neighbours-below i j k i (j + 1) k (stays nx i (limits a .x-low) hi) (goes ny j g) (stays nz k (limits a .z-low) hk)
+  crossed-below Z i j k (hi, hj, hk) (_, _, g) = neighbours-below i j k i j (k + 1) (stays nx i (limits a .x-low) hi) (stays ny j (limits a .y-low) hj) (goes nz k g)
 
 -- ---- the cube question
 

@@ -4,15 +4,12 @@ use Prim.Native.Nat.{ℕ, _+_, _*_, _-_, _≤_, _<_}
 use mathlib.Core.Path.{_≡_, refl, sym, ap, _∙_, subst}
 use mathlib.Core.Bool.{true, false}
 use mathlib.Core.Logic.{_↔_, ⊎-elim}
-use mathlib.Core.List.{List, [], _∷_, map}
+use mathlib.Core.List.{List, map}
 use native.Mathlib.Omega.{arith}
 use lib.Ieee.{Float}
-use lib.ListN.{length, getD, take, replicate, length-append, length-map, length-take}
-use lib.Seq.{getD-take}
-use Rattle.laws.specs.Below.{over}
+use lib.ListN.{length, getD, replicate, length-append, length-map}
 use Rattle.laws.specs.Filled.{filled}
-use Rattle.block.specs.declared.Refusal.{Refusal}
-use Rattle.block.specs.Answer.{Answer, accepted, refused, told}
+use Rattle.block.specs.Answer.{Answer, accepted}
 use Rattle.block.specs.Ceilings.{AtCeiling, LowestCeiling, ceilingsIn}
 use Rattle.block.specs.Grey.{ceiling, cutOf, SixteenBit}
 use Rattle.block.specs.Numbering.{Axis, cubeCount}
@@ -27,49 +24,14 @@ use Rattle.mesh.specs.declared.Counted.{Counted}
 use Rattle.mesh.specs.declared.Counted.the-variants as counted
 use Rattle.mesh.specs.declared.Totals.{Totals}
 use Rattle.mesh.specs.Answer.{sizeOf, saidCounts}
-use Rattle.parsniprow_c.specs.Told.{tellOver, toldCube, toldCounts, CeilingsTold, CubeTold, MeshTold}
+use Rattle.parsniprow_c.specs.Told.{tellOver, toldCeilings, toldCube, toldCounts, CeilingsTold, CubeTold, MeshTold}
 use Rattle.demands.specs.Answers.{NotRefused, MeshCall}
 use Rattle.demands.specs.Marks.{hasMark, BothSigns, InBox}
 use Rattle.demands.proofs.Numbers.{cube-numbers, mesh-numbers}
 use Rattle.cube_rule.specs.Decider.{loopsOf}
 use Rattle.demands.proofs.Refusals.{cube-accepts}
-use Rattle.demands.proofs.TheMesh.{over-front}
+use Rattle.demands.proofs.Places.{tell-at, tell-le, none-told}
 use Rattle.demands.proofs.Marks.{vertex-marked, unmarked-clear, crossed-below, cube-marked}
-
--- ---- what is found in a place
-
--- a place whose first number is found to be 0 was told 0 first
-first-told : (n : ℕ) (xs place : List ℕ) → getD (tellOver (n ∷ xs) place) 0 1 ≡ 0 → n ≡ 0
-unfolding over
-first-told n xs [] h = absurd (omega (arith, h))
-first-told n xs (p ∷ place) h = h
-
--- so no refusal was told, if its number is at least 1
-none-told : {A : Type 0} (values : A → List ℕ) (a : Answer A) (place place′ : List ℕ) → place′ ≡ tellOver (told 3 values a) place → getD place′ 0 1 ≡ 0
-    → ((x : Refusal) → a ≡ refused x → 1 ≤ x .number) → NotRefused a
-unfolding filled
-none-told {A} values a place place′ e z h x r =
-    omega (arith, h x r, first-told (x .number) _ place (ap (λ (b : Answer A). getD (tellOver (told 3 values b) place) 0 1) (sym r) ∙ ap (λ (l : List ℕ). getD l 0 1) (sym e) ∙ z))
-
--- the second number that is found is never more than the one that was told, and it is that one where there is room
-second-le : (n v : ℕ) (xs place : List ℕ) → getD (tellOver (n ∷ v ∷ xs) place) 1 0 ≤ v
-unfolding over
-second-le n v xs [] = omega arith
-second-le n v xs (p ∷ []) = omega arith
-second-le n v xs (p ∷ q ∷ place) = omega arith
-
-second-is : (n v : ℕ) (xs place : List ℕ) → 2 ≤ length place → getD (tellOver (n ∷ v ∷ xs) place) 1 0 ≡ v
-unfolding over
-second-is n v xs [] h = absurd (omega (arith, h))
-second-is n v xs (p ∷ []) h = absurd (omega (arith, h))
-second-is n v xs (p ∷ q ∷ place) h = refl
-
-third-is : (n v u : ℕ) (xs place : List ℕ) → 3 ≤ length place → getD (tellOver (n ∷ v ∷ u ∷ xs) place) 2 0 ≡ u
-unfolding over
-third-is n v u xs [] h = absurd (omega (arith, h))
-third-is n v u xs (p ∷ []) h = absurd (omega (arith, h))
-third-is n v u xs (p ∷ q ∷ []) h = absurd (omega (arith, h))
-third-is n v u xs (p ∷ q ∷ r ∷ place) h = refl
 
 -- ---- the samples at the ceiling
 
@@ -78,15 +40,15 @@ module _ (s place place′ : List ℕ) (promise : CeilingsTold s place place′)
   pub ceilings-told-none : 2 ≤ length place → (getD place′ 1 0 ≡ 0) ↔ ((k : ℕ) → k < length s → getD s k 0 ≡ ceiling → ⊥)
   unfolding filled
   ceilings-told-none room =
-      let is : getD place′ 1 0 ≡ ceilingsIn s .count = ap (λ (l : List ℕ). getD l 1 0) promise ∙ second-is 0 (ceilingsIn s .count) _ place room in
+      let is : getD place′ 1 0 ≡ ceilingsIn s .count = ap (λ (l : List ℕ). getD l 1 0) promise ∙ tell-at (toldCeilings (accepted (ceilingsIn s))) place 1 0 (omega (arith, room)) (omega arith) in
       (λ h. ceilings-none s .0 (sym is ∙ h), λ f. is ∙ ceilings-none s .1 f)
 
   -- and where some are, the index that is found, unless it was cut, is that of the first
   pub ceilings-told-lowest : 3 ≤ length place → 0 < getD place′ 1 0 → getD place′ 2 0 < 4294967295 → LowestCeiling s (getD place′ 2 0)
   unfolding filled
   ceilings-told-lowest room some uncut =
-      let count : getD place′ 1 0 ≡ ceilingsIn s .count = ap (λ (l : List ℕ). getD l 1 0) promise ∙ second-is 0 (ceilingsIn s .count) _ place (omega (arith, room)) in
-      let lowest : getD place′ 2 0 ≡ ceilingsIn s .lowest = ap (λ (l : List ℕ). getD l 2 0) promise ∙ third-is 0 (ceilingsIn s .count) (ceilingsIn s .lowest) _ place room in
+      let count : getD place′ 1 0 ≡ ceilingsIn s .count = ap (λ (l : List ℕ). getD l 1 0) promise ∙ tell-at (toldCeilings (accepted (ceilingsIn s))) place 1 0 (omega (arith, room)) (omega arith) in
+      let lowest : getD place′ 2 0 ≡ ceilingsIn s .lowest = ap (λ (l : List ℕ). getD l 2 0) promise ∙ tell-at (toldCeilings (accepted (ceilingsIn s))) place 2 0 (omega (arith, room)) (omega arith) in
       subst (LowestCeiling s) (sym lowest) (ceilings-lowest s (omega (arith, some, count)) (omega (arith, uncut, lowest)))
 
 -- ---- the cube question
@@ -100,14 +62,14 @@ module _ (corners : List ℕ) (t : ℕ) (w : List ℕ) (o : List Float) (place w
   loops : (n : ℕ) × (saidCube (m .answer .found) ≡ accepted n)
   loops =
       loops-of (m .answer .found)
-      (none-told _ (saidCube (m .answer .found)) place place′ (m .is-told) z
+      (none-told 3 _ (saidCube (m .answer .found)) place place′ (m .is-told) z
       (λ x e. omega (arith, cube-numbers (cutOf t) x (refused-exactly _ _ _ (m .answered .found) x .0 e))))
 
   -- the number of loops that is found is not more than there are
   loops-found : getD place′ 1 0 ≤ loops .0
   unfolding filled
   loops-found =
-      subst (λ (l : List ℕ). getD l 1 0 ≤ loops .0) (sym (m .is-told ∙ ap (λ (a : Answer ℕ). tellOver (toldCube a) place) (loops .1))) (second-le 0 (loops .0) _ place)
+      subst (λ (l : List ℕ). getD l 1 0 ≤ loops .0) (sym (m .is-told ∙ ap (λ (a : Answer ℕ). tellOver (toldCube a) place) (loops .1))) (tell-le (toldCube (accepted (loops .0))) place 1 (omega arith))
 
   -- and there is a word for each
   words-long : loops .0 ≤ length (m .answer .words)
@@ -121,8 +83,7 @@ module _ (corners : List ℕ) (t : ℕ) (w : List ℕ) (o : List Float) (place w
   word-found : (l : ℕ) → l < length w → l < loops .0 → getD w′ l 0 ≡ getD (m .answer .words) l 0
   word-found l room h =
       ap (λ (x : List ℕ). getD x l 0) (m .words-told)
-      ∙ over-front (take (length w) (m .answer .words)) w l 0 (rw (length-take (length w) (m .answer .words)) (omega (arith, room, h, words-long)))
-      ∙ getD-take (length w) (m .answer .words) l 0 room
+      ∙ tell-at (m .answer .words) w l 0 room (omega (arith, h, words-long))
 
   pub cube-told-marked : (l : ℕ) → l < getD place′ 1 0 → l < length w → (hasMark (getD w′ l 0) ≡ true) ↔ AtCeiling corners
   cube-told-marked l h room =
@@ -140,7 +101,7 @@ module _ (nx ny nz : ℕ) (s : List ℕ) (t : ℕ) (w : List ℕ) (o : List Floa
   counts : (c : Totals) × (saidCounts (m .answer) ≡ accepted c)
   counts =
       counts-of (m .answer)
-      (none-told _ (saidCounts (m .answer)) place place′ (m .is-told) z
+      (none-told 3 _ (saidCounts (m .answer)) place place′ (m .is-told) z
       (λ x e. ⊎-elim (λ h. h .0) (λ h. omega (arith, h .0)) (mesh-numbers nx ny nz s (cutOf t) (length w) (length o) (length q) x (refused-exactly _ _ _ (m .meshed .answer) x .0 e))))
 
   abbrev call : MeshCall nx ny nz s (cutOf t)
@@ -162,16 +123,16 @@ module _ (nx ny nz : ℕ) (s : List ℕ) (t : ℕ) (w : List ℕ) (o : List Floa
 
   vertices-are : 2 ≤ length place → getD place′ 1 0 ≡ counts .0 .vertices
   unfolding filled
-  vertices-are room = ap (λ (l : List ℕ). getD l 1 0) place-is ∙ second-is 0 (counts .0 .vertices) _ place room
+  vertices-are room = ap (λ (l : List ℕ). getD l 1 0) place-is ∙ tell-at (toldCounts (accepted (counts .0))) place 1 0 (omega (arith, room)) (omega arith)
 
   quads-are : 3 ≤ length place → getD place′ 2 0 ≡ counts .0 .quads
   unfolding filled
-  quads-are room = ap (λ (l : List ℕ). getD l 2 0) place-is ∙ third-is 0 (counts .0 .vertices) (counts .0 .quads) _ place room
+  quads-are room = ap (λ (l : List ℕ). getD l 2 0) place-is ∙ tell-at (toldCounts (accepted (counts .0))) place 2 0 (omega (arith, room)) (omega arith)
 
   vertices-found : getD place′ 1 0 ≤ counts .0 .vertices
   unfolding filled
   vertices-found =
-      subst (λ (l : List ℕ). getD l 1 0 ≤ counts .0 .vertices) (sym place-is) (second-le 0 (counts .0 .vertices) _ place)
+      subst (λ (l : List ℕ). getD l 1 0 ≤ counts .0 .vertices) (sym place-is) (tell-le (toldCounts (accepted (counts .0))) place 1 (omega arith))
 
   -- there is a call of `mesh` with these buffers, before and after, and with the counts that are found where the place has room for them
   pub mesh-told-call : (a : MeshCall nx ny nz s (cutOf t)) × ((a .words ≡ w) × (a .offsets ≡ o) × (a .quads ≡ q))
