@@ -14,7 +14,6 @@ import sys
 CEILING = 65535
 MARK = 4096  # bit 12 of the word of a vertex whose cube has a corner at the ceiling
 LONGEST_AXIS, LONGEST_PROGRAM_AXIS, SHORTEST_AXIS = 256, 8, 2
-DIGITS = b"0123456789ABCDEF"
 
 # Corner pairs of the edges, the lower corner first, and the edges of the faces.
 EDGES = [(0, 1), (2, 3), (4, 5), (6, 7), (0, 2), (1, 3), (4, 6), (5, 7), (0, 4), (1, 5), (2, 6), (3, 7)]
@@ -39,6 +38,9 @@ class Refused(Exception):
 
 # ---- reading
 
+MISSING_OR_SURPLUS, SHORT, LONG, WRONG_CHARACTER = 8, 10, 11, 12
+
+
 class Lines:
     """The lines of an input, one after the other."""
 
@@ -46,21 +48,30 @@ class Lines:
         self.data, self.at, self.number = data, 0, 0
 
     def numbers(self, count):
-        """The numbers of the next line, which must be `count` of four digits each and end in LF."""
+        """The numbers of the next line, which must be `count` of four digits each and end in LF. Else the first wrong byte decides: it follows the
+        digits that the line begins with, as many as it may have."""
         self.number += 1
-        end = self.data.find(b"\n", self.at)
-        if end != self.at + 4 * count:
-            raise Refused(8, self.number)
-        text = self.data[self.at:end]
-        if any(byte not in DIGITS for byte in text):
-            raise Refused(8, self.number)
-        self.at = end + 1
-        return [int(text[4 * i:4 * i + 4], 16) for i in range(count)]
+        text = re.compile(rb"[0-9A-F]{0,%d}" % (4 * count)).match(self.data, self.at).group()
+        behind = self.at + len(text)
+        following = self.data[behind:behind + 1]
+        whole = len(text) == 4 * count
+        if whole and following == b"\n":
+            self.at = behind + 1
+            return [int(text[i:i + 4], 16) for i in range(0, len(text), 4)]
+        if not text and not following:
+            raise Refused(MISSING_OR_SURPLUS, self.number)
+        if following in (b"", b"\n"):
+            kind = SHORT
+        elif whole:
+            kind = LONG
+        else:
+            kind = WRONG_CHARACTER
+        raise Refused(kind, self.number << 16 | len(text) + 1)
 
     def end(self):
         """Nothing may be left: any byte more begins a line too many."""
-        if self.at != len(self.data):
-            raise Refused(8, self.number + 1)
+        if self.at < len(self.data):
+            raise Refused(MISSING_OR_SURPLUS, self.number + 1)
 
 
 def lowest_axis(number, axes, is_bad):

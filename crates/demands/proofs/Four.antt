@@ -29,11 +29,10 @@ of-mesh : (n : ℕ) → ((1 ≤ n) × (n ≤ 3)) ⊎ ((5 ≤ n) × (n ≤ 6)) �
 of-mesh n (inl h) e = omega (arith, h .1, e)
 of-mesh n (inr h) e = omega (arith, h .0, e)
 
-of-run : (n : ℕ) → (n ≡ 1) ⊎ ((n ≡ 3) ⊎ ((n ≡ 8) ⊎ (n ≡ 9))) → n ≡ 4 → ⊥
+of-run : (n : ℕ) → (n ≡ 1) ⊎ ((n ≡ 3) ⊎ ((8 ≤ n) × (n ≤ 12))) → n ≡ 4 → ⊥
 of-run n (inl h) e = omega (arith, h, e)
 of-run n (inr (inl h)) e = omega (arith, h, e)
-of-run n (inr (inr (inl h))) e = omega (arith, h, e)
-of-run n (inr (inr (inr h))) e = omega (arith, h, e)
+of-run n (inr (inr h)) e = omega (arith, h .0, e)
 
 pub four-never : FourNever
 four-never = record {

@@ -1,6 +1,7 @@
 pub mod Numbers
 pub mod RefusalText
 pub mod Refusals
+pub mod Faults
 pub mod Allowed
 pub mod TheMesh
 pub mod Marks

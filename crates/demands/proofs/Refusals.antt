@@ -119,11 +119,10 @@ mesh-keeps nx ny nz s cut w o q r w′ o′ q′ promise x e =
 -- ---- the program
 
 -- two digits are enough for its numbers
-told-number : (x : Refusal) → (x .number ≡ 1) ⊎ ((x .number ≡ 3) ⊎ ((x .number ≡ 8) ⊎ (x .number ≡ 9))) → x .number < 256
+told-number : (x : Refusal) → (x .number ≡ 1) ⊎ ((x .number ≡ 3) ⊎ ((8 ≤ x .number) × (x .number ≤ 12))) → x .number < 256
 told-number x (inl e) = omega (arith, e)
 told-number x (inr (inl e)) = omega (arith, e)
-told-number x (inr (inr (inl e))) = omega (arith, e)
-told-number x (inr (inr (inr e))) = omega (arith, e)
+told-number x (inr (inr h)) = omega (arith, h .1)
 
 module _ (bytes : List ℕ) where
   -- the text of the block that was read

@@ -8,6 +8,7 @@ use native.Mathlib.Omega.{arith}
 use lib.ListN.{length, take}
 use lib.Seq.{length-take-le}
 use Rattle.laws.specs.Fixed.{Fixes}
+use Rattle.laws.specs.Leading.{leading}
 use Rattle.block.specs.declared.Cut.{Cut}
 use Rattle.block.specs.declared.Size.{Size}
 use Rattle.block.specs.declared.Refusal.{Refusal}
@@ -20,7 +21,8 @@ use Rattle.cube_rule.specs.Decider.{loopsOf}
 use Rattle.mesh_rule.proofs.Small.{few-vertices, few-quads}
 use Rattle.mesh_rule.specs.Buffers.{meshWords, meshOffsets, meshQuads}
 use Rattle.mesh.specs.Answer.{sizeOf, vertexCount, quadCount}
-use Rattle.reading.specs.Text.{digits, numberAt, lineRight}
+use Rattle.reading.specs.Text.{digits, numberAt, rightBytes}
+use Rattle.reading.specs.Faults.{faultAt}
 use Rattle.reading.specs.Input.{firstLineRow, largeRow, sizeRead, cutRead, samplesRead, inputRows, inputVerdict}
 use Rattle.lines.specs.Output.{refusalLine, blockText, outputOf, Ran}
 use Rattle.laws.specs.Put.{Put}
@@ -103,5 +105,5 @@ run-fixed bytes out a b p q = ap₂ (λ (n : ℕ) (l : List ℕ). (n, l)) (p .co
 -- ---- the paper's example
 
 pub empty-input : outputOf [] ≡ refusalLine (record { number = 8; value = 1 })
-unfolding outputOf decided inOrder lineRight digits lowest
+unfolding outputOf decided inOrder faultAt rightBytes leading digits lowest
 empty-input = refl

@@ -1,14 +1,18 @@
--- Row 9: which axis is over 8, and that none is where the row passes.
+-- Row 9: which axis is over 8, and that none is where the row passes. Rows 1 and 9 in order.
 -- Assumes nothing.
 use Prim.Native.Nat.{ℕ, _*_, _≤_, _<_}
-use mathlib.Core.Path.{_≡_}
+use mathlib.Core.Path.{_≡_, sym, _∙_}
 use mathlib.Core.List.{[], _∷_}
 use native.Mathlib.Nat.{mul-le-mul}
 use native.Mathlib.Omega.{arith}
 use lib.Dec.{ltb}
 use borrow.Author.Tests.{lt-ltb, le-ltb, ltb-false}
+use Rattle.block.specs.declared.Refusal.{Refusal}
+use Rattle.block.specs.declared.Checked.{Checked}
 use Rattle.block.specs.declared.Checked.the-variants.{Passes, Refuses}
-use Rattle.block.specs.Rows.{lowest, lowestRow}
+use Rattle.block.specs.Answer.{inOrder}
+use Rattle.block.specs.Rows.{lowest, lowestRow, axisRow}
+use Rattle.block.proofs.Order.{order-refuses, order-passes, order-last, order-rest}
 use Rattle.block.proofs.Lowest.{row-clear}
 use Rattle.reading.specs.Input.{largeRow}
 
@@ -42,3 +46,15 @@ at-most-eight nx ny nz e =
     let hy = ltb-false 8 ny (clear 1 (omega arith)) in
     let hz = ltb-false 8 nz (clear 2 (omega arith)) in
     record { x = ltb-false 8 nx (clear 0 (omega arith)); y = hy; z = hz; rows = mul-le-mul hy hz }
+
+-- ---- rows 1 and 9 in order
+
+module _ (nx ny nz : ℕ) where
+  pub axis-first : (r : Refusal) → axisRow nx ny nz ≡ Refuses r → Refuses r ≡ inOrder (axisRow nx ny nz ∷ largeRow nx ny nz ∷ [])
+  axis-first r e = sym (order-refuses (axisRow nx ny nz) _ r e)
+
+  pub then-large : (k : Checked) → axisRow nx ny nz ≡ Passes → k ≡ largeRow nx ny nz → k ≡ inOrder (axisRow nx ny nz ∷ largeRow nx ny nz ∷ [])
+  then-large k a e = e ∙ sym (order-passes (axisRow nx ny nz) _ a ∙ order-last (largeRow nx ny nz))
+
+  pub both-pass : inOrder (axisRow nx ny nz ∷ largeRow nx ny nz ∷ []) ≡ Passes → AtMostEight nx ny nz
+  both-pass e = at-most-eight nx ny nz (sym (order-last (largeRow nx ny nz)) ∙ order-rest (axisRow nx ny nz) _ e)

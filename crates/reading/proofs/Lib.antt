@@ -1,9 +1,14 @@
 pub mod Digits
 pub mod Line
+pub mod Faults
+pub mod Words
 pub mod Reading
+pub mod Rows
 pub mod Axes
 pub mod Verdicts
+pub mod Named
 pub mod Samples
 pub mod Prefix
 pub mod Rules
 pub mod Fixed
+pub mod Example

@@ -1,26 +1,31 @@
 -- What stands past the first 2,130 bytes of an input changes nothing that is read: each number, line and sample is the same in the first bytes.
 -- Assumes nothing.
 use Prim.Native.Nat.{ℕ, zero, suc, _+_, _*_, _/_, _%_, _≤_, _<_}
-use mathlib.Core.Path.{_≡_, refl, sym, ap, ap₂, _∙_}
+use mathlib.Core.Path.{_≡_, refl, ap, ap₂}
 use mathlib.Core.Logic.{_⊎_, inl, inr}
-use mathlib.Core.Bool.{Bool, cond, _&&_}
-use mathlib.Core.List.{List, [], _∷_}
+use mathlib.Core.Bool.{cond}
+use mathlib.Core.List.{List, [], _∷_, _++_}
 use native.Mathlib.Nat.{mul-le-mul, div-lt-iff-lt-mul, mod-lt, zero-mul, not-suc-le-zero, mul-comm}
 use native.Mathlib.Omega.{arith}
 use lib.Dec.{eqb}
+use borrow.Author.Tests.{eq-eqb}
 use lib.ListN.{take}
 use lib.Seq.{getD-take}
 use Rattle.laws.proofs.Below.{below-same}
 use Rattle.laws.proofs.Leading.{leading-same}
 use Rattle.laws.proofs.Tests.{lt-or-ge}
 use Rattle.block.specs.declared.Size.{Size}
+use Rattle.block.specs.declared.Checked.{Checked}
 use Rattle.block.specs.declared.Checked.the-variants.{Passes}
-use Rattle.block.specs.Answer.{refuses}
+use Rattle.block.specs.Answer.{refuses, inOrder}
 use Rattle.block.specs.Numbering.{sampleCount}
-use Rattle.reading.specs.Text.{LF, ended, readAt, digitOf, isDigit, numberAt, lineRight}
-use Rattle.reading.specs.Input.{rowPlace, lineThere, rightLines, firstLineRow, linesRow, samplesRead}
+use Rattle.reading.specs.Text.{ended, readAt, digitOf, numberAt, rightByte, rightBytes}
+use Rattle.reading.specs.Faults.{none, faultBy, faultAt, faultRow, lineRow}
+use Rattle.reading.specs.Input.{rowPlace, firstLineRow, linesRow, samplesRead}
 use Rattle.reading.specs.Steps.{sampleRead}
-use Rattle.reading.proofs.Reading.{rows-small, there-row, there-end}
+use Rattle.reading.proofs.Line.{rightAt, right-most}
+use Rattle.reading.proofs.Reading.{rows-small}
+use Rattle.reading.proofs.Rows.{rowCheck}
 
 -- a row of at most 8 samples and its LF, of at most 64 rows
 row-inside : (nx j : ℕ) → nx ≤ 8 → j < 64 → rowPlace nx j + 4 * nx ≤ 2128
@@ -59,34 +64,30 @@ module _ (bytes : List ℕ) (B : ℕ) where
   same-number p (suc k) h =
       ap₂ (λ (a b : ℕ). a * 16 + digitOf b % 16) (same-number p k (omega arith)) (same-read (p + k) (omega arith))
 
-  same-line : (p n : ℕ) → p + n < B → lineRight first p n ≡ lineRight bytes p n
-  unfolding lineRight
-  same-line p zero h = ap (λ (b : ℕ). eqb b LF) (same-read p (omega arith))
-  same-line p (suc n) h = ap₂ (λ (a b : Bool). a && b) (ap isDigit (same-read p (omega arith))) (same-line (p + 1) n (omega arith))
+  -- a line that ends within the first B bytes
+  same-right : (p n : ℕ) → p + n < B → rightBytes first p n ≡ rightBytes bytes p n
+  unfolding rightBytes
+  same-right p n h = leading-same (rightAt first p n) (rightAt bytes p n) (n + 1) (λ c l. ap (rightByte n c) (same-read (p + c) (omega (arith, h, l))))
+
+  same-fault : (p n : ℕ) → p + n < B → faultAt first p n ≡ faultAt bytes p n
+  unfolding faultAt
+  same-fault p n h = rw (same-right p n h) (go (rightBytes bytes p n) (lt-or-ge n (rightBytes bytes p n)) (right-most bytes p n))
+    where
+      go : (c : ℕ) → (n < c) ⊎ (c ≤ n) → c ≤ n + 1 → cond (eqb c (n + 1)) none (faultBy n c (readAt first (p + c))) ≡ cond (eqb c (n + 1)) none (faultBy n c (readAt bytes (p + c)))
+      go c (inl l) m = rw (eq-eqb c (n + 1) (omega (arith, l, m)))
+      go c (inr g) m = rw (same-read (p + c) (omega (arith, h, g)))
+
+  same-row : (line p n : ℕ) → p + n < B → lineRow first line p n ≡ lineRow bytes line p n
+  same-row line p n h = ap (faultRow line) (same-fault p n h)
 
   module _ (room : 2130 ≤ B) where
     -- lines of at most 32 digits, at most 64 of them, and the end behind them
-    same-there : (nx rows j : ℕ) → nx ≤ 8 → rows ≤ 64 → j ≤ rows → lineThere first nx rows j ≡ lineThere bytes nx rows j
-    same-there nx rows j hx hr hj = go (lt-or-ge j rows)
-      where
-        place : rowPlace nx j < B
-        place = omega (arith, rows-small nx j hx (omega arith))
-
-        go : (j < rows) ⊎ (rows ≤ j) → lineThere first nx rows j ≡ lineThere bytes nx rows j
-        go (inl l) =
-            there-row first nx rows j l
-            ∙ same-line (rowPlace nx j) (4 * nx) (omega (arith, row-inside nx j hx (omega arith)))
-            ∙ sym (there-row bytes nx rows j l)
-        go (inr g) =
-            there-end first nx rows j g
-            ∙ ap (λ (b : ℕ). eqb b ended) (same-read (rowPlace nx j) place)
-            ∙ sym (there-end bytes nx rows j g)
-
     pub same-lines : (nx rows : ℕ) → nx ≤ 8 → rows ≤ 64 → linesRow first nx rows ≡ linesRow bytes nx rows
-    unfolding rightLines
     same-lines nx rows hx hr =
-        ap (λ (k : ℕ). cond (eqb k (rows + 1)) Passes (refuses 8 (k + 2)))
-        (leading-same (lineThere first nx rows) (lineThere bytes nx rows) (rows + 1) (λ j l. same-there nx rows j hx hr (omega arith)))
+        ap₂ (λ (ks : List Checked) (b : ℕ). inOrder (ks ++ cond (eqb b ended) Passes (refuses 8 (rows + 2)) ∷ []))
+        (below-same (λ (j : ℕ). rowCheck first nx j ∷ []) (λ (j : ℕ). rowCheck bytes nx j ∷ []) rows
+        (λ j l. ap (λ (k : Checked). k ∷ []) (same-row (j + 2) (rowPlace nx j) (4 * nx) (omega (arith, row-inside nx j hx (omega (arith, l, hr)))))))
+        (same-read (rowPlace nx rows) (omega (arith, rows-small nx rows hx hr)))
 
     pub same-samples : (n : Size) → n .nx ≤ 8 → n .ny * n .nz ≤ 64 → samplesRead first n ≡ samplesRead bytes n
     unfolding samplesRead
@@ -95,4 +96,4 @@ module _ (bytes : List ℕ) (B : ℕ) where
         (λ i l. ap (λ (v : ℕ). v ∷ []) (same-number _ 4 (omega (arith, sample-inside (n .nx) (n .ny * n .nz) i hx hr l))))
 
     pub same-first : firstLineRow first ≡ firstLineRow bytes
-    same-first = ap (λ (b : Bool). cond b Passes (refuses 8 1)) (same-line 0 16 (omega arith))
+    same-first = same-row 1 0 16 (omega arith)

@@ -1,4 +1,4 @@
--- A number that is written is read as it was.
+-- A number that is written is read as it was, and the digits of a value are those of its two halves.
 -- Assumes nothing.
 use Prim.Native.Nat.{ℕ, zero, suc, _+_, _*_, _/_, _%_, _^_, _≤_, _<_}
 use mathlib.Core.Path.{_≡_, refl, sym, ap, ap₂, _∙_}
@@ -47,3 +47,14 @@ number-back (suc k) v h =
 
     whole : (v : ℕ) → v / 16 * 16 + v % 16 ≡ v
     whole v = omega arith
+
+-- the eight digits of a value are four of its upper 16 bits and four of its lower ones
+pub hex-halves : (v : ℕ) → hexOf 8 v ≡ hexOf 4 (v / 65536) ++ hexOf 4 (v % 65536)
+unfolding hexOf
+hex-halves v =
+    let top : v / 16 / 16 / 16 / 16 ≡ v / 65536 = omega arith in
+    let first : v % 65536 / 16 / 16 / 16 % 16 ≡ v / 16 / 16 / 16 % 16 = omega arith in
+    let second : v % 65536 / 16 / 16 % 16 ≡ v / 16 / 16 % 16 = omega arith in
+    let third : v % 65536 / 16 % 16 ≡ v / 16 % 16 = omega arith in
+    let fourth : v % 65536 % 16 ≡ v % 16 = omega arith in
+    rw (top, first, second, third, fourth)

@@ -1,10 +1,9 @@
 -- What the program reads, and the rows of the table of refusals that it tries (document 01, "The program").
 use Prim.Native.Nat.{ℕ, _+_, _*_, _/_, _%_}
-use mathlib.Core.Bool.{Bool, cond}
-use mathlib.Core.List.{List, [], _∷_}
+use mathlib.Core.Bool.{cond}
+use mathlib.Core.List.{List, [], _∷_, _++_}
 use lib.Dec.{ltb, eqb}
 use Rattle.laws.specs.Below.{below}
-use Rattle.laws.specs.Leading.{leading}
 use Rattle.block.specs.declared.Cut.{Cut}
 use Rattle.block.specs.declared.Size.{Size}
 use Rattle.block.specs.declared.Checked.{Checked}
@@ -13,7 +12,8 @@ use Rattle.block.specs.Answer.{refuses, inOrder}
 use Rattle.block.specs.Grey.{cutOf}
 use Rattle.block.specs.Numbering.{sampleCount}
 use Rattle.block.specs.Rows.{lowestRow, axisRow, thresholdRow}
-use Rattle.reading.specs.Text.{ended, readAt, numberAt, lineRight}
+use Rattle.reading.specs.Text.{ended, readAt, numberAt}
+use Rattle.reading.specs.Faults.{lineRow}
 
 -- 9: an axis is over 8; the lowest such axis
 abbrev pub largeRow : ℕ → ℕ → ℕ → Checked
@@ -24,20 +24,21 @@ abbrev pub rowPlace : ℕ → ℕ → ℕ
 rowPlace nx j = 17 + j * (4 * nx + 1)
 
 module _ (bytes : List ℕ) where
-  -- line j + 2 is row j, and the line behind the last row is the end of the input
-  abbrev pub lineThere : ℕ → ℕ → ℕ → Bool
-  lineThere nx rows j = cond (ltb j rows) (lineRight bytes (rowPlace nx j) (4 * nx)) (eqb (readAt bytes (rowPlace nx j)) ended)
-
-  -- how many of these lines are right before the first that is bad, missing or surplus
-  unfoldable pub rightLines : ℕ → ℕ → ℕ
-  rightLines nx rows = leading (lineThere nx rows) (rows + 1)
-
-  -- 8: a line is bad, missing or surplus; the number of the first such line, from 1. Line 1, and then the others
+  -- line 1: four numbers of four digits
   abbrev pub firstLineRow : Checked
-  firstLineRow = cond (lineRight bytes 0 16) Passes (refuses 8 1)
+  firstLineRow = lineRow bytes 1 0 16
 
+  -- line j + 2 is row j
+  abbrev pub rowChecks : ℕ → ℕ → List Checked
+  rowChecks nx rows = below (λ (j : ℕ). lineRow bytes (j + 2) (rowPlace nx j) (4 * nx) ∷ []) rows
+
+  -- 8: a line is surplus, since something stands at p, behind the last row; the number of that line
+  abbrev pub surplusRow : ℕ → ℕ → Checked
+  surplusRow line p = cond (eqb (readAt bytes p) ended) Passes (refuses 8 line)
+
+  -- "then the rows, then the end of input": the first wrong line decides
   abbrev pub linesRow : ℕ → ℕ → Checked
-  linesRow nx rows = cond (eqb (rightLines nx rows) (rows + 1)) Passes (refuses 8 (rightLines nx rows + 2))
+  linesRow nx rows = inOrder (rowChecks nx rows ++ surplusRow (rows + 2) (rowPlace nx rows) ∷ [])
 
   -- the samples of a block, by rising index: "one line for each row of nx samples, four digits each, y before z"
   unfoldable pub samplesRead : Size → List ℕ

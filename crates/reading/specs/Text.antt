@@ -1,9 +1,10 @@
 -- Lines of upper-case hexadecimal (document 01, "The program"): digits, numbers and lines, over a list of bytes.
 use Prim.Native.Nat.{ℕ, zero, suc, _+_, _*_, _/_, _%_}
-use mathlib.Core.Bool.{Bool, _&&_}
+use mathlib.Core.Bool.{Bool, cond}
 use mathlib.Core.List.{List, [], _∷_, _++_}
 use lib.Dec.{ltb, eqb}
 use lib.ListN.{getD}
+use Rattle.laws.specs.Leading.{leading}
 use Rattle.block.specs.Rows.{lowest}
 
 -- the sixteen digits, as bytes: 0 to 9, then A to F
@@ -32,10 +33,13 @@ unfoldable pub numberAt : List ℕ → ℕ → ℕ → ℕ
 numberAt bytes p zero = 0
 numberAt bytes p (suc k) = numberAt bytes p k * 16 + digitOf (readAt bytes (p + k)) % 16
 
--- "lines of upper-case hexadecimal, each ended by one LF": n digits stand at p, and then LF
-unfoldable pub lineRight : List ℕ → ℕ → ℕ → Bool
-lineRight bytes p zero = eqb (readAt bytes p) LF
-lineRight bytes p (suc n) = isDigit (readAt bytes p) && lineRight bytes (p + 1) n
+-- "lines of upper-case hexadecimal, each ended by one LF": what is right in column c, from 0, of a line of n digits
+abbrev pub rightByte : ℕ → ℕ → ℕ → Bool
+rightByte n c b = cond (ltb c n) (isDigit b) (eqb b LF)
+
+-- how many bytes of the line of n digits that begins at p are right before the first wrong one; n + 1 where the line is right
+unfoldable pub rightBytes : List ℕ → ℕ → ℕ → ℕ
+rightBytes bytes p n = leading (λ (c : ℕ). rightByte n c (readAt bytes (p + c))) (n + 1)
 
 -- a number in k digits, the highest first
 unfoldable pub hexOf : ℕ → ℕ → List ℕ

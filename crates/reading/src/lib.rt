@@ -7,22 +7,16 @@ use block::Size;
 use block::Sized;
 ghost use mathlib.Core.Path.{_≡_};
 ghost use mathlib.Core.List.{[], _∷_};
-ghost use Prim.Native.Nat.{ℕ, _*_, _≤_, _<_};
+ghost use Prim.Native.Nat.{ℕ, _+_, _*_, _%_, _≤_, _<_};
 ghost use lib.ListN.{length};
 ghost use Rattle.laws.specs.Below.{below, over};
 ghost use Rattle.block.specs.declared.Checked.the-variants.{Refuses};
 ghost use Rattle.block.specs.Answer.{inOrder};
 ghost use Rattle.block.specs.Rows.{axisRow};
-ghost use Rattle.reading.specs.Text.{readAt, digitOf, numberAt};
-ghost use Rattle.reading.specs.Input.{lineThere, rightLines, firstLineRow, linesRow, largeRow, inputRows};
-ghost use Rattle.reading.specs.Steps.{rightByte, rightBytes, sampleRead};
-
-fn wide(b: u8) -> u16
-    ensures { λ r. ⌜ r ≡ b ⌝ }
-    ensures { λ r. ⌜ r < 256 ⌝ }
-{
-    b as u16
-}
+ghost use Rattle.reading.specs.Text.{readAt, digitOf, numberAt, rightByte, rightBytes};
+ghost use Rattle.reading.specs.Faults.{faultBy, faultRow, lineRow};
+ghost use Rattle.reading.specs.Input.{linesRow, largeRow, inputRows};
+ghost use Rattle.reading.specs.Steps.{sampleRead};
 
 // The byte at a place, or 256 for the end of the input.
 fn read_at(input: &[u8], at: usize) -> u16
@@ -30,7 +24,7 @@ fn read_at(input: &[u8], at: usize) -> u16
     ensures { λ r. ⌜ r ≤ 256 ⌝ }
 {
     if at < input.len() {
-        return wide(input[at]);
+        return input[at] as u16;
     }
     256
 }
@@ -56,15 +50,23 @@ fn digit(b: u16) -> u16
     16
 }
 
+// What the byte at a place counts in a number.
+fn digit_at(input: &[u8], at: usize) -> u16
+    ensures { λ r. ⌜ r ≡ digitOf (readAt (now (input .entry)) at) % 16 ⌝ }
+    ensures { λ r. ⌜ r < 16 ⌝ }
+{
+    digit(read_at(input, at)) % 16
+}
+
 // The number of four digits at a place.
 pub fn number(input: &[u8], at: usize) -> u16
     requires { ⌜ at < 65536 ⌝ }
     ensures { λ r. ⌜ r ≡ numberAt (now (input .entry)) at 4 ⌝ }
 {
-    let a = digit(read_at(input, at)) % 16;
-    let b = digit(read_at(input, at + 1)) % 16;
-    let c = digit(read_at(input, at + 2)) % 16;
-    let d = digit(read_at(input, at + 3)) % 16;
+    let a = digit_at(input, at);
+    let b = digit_at(input, at + 1);
+    let c = digit_at(input, at + 2);
+    let d = digit_at(input, at + 3);
     ((a * 16 + b) * 16 + c) * 16 + d
 }
 
@@ -83,6 +85,7 @@ fn right_byte(n: usize, column: usize, b: u16) -> bool
 fn right_bytes(input: &[u8], at: usize, n: usize) -> usize
     requires { ⌜ (at < 65536) × (n ≤ 32) ⌝ }
     ensures { λ r. ⌜ r ≡ rightBytes (now (input .entry)) at n ⌝ }
+    ensures { λ r. ⌜ r ≤ n + 1 ⌝ }
 {
     let mut column: usize = 0;
     while column <= n {
@@ -95,96 +98,86 @@ fn right_bytes(input: &[u8], at: usize, n: usize) -> usize
     column
 }
 
-// Whether line j + 2 is right: row j, or behind the last row the end of the input.
-fn line_there(input: &[u8], nx: usize, rows: usize, j: usize) -> bool
-    requires { ⌜ (nx ≤ 8) × (j ≤ 64) ⌝ }
-    ensures { λ r. ⌜ r ≡ lineThere (now (input .entry)) nx rows j ⌝ }
+// A row that holds.
+fn refuse(number: u32, value: u32) -> Checked
+    ensures { λ r. ⌜ r ≡ Refuses (record { number = number; value = value }) ⌝ }
 {
-    let at = 17 + j * (4 * nx + 1);
-    if j < rows {
-        return right_bytes(input, at, 4 * nx) == 4 * nx + 1;
-    }
-    read_at(input, at) == 256
-}
-
-// How many lines from line 2 on are right before the first that is not.
-fn right_lines(input: &[u8], nx: usize, rows: usize) -> usize
-    requires { ⌜ (nx ≤ 8) × (rows ≤ 64) ⌝ }
-    ensures { λ r. ⌜ r ≡ rightLines (now (input .entry)) nx rows ⌝ }
-    ensures { λ r. ⌜ r ≤ 65 ⌝ }
-{
-    let mut j: usize = 0;
-    while j <= rows {
-        if !line_there(input, nx, rows, j) {
-            return j;
-        }
-        j += 1;
-    }
-    j
-}
-
-// Row 8 of line 1.
-fn check_first_line(input: &[u8]) -> Checked
-    ensures { λ r. ⌜ r ≡ firstLineRow (now (input .entry)) ⌝ }
-{
-    if right_bytes(input, 0, 16) == 17 {
-        return Checked::Passes;
-    }
     Checked::Refuses(Refusal {
-        number: 8,
-        value: 1,
+        number: number,
+        value: value,
     })
 }
 
-// Row 8 of the other lines.
-fn check_lines(input: &[u8], nx: usize, rows: usize) -> Checked
+// What the first wrong byte of a line of n digits says of it: rows 8, 10, 11 and 12.
+fn fault(line: u32, n: usize, column: usize, b: u16) -> Checked
+    requires { ⌜ (line ≤ 65) × (column ≤ 32) ⌝ }
+    ensures { λ r. ⌜ r ≡ faultRow line (faultBy n column b) ⌝ }
+{
+    let value = 65536 * line + (column as u32 + 1);
+    if b == 256 {
+        if column == 0 {
+            return refuse(8, line);
+        }
+        return refuse(10, value);
+    }
+    if b == 10 {
+        return refuse(10, value);
+    }
+    if column == n {
+        return refuse(11, value);
+    }
+    refuse(12, value)
+}
+
+// The rows 8, 10, 11 and 12 of the line of n digits at a place.
+fn check_line(input: &[u8], line: u32, at: usize, n: usize) -> Checked
+    requires { ⌜ (line ≤ 65) × (at < 65536) × (n ≤ 32) ⌝ }
+    ensures { λ r. ⌜ r ≡ lineRow (now (input .entry)) line at n ⌝ }
+{
+    let column = right_bytes(input, at, n);
+    if column == n + 1 {
+        return Checked::Passes;
+    }
+    fault(line, n, column, read_at(input, at + column))
+}
+
+// The rows of the block, line by line, and what stands behind them: the first wrong line decides.
+fn check_lines(input: &[u8], nx: usize, rows: u32) -> Checked
     requires { ⌜ (nx ≤ 8) × (rows ≤ 64) ⌝ }
     ensures { λ r. ⌜ r ≡ linesRow (now (input .entry)) nx rows ⌝ }
 {
-    let right = right_lines(input, nx, rows);
-    if right == rows + 1 {
+    let mut at: usize = 17;
+    let mut j: u32 = 0;
+    while j < rows {
+        let row = check_line(input, j + 2, at, 4 * nx);
+        if let Checked::Refuses(r) = row {
+            return Checked::Refuses(r);
+        }
+        at += 4 * nx + 1;
+        j += 1;
+    }
+    if read_at(input, at) == 256 {
         return Checked::Passes;
     }
-    Checked::Refuses(Refusal {
-        number: 8,
-        value: (right + 2) as u32,
-    })
+    refuse(8, rows + 2)
 }
 
-// Row 1.
+// Rows 1 and 9.
 fn check_axes(nx: u32, ny: u32, nz: u32) -> Checked
-    ensures { λ r. ⌜ r ≡ axisRow nx ny nz ⌝ }
+    ensures { λ r. ⌜ r ≡ inOrder (axisRow nx ny nz ∷ largeRow nx ny nz ∷ []) ⌝ }
 {
-    match Size::new(nx, ny, nz) {
-        Sized::BadAxis(axis) => Checked::Refuses(Refusal {
-            number: 1,
-            value: axis,
-        }),
-        Sized::Made(_) => Checked::Passes,
+    let size = Size::new(nx, ny, nz);
+    if let Sized::BadAxis(axis) = size {
+        return refuse(1, axis);
     }
-}
-
-fn large(axis: u32) -> Checked
-    ensures { λ r. ⌜ r ≡ Refuses (record { number = 9; value = axis }) ⌝ }
-{
-    Checked::Refuses(Refusal {
-        number: 9,
-        value: axis,
-    })
-}
-
-// Row 9.
-fn check_large(nx: u32, ny: u32, nz: u32) -> Checked
-    ensures { λ r. ⌜ r ≡ largeRow nx ny nz ⌝ }
-{
     if nx > 8 {
-        return large(0);
+        return refuse(9, 0);
     }
     if ny > 8 {
-        return large(1);
+        return refuse(9, 1);
     }
     if nz > 8 {
-        return large(2);
+        return refuse(9, 2);
     }
     Checked::Passes
 }
@@ -193,7 +186,7 @@ fn check_large(nx: u32, ny: u32, nz: u32) -> Checked
 pub fn check(input: &[u8], nx: u32, ny: u32, nz: u32, t: u16) -> Checked
     ensures { λ r. ⌜ r ≡ inOrder (inputRows (now (input .entry)) (record { nx = nx; ny = ny; nz = nz }) (record { t = t })) ⌝ }
 {
-    let first = check_first_line(input);
+    let first = check_line(input, 1, 0, 16);
     if let Checked::Refuses(r) = first {
         return Checked::Refuses(r);
     }
@@ -201,15 +194,11 @@ pub fn check(input: &[u8], nx: u32, ny: u32, nz: u32, t: u16) -> Checked
     if let Checked::Refuses(r) = axes {
         return Checked::Refuses(r);
     }
-    let limit = check_large(nx, ny, nz);
-    if let Checked::Refuses(r) = limit {
-        return Checked::Refuses(r);
-    }
     let threshold = block::check_threshold(Cut { t: t });
     if let Checked::Refuses(r) = threshold {
         return Checked::Refuses(r);
     }
-    check_lines(input, nx as usize, (ny * nz) as usize)
+    check_lines(input, nx as usize, ny * nz)
 }
 
 // The samples over the front of a buffer.

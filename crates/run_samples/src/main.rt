@@ -1,6 +1,7 @@
 // Runs `lines::run` on stored inputs and writes, for each, its name and what it got: meshes of all kinds, each refusal that the program can
 // give, and each order of two. What it must write stands in the file stdout; `tests/oracle.py samples` makes that file from the cases below,
-// which stand in the order in which they are run. A number after a colon in a name is the number of the refusal.
+// which stand in the order in which they are run. A number after a colon in a name is the number of the refusal, and the words behind it say what its
+// value names; tests/samples holds them against the answer.
 use libc::STDOUT_FILENO;
 ghost use Prim.Native.Nat.{_≤_};
 ghost use mathlib.Core.Path.{_≡_};
@@ -202,99 +203,123 @@ fn long_axes() {
     );
 }
 
-// Refusal 8 at line 1: what is no line of sixteen digits.
+// Refusals 8, 10 and 11 at line 1: what is no line of sixteen digits.
 fn line_one() {
-    try_case(b"# empty input: 8\n");
+    try_case(b"# empty input: 8, line 1\n");
     try_case(
-        b"# only a line end: 8\n\
+        b"# only a line end: 10, line 1, column 1\n\
           \n",
     );
     try_case(
-        b"# line 1 without its end: 8\n\
+        b"# line 1 without its end: 10, line 1, column 17\n\
           0002000200020064",
     );
     try_case(
-        b"# line 1 one digit short: 8\n\
+        b"# line 1 one digit short: 10, line 1, column 16\n\
           000200020002006\n00C80000\n00000000\n00000000\n00000000\n",
     );
     try_case(
-        b"# line 1 one digit long: 8\n\
+        b"# line 1 one digit long: 11, line 1, column 17\n\
           00020002000200640\n00C80000\n00000000\n00000000\n00000000\n",
     );
     try_case(
-        b"# an empty line before line 1: 8\n\
+        b"# an empty line before line 1: 10, line 1, column 1\n\
           \n0002000200020064\n00C80000\n00000000\n00000000\n00000000\n",
     );
 }
 
-// Refusal 8 at line 1: a byte that is no digit.
-fn line_one_bytes() {
+// Refusals 10 and 11 at line 1, which is all that there is.
+fn line_one_alone() {
     try_case(
-        b"# CR before the end of line 1: 8\n\
-          0002000200020064\r\n00C80000\n00000000\n00000000\n00000000\n",
+        b"# one digit and the end: 10, line 1, column 2\n\
+          0",
     );
     try_case(
-        b"# CR in place of the end of line 1: 8\n\
-          0002000200020064\r00C80000\n00000000\n00000000\n00000000\n",
+        b"# fifteen digits and the end: 10, line 1, column 16\n\
+          000200020002006",
     );
     try_case(
-        b"# a NUL byte in line 1: 8\n\
-          \0002000200020064\n00C80000\n00000000\n00000000\n00000000\n",
-    );
-    try_case(
-        b"# a lower-case digit in line 1: 8\n\
-          000200020002006e\n00C80000\n00000000\n00000000\n00000000\n",
-    );
-    try_case(
-        b"# a blank in line 1: 8\n\
-          \x20002000200020064\n00C80000\n00000000\n00000000\n00000000\n",
-    );
-    try_case(
-        b"# a byte above 127 in line 1: 8\n\
-          000200020002006\xB4\n00C80000\n00000000\n00000000\n00000000\n",
+        b"# a letter in place of the end of line 1, and nothing behind it: 11, line 1, column 17\n\
+          0002000200020064x",
     );
 }
 
-// Refusal 8 at a row: a byte that is no digit, in line 3 or at the end of the last row, line 5.
+// Refusals 11 and 12 at line 1: a byte in place of its end, or one that is no digit.
+fn line_one_bytes() {
+    try_case(
+        b"# CR before the end of line 1: 11, line 1, column 17\n\
+          0002000200020064\r\n00C80000\n00000000\n00000000\n00000000\n",
+    );
+    try_case(
+        b"# CR in place of the end of line 1: 11, line 1, column 17\n\
+          0002000200020064\r00C80000\n00000000\n00000000\n00000000\n",
+    );
+    try_case(
+        b"# a NUL byte in line 1: 12, line 1, column 1\n\
+          \0002000200020064\n00C80000\n00000000\n00000000\n00000000\n",
+    );
+    try_case(
+        b"# a lower-case digit in line 1: 12, line 1, column 16\n\
+          000200020002006e\n00C80000\n00000000\n00000000\n00000000\n",
+    );
+    try_case(
+        b"# a blank in line 1: 12, line 1, column 1\n\
+          \x20002000200020064\n00C80000\n00000000\n00000000\n00000000\n",
+    );
+    try_case(
+        b"# a byte above 127 in line 1: 12, line 1, column 16\n\
+          000200020002006\xB4\n00C80000\n00000000\n00000000\n00000000\n",
+    );
+    try_case(
+        b"# a letter in the last column of line 1: 12, line 1, column 16\n\
+          000200020002006g",
+    );
+    try_case(
+        b"# two wrong bytes in line 1, which is short as well: 12, line 1, column 5\n\
+          0002g00200r2\n",
+    );
+}
+
+// Refusals 11 and 12 at a row: a byte in place of the end of line 3, or one that is no digit at the end of the last row, line 5.
 fn row_bytes() {
     try_case(
-        b"# CR before the end of a row: 8\n\
+        b"# CR before the end of a row: 11, line 3, column 9\n\
           0002000200020064\n00C80000\n00000000\r\n00000000\n00000000\n",
     );
     try_case(
-        b"# a NUL byte in a row: 8\n\
+        b"# a NUL byte in a row: 12, line 5, column 8\n\
           0002000200020064\n00C80000\n00000000\n00000000\n0000000\0\n",
     );
     try_case(
-        b"# a lower-case digit in a row: 8\n\
+        b"# a lower-case digit in a row: 12, line 5, column 8\n\
           0002000200020064\n00C80000\n00000000\n00000000\n0000000a\n",
     );
     try_case(
-        b"# a blank in a row: 8\n\
+        b"# a blank in a row: 12, line 5, column 8\n\
           0002000200020064\n00C80000\n00000000\n00000000\n0000000 \n",
     );
     try_case(
-        b"# a byte above 127 in a row: 8\n\
+        b"# a byte above 127 in a row: 12, line 5, column 8\n\
           0002000200020064\n00C80000\n00000000\n00000000\n0000000\xC6\n",
     );
 }
 
-// Refusal 8 at a row: the bytes beside the digits.
+// Refusal 12 at a row: the bytes beside the digits.
 fn row_neighbours() {
     try_case(
-        b"# the byte before 0 in a row: 8\n\
+        b"# the byte before 0 in a row: 12, line 5, column 8\n\
           0002000200020064\n00C80000\n00000000\n00000000\n0000000/\n",
     );
     try_case(
-        b"# the byte after 9 in a row: 8\n\
+        b"# the byte after 9 in a row: 12, line 5, column 8\n\
           0002000200020064\n00C80000\n00000000\n00000000\n0000000:\n",
     );
     try_case(
-        b"# the byte before A in a row: 8\n\
+        b"# the byte before A in a row: 12, line 5, column 8\n\
           0002000200020064\n00C80000\n00000000\n00000000\n0000000@\n",
     );
     try_case(
-        b"# the byte after F in a row: 8\n\
+        b"# the byte after F in a row: 12, line 5, column 8\n\
           0002000200020064\n00C80000\n00000000\n00000000\n0000000G\n",
     );
     try_case(
@@ -303,39 +328,55 @@ fn row_neighbours() {
     );
 }
 
-// Refusal 8 at a row: its length, and its number in a block of nine rows.
+// Refusals 10 and 11 at a row: its length; and 12, where a wrong character comes first.
 fn row_lengths() {
     try_case(
-        b"# a row one digit short: 8\n\
+        b"# a row one digit short: 10, line 3, column 8\n\
           0002000200020064\n00C80000\n0000000\n00000000\n00000000\n",
     );
     try_case(
-        b"# a row one digit long: 8\n\
+        b"# a row one digit long: 11, line 3, column 9\n\
           0002000200020064\n00C80000\n000000000\n00000000\n00000000\n",
     );
     try_case(
-        b"# an empty row: 8\n\
+        b"# an empty row: 10, line 3, column 1\n\
           0002000200020064\n00C80000\n\n00000000\n00000000\n",
     );
     try_case(
-        b"# the first row of nine bad: 8, line 2\n\
+        b"# a row of one sample instead of two: 10, line 2, column 5\n\
+          0002000200020064\n00C8\n00000000\n00000000\n00000000\n",
+    );
+    try_case(
+        b"# a row one digit short, with a letter behind: 10, line 3, column 8\n\
+          0002000200020064\n00C80000\n0000000\ng\n00000000\n",
+    );
+    try_case(
+        b"# a row that is long and has a letter: 12, line 3, column 2\n\
+          0002000200020064\n00C80000\n0g00000000\n00000000\n00000000\n",
+    );
+}
+
+// Refusals 10 and 12: the number of the row in a block of nine rows, and the first of two wrong rows.
+fn row_numbers() {
+    try_case(
+        b"# the first row of nine bad: 12, line 2, column 12\n\
           0003000300030064\n00000000000G\n000000000000\n000000000000\n000000000000\n000001900000\n000000000000\n000000000000\n000000000000\n000000000000\n",
     );
     try_case(
-        b"# the fifth row of nine bad: 8, line 6\n\
+        b"# the fifth row of nine bad: 12, line 6, column 1\n\
           0003000300030064\n000000000000\n000000000000\n000000000000\n000000000000\nG00000000000\n000000000000\n000000000000\n000000000000\n000000000000\n",
     );
     try_case(
-        b"# the last row of nine bad: 8, line 10\n\
+        b"# the last row of nine bad: 12, line 10, column 7\n\
           0003000300030064\n000000000000\n000000000000\n000000000000\n000000000000\n000001900000\n000000000000\n000000000000\n000000000000\n000000G00000\n",
     );
     try_case(
-        b"# the third and the fourth row bad: 8, line 4\n\
+        b"# the third and the fourth row bad: 10, line 4, column 5\n\
           0002000200020064\n00C80000\n00000000\n0000\n000G0000\n",
     );
 }
 
-// Refusal 8: a row that is missing or not ended, and bytes after the end.
+// Refusals 8 and 10: a row that is missing or not ended.
 fn ends() {
     try_case(
         b"# no rows: 8, line 2\n\
@@ -346,8 +387,24 @@ fn ends() {
           0002000200020064\n00C80000\n00000000\n00000000\n",
     );
     try_case(
-        b"# the last row not ended: 8, line 5\n\
+        b"# the last row not ended: 10, line 5, column 9\n\
           0002000200020064\n00C80000\n00000000\n00000000\n00000000",
+    );
+    try_case(
+        b"# one digit of the first row: 10, line 2, column 2\n\
+          0002000200020064\n0",
+    );
+    try_case(
+        b"# the paper's block without its last byte: 10, line 10, column 13\n\
+          0003000300030064\n000000000000\n000000000000\n000000000000\n000000000000\n000001900000\n000000000000\n000000000000\n000000000000\n000000000000",
+    );
+}
+
+// Refusal 8: bytes after the end of the last row.
+fn after_the_end() {
+    try_case(
+        b"# the paper's block with a line end behind it: 8, line 11\n\
+          0003000300030064\n000000000000\n000000000000\n000000000000\n000000000000\n000001900000\n000000000000\n000000000000\n000000000000\n000000000000\n\n",
     );
     try_case(
         b"# a line end after the last row: 8, line 6\n\
@@ -360,6 +417,10 @@ fn ends() {
     try_case(
         b"# a whole row too many: 8, line 6\n\
           0002000200020064\n00C80000\n00000000\n00000000\n00000000\n00000000\n",
+    );
+    try_case(
+        b"# a NUL byte after the last row: 8, line 6\n\
+          0002000200020064\n00C80000\n00000000\n00000000\n00000000\n\0",
     );
     try_case(
         b"# two rows too many, the second bad: 8, line 6\n\
@@ -391,35 +452,43 @@ fn ceilings() {
     );
 }
 
-// 8 of line 1 before 1, 9, 3 and a later line.
-fn eight_first() {
+// 8, 10, 11 and 12 of line 1 before 1, 9, 3 and a later line.
+fn line_one_first() {
     try_case(
-        b"# line 1 bad, an axis under 2: 8\n\
+        b"# line 1 long, an axis under 2: 11, line 1, column 17\n\
           0001000200020064 \n0000\n0000\n0000\n0000\n",
     );
     try_case(
-        b"# line 1 bad, an axis over 8: 8\n\
+        b"# line 1 long, an axis over 8: 11, line 1, column 17\n\
           0009000200020064 \n000000000000000000000000000000000000\n000000000000000000000000000000000000\n000000000000000000000000000000000000\n000000000000000000000000000000000000\n",
     );
     try_case(
-        b"# line 1 bad, threshold 0: 8\n\
+        b"# line 1 long, threshold 0: 11, line 1, column 17\n\
           0002000200020000 \n00C80000\n00000000\n00000000\n00000000\n",
     );
     try_case(
-        b"# line 1 bad, the last row missing: 8, line 1\n\
+        b"# line 1 long, the last row missing: 11, line 1, column 17\n\
           0002000200020064 \n00C80000\n00000000\n00000000\n",
     );
     try_case(
-        b"# line 1 bad, a row bad: 8, line 1\n\
+        b"# line 1 long, a row bad: 11, line 1, column 17\n\
           0002000200020064 \n00000000\n0000000G\n00000000\n00000000\n",
     );
     try_case(
-        b"# line 1 bad, axes and threshold wrong: 8\n\
+        b"# line 1 long, axes and threshold wrong: 11, line 1, column 17\n\
           000000090101FFFFG\n",
+    );
+    try_case(
+        b"# line 1 short, an axis over 8: 10, line 1, column 16\n\
+          000900020002006\n",
+    );
+    try_case(
+        b"# a letter in line 1, threshold 0: 12, line 1, column 13\n\
+          000200020002g000\n",
     );
 }
 
-// 1 before 9, 3 and 8, and with ceilings too.
+// 1 before 9, 3 and what is wrong with a row, and with ceilings too.
 fn one_first() {
     try_case(
         b"# axes 9, 1, 2: 1 before 9\n\
@@ -442,8 +511,16 @@ fn one_first() {
           0002000100020064\n",
     );
     try_case(
-        b"# an axis under 2, bad rows: 1 before 8\n\
+        b"# an axis under 2, bad rows: 1 before 12\n\
           0002000100020064\n0000000G\n000",
+    );
+    try_case(
+        b"# an axis under 2, a short row: 1 before 10\n\
+          0002000100020064\n0000\n00000000\n",
+    );
+    try_case(
+        b"# an axis under 2, a long row: 1 before 11\n\
+          0002000100020064\n000000000\n00000000\n",
     );
     try_case(
         b"# an axis under 2, every sample at the ceiling: 1\n\
@@ -451,7 +528,7 @@ fn one_first() {
     );
 }
 
-// 9 before 3 and 8, and with a ceiling too.
+// 9 before 3 and what is wrong with a row, and with a ceiling too.
 fn nine_first() {
     try_case(
         b"# an axis over 8, threshold 0: 9 before 3\n\
@@ -466,8 +543,16 @@ fn nine_first() {
           0009000200020064\n",
     );
     try_case(
-        b"# an axis over 8, bad rows: 9 before 8\n\
+        b"# an axis over 8, bad rows: 9 before 12\n\
           0009000200020064\nG\n000",
+    );
+    try_case(
+        b"# an axis over 8, a short row: 9 before 10\n\
+          0009000200020064\n00000000000000000000000000000000000\n",
+    );
+    try_case(
+        b"# an axis over 8, a long row: 9 before 11\n\
+          0009000200020064\n0000000000000000000000000000000000000\n",
     );
     try_case(
         b"# an axis over 8, a ceiling: 9\n\
@@ -475,19 +560,27 @@ fn nine_first() {
     );
 }
 
-// 3 before 8, and with a ceiling too.
+// 3 before what is wrong with a row, and with a ceiling too.
 fn three_first() {
     try_case(
         b"# threshold 0, no rows: 3 before 8\n\
           0002000200020000\n",
     );
     try_case(
-        b"# threshold FFFF, a bad row: 3 before 8\n\
+        b"# threshold FFFF, a bad row: 3 before 12\n\
           000200020002FFFF\n00C80000\n00000000\n0000000G\n00000000\n",
     );
     try_case(
         b"# threshold 0, a row too many: 3 before 8\n\
           0002000200020000\n00C80000\n00000000\n00000000\n00000000\n00000000\n",
+    );
+    try_case(
+        b"# threshold 0, a long row: 3 before 11\n\
+          0002000200020000\n00C800000\n00000000\n00000000\n00000000\n",
+    );
+    try_case(
+        b"# threshold 0, an empty row: 3 before 10\n\
+          0002000200020000\n\n00000000\n00000000\n00000000\n",
     );
     try_case(
         b"# threshold 0, a ceiling: 3\n\
@@ -522,7 +615,7 @@ fn ceilings_in_blocks() {
           000200020002FFFE\nFFFFFFFD\nFFFDFFFD\nFFFDFFFD\nFFFDFFFD\n",
     );
     try_case(
-        b"# a bad row with a ceiling in it: 8, line 3\n\
+        b"# a bad row with a ceiling in it: 12, line 3, column 8\n\
           0002000200020064\n00000000\nFFFF000G\n00000000\n00000000\n",
     );
 }
@@ -573,7 +666,7 @@ fn boards() {
         b"# a checkerboard of eight samples along each axis: the length of its mesh, and the first line\n",
         2129,
     );
-    try_board(b"# its last row not ended: 8, line 65\n", 2128);
+    try_board(b"# its last row not ended: 10, line 65, column 33\n", 2128);
     try_board(b"# a digit after its last row: 8, line 66\n", 2130);
 }
 
@@ -585,13 +678,16 @@ fn main() {
     short_axes();
     long_axes();
     line_one();
+    line_one_alone();
     line_one_bytes();
     row_bytes();
     row_neighbours();
     row_lengths();
+    row_numbers();
     ends();
+    after_the_end();
     ceilings();
-    eight_first();
+    line_one_first();
     one_first();
     nine_first();
     three_first();

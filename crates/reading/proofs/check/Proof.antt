@@ -1,9 +1,9 @@
--- `check` meets its contract: the first of five rows that refuses decides.
+-- `check` meets its contract: the first of the rows that refuses decides.
 -- Assumes nothing.
 use mathlib.Core.Path.{sym, _∙_}
 use native.Mathlib.Omega.{arith}
-use Rattle.reading.proofs.Axes.{at-most-eight}
-use Rattle.reading.proofs.Verdicts.{first-refuses, axes-refuse, large-refuses, threshold-refuses, lines-decide}
+use Rattle.reading.proofs.Axes.{both-pass}
+use Rattle.reading.proofs.Verdicts.{first-refuses, axes-refuse, threshold-refuses, lines-decide}
 use borrow.Author.Needs.{needs}
 use Rattle.reading.proofs.check.Statement.{statement}
 use Rattle.reading.proofs.check.Tie as tie
@@ -11,12 +11,11 @@ use Rattle.reading.proofs.check.Reads as reads
 use Rattle.reading.proofs.check.Lts as lts
 use Rattle.block.proofs.check_threshold.Reads as check-threshold-reads
 use Rattle.reading.proofs.check_axes.Reads as check-axes-reads
-use Rattle.reading.proofs.check_first_line.Reads as check-first-line-reads
-use Rattle.reading.proofs.check_large.Reads as check-large-reads
+use Rattle.reading.proofs.check_line.Reads as check-line-reads
 use Rattle.reading.proofs.check_lines.Reads as check-lines-reads
 
-check-first-line-requires : tie.Need-check-first-line-requires
-check-first-line-requires c κs = search needs
+check-line-requires : tie.Need-check-line-requires
+check-line-requires c κs = search needs
 
 enum-known-first : tie.Need-enum-known-first
 enum-known-first c = search needs
@@ -25,7 +24,7 @@ returns : tie.Need-returns
 returns c =
     let first = c .before .before .before in
     let a = first .before .before .args in
-    sym (first-refuses (a .input .now) (record { nx = a .nx; ny = a .ny; nz = a .nz }) (record { t = a .t }) _ (sym (first .check-first-line .ensures) ∙ c .before .first .given .1))
+    sym (first-refuses (a .input .now) (record { nx = a .nx; ny = a .ny; nz = a .nz }) (record { t = a .t }) _ (sym (first .check-line .ensures) ∙ c .before .first .given .1))
 
 enum-told : tie.Need-enum-told
 enum-told c = search needs
@@ -42,29 +41,10 @@ returns-2 c =
     let first = axes .before .before .before in
     let a = first .before .before .args in
     sym (axes-refuse (a .input .now) (record { nx = a .nx; ny = a .ny; nz = a .nz }) (record { t = a .t })
-    (sym (first .check-first-line .ensures) ∙ axes .before .enum-told .given .1) _ (sym (axes .check-axes .ensures) ∙ c .before .axes .given .1))
+    (sym (first .check-line .ensures) ∙ axes .before .enum-told .given .1) _ (sym (axes .check-axes .ensures) ∙ c .before .axes .given .1))
 
 enum-told-2 : tie.Need-enum-told-2
 enum-told-2 c = search needs
-
-check-large-requires : tie.Need-check-large-requires
-check-large-requires c κs = search needs
-
-enum-known-limit : tie.Need-enum-known-limit
-enum-known-limit c = search needs
-
-returns-3 : tie.Need-returns-3
-returns-3 c =
-    let large = c .before .before .before in
-    let axes = large .before .before .before in
-    let first = axes .before .before .before in
-    let a = first .before .before .args in
-    sym (large-refuses (a .input .now) (record { nx = a .nx; ny = a .ny; nz = a .nz }) (record { t = a .t })
-    (sym (first .check-first-line .ensures) ∙ axes .before .enum-told .given .1)
-    (sym (axes .check-axes .ensures) ∙ large .before .enum-told2 .given .1) _ (sym (large .check-large .ensures) ∙ c .before .limit .given .1))
-
-enum-told-3 : tie.Need-enum-told-3
-enum-told-3 c = search needs
 
 check-threshold-requires : tie.Need-check-threshold-requires
 check-threshold-requires c κs = search needs
@@ -72,61 +52,50 @@ check-threshold-requires c κs = search needs
 enum-known-threshold : tie.Need-enum-known-threshold
 enum-known-threshold c = search needs
 
-returns-4 : tie.Need-returns-4
-returns-4 c =
+returns-3 : tie.Need-returns-3
+returns-3 c =
     let threshold = c .before .before .before in
-    let large = threshold .before .before .before in
-    let axes = large .before .before .before in
+    let axes = threshold .before .before .before in
     let first = axes .before .before .before in
     let a = first .before .before .args in
     sym (threshold-refuses (a .input .now) (record { nx = a .nx; ny = a .ny; nz = a .nz }) (record { t = a .t })
-    (sym (first .check-first-line .ensures) ∙ axes .before .enum-told .given .1)
-    (sym (axes .check-axes .ensures) ∙ large .before .enum-told2 .given .1)
-    (sym (large .check-large .ensures) ∙ threshold .before .enum-told3 .given .1) _ (sym (threshold .check-threshold .ensures) ∙ c .before .threshold .given .1))
+    (sym (first .check-line .ensures) ∙ axes .before .enum-told .given .1)
+    (sym (axes .check-axes .ensures) ∙ threshold .before .enum-told2 .given .1) _ (sym (threshold .check-threshold .ensures) ∙ c .before .threshold .given .1))
 
-enum-told-4 : tie.Need-enum-told-4
-enum-told-4 c = search needs
+enum-told-3 : tie.Need-enum-told-3
+enum-told-3 c = search needs
 
 mul-check-lines : tie.Need-mul-check-lines
 mul-check-lines c =
     let h = c .before .before in
-    let l = h .before .before .before in
-    let eight = at-most-eight _ _ _ (sym (l .check-large .ensures) ∙ h .before .enum-told3 .given .1) in
-    omega (arith, eight .rows)
-
-cast-check-lines : tie.Need-cast-check-lines
-cast-check-lines c =
-    let h = c .before .before in
-    let l = h .before .before .before in
-    let eight = at-most-eight _ _ _ (sym (l .check-large .ensures) ∙ h .before .enum-told3 .given .1) in
+    let a = h .before .before .before in
+    let eight = both-pass _ _ _ (sym (a .check-axes .ensures) ∙ h .before .enum-told2 .given .1) in
     omega (arith, eight .rows)
 
 check-lines-requires : tie.Need-check-lines-requires
 check-lines-requires c κs =
     let h = c .before .before in
-    let l = h .before .before .before in
-    let eight = at-most-eight _ _ _ (sym (l .check-large .ensures) ∙ h .before .enum-told3 .given .1) in
+    let a = h .before .before .before in
+    let eight = both-pass _ _ _ (sym (a .check-axes .ensures) ∙ h .before .enum-told2 .given .1) in
     (eight .x, eight .rows)
 
-returns-5 : tie.Need-returns-5
-returns-5 c =
+returns-4 : tie.Need-returns-4
+returns-4 c =
     let threshold = c .before .before .before in
-    let large = threshold .before .before .before in
-    let axes = large .before .before .before in
+    let axes = threshold .before .before .before in
     let first = axes .before .before .before in
     let a = first .before .before .args in
     sym (lines-decide (a .input .now) (record { nx = a .nx; ny = a .ny; nz = a .nz }) (record { t = a .t })
-    (sym (first .check-first-line .ensures) ∙ axes .before .enum-told .given .1)
-    (sym (axes .check-axes .ensures) ∙ large .before .enum-told2 .given .1)
-    (sym (large .check-large .ensures) ∙ threshold .before .enum-told3 .given .1)
-    (sym (threshold .check-threshold .ensures) ∙ c .before .enum-told4 .given .1)
+    (sym (first .check-line .ensures) ∙ axes .before .enum-told .given .1)
+    (sym (axes .check-axes .ensures) ∙ threshold .before .enum-told2 .given .1)
+    (sym (threshold .check-threshold .ensures) ∙ c .before .enum-told3 .given .1)
     ∙ sym (c .check-lines .ensures))
 
 pub check-spec : {M : Type 1} → statement M
 check-spec =
     tie.close
     (tie.spec
-    check-first-line-requires
+    check-line-requires
     enum-known-first
     returns
     enum-told
@@ -134,15 +103,10 @@ check-spec =
     enum-known-axes
     returns-2
     enum-told-2
-    check-large-requires
-    enum-known-limit
-    returns-3
-    enum-told-3
     check-threshold-requires
     enum-known-threshold
-    returns-4
-    enum-told-4
+    returns-3
+    enum-told-3
     mul-check-lines
-    cast-check-lines
     check-lines-requires
-    returns-5)
+    returns-4)

@@ -37,8 +37,10 @@ returns c =
     let r = b .before in
     let d = r .before in
     let l = d .before in
-    let input = l .before .before .args .input .now in
-    wrong-at input _ _ _ (d .loop-test .taken) (l .loop .inv .1) (found-in input _ _ _ _ _ _ (r .read-at .ensures .0) (b .right-byte .ensures) (not-true _ (c .if1 .taken)))
+    let input = l .before .before .args .input .now in (
+      wrong-at input _ _ _ (d .loop-test .taken) (l .loop .inv .1) (found-in input _ _ _ _ _ _ (r .read-at .ensures .0) (b .right-byte .ensures) (not-true _ (c .if1 .taken))),
+      omega (arith, d .loop-test .taken),
+    )
 
 add-column : tie.Need-add-column Inv-loop μ-loop
 add-column c = search needs
@@ -55,7 +57,10 @@ loop-again c =
     (search needs, holds-more (rightAt input _ _) _ (l .loop .inv .1) (found-in input _ _ _ _ _ _ (r .read-at .ensures .0) (b .right-byte .ensures) (not-false _ (c .if1 .left))))
 
 returns-2 : tie.Need-returns-2 Inv-loop μ-loop
-returns-2 c = all-right (c .before .before .before .args .input .now) _ _ _ (omega (arith, c .loop-test .left, c .before .loop .inv .0)) (c .before .loop .inv .1)
+returns-2 c = (
+  all-right (c .before .before .before .args .input .now) _ _ _ (omega (arith, c .loop-test .left, c .before .loop .inv .0)) (c .before .loop .inv .1),
+  c .before .loop .inv .0,
+)
 
 pub right-bytes-spec : {M : Type 1} → statement M
 right-bytes-spec =

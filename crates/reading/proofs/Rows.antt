@@ -1,0 +1,143 @@
+-- The rows of a block, line by line, and what stands behind them: the first check that refuses decides.
+-- Assumes nothing.
+use Prim.Native.Nat.{ℕ, _+_, _*_, _≤_, _<_}
+use mathlib.Core.Path.{_≡_, refl, sym, ap, _∙_}
+use mathlib.Core.Bool.{Bool, true, false, cond}
+use mathlib.Core.Logic.{_⊎_, inl, inr}
+use mathlib.Core.List.{List, [], _∷_, _++_}
+use native.Mathlib.Nat.{eq-or-lt-of-le, le-of-suc-le-suc}
+use native.Mathlib.Numerals.{add-one}
+use native.Mathlib.Omega.{arith}
+use lib.Dec.{eqb}
+use lib.ListN.{length, getD, length-append, List·getD-append}
+use lib.Seq.{getD-at}
+use borrow.Author.Tests.{eqb-true, eq-eqb, ne-eqb}
+use Rattle.laws.proofs.Over.{each, each-length, each-at}
+use Rattle.laws.proofs.Tests.{lt-or-ge}
+use Rattle.block.specs.declared.Refusal.{Refusal}
+use Rattle.block.specs.declared.Checked.{Checked}
+use Rattle.block.specs.declared.Checked.the-variants.{Passes, Refuses}
+use Rattle.block.specs.Answer.{refuses, inOrder, First}
+use Rattle.block.proofs.Order.{passes-refuses, order-last, orders-pass, first-exactly, none-exactly}
+use Rattle.block.proofs.Rows.{given-small, holds-unless}
+use Rattle.reading.specs.Text.{ended, readAt}
+use Rattle.reading.specs.Faults.{lineRow}
+use Rattle.reading.specs.Input.{rowPlace, surplusRow, linesRow}
+
+-- ---- checks over an index, and one behind them
+
+module _ (f : ℕ → Checked) (n : ℕ) (last : Checked) where
+  at-index : (i : ℕ) → i < n → getD (each f n ++ last ∷ []) i Passes ≡ f i
+  at-index i h = List·getD-append (each f n) (last ∷ []) Passes i (rw (each-length f n) h) ∙ each-at f n i Passes h
+
+  pub index-refuses : (j : ℕ) (r : Refusal) → j < n → ((i : ℕ) → i < j → f i ≡ Passes) → f j ≡ Refuses r → inOrder (each f n ++ last ∷ []) ≡ Refuses r
+  index-refuses j r h before e =
+      first-exactly (each f n ++ last ∷ []) r .1
+      record {
+        place = j;
+        there = rw (length-append (each f n) (last ∷ []), each-length f n) (omega arith);
+        refuses = at-index j h ∙ e;
+        before = λ i l. at-index i (omega arith) ∙ before i l;
+      }
+
+  pub index-passes : ((i : ℕ) → i < n → f i ≡ Passes) → inOrder (each f n ++ last ∷ []) ≡ last
+  index-passes all =
+      orders-pass (each f n) (last ∷ []) (none-exactly (each f n) .1 (λ i l. each-at f n i Passes (rw (each-length f n) at l) ∙ all i (rw (each-length f n) at l)))
+      ∙ order-last last
+
+  pub index-all : inOrder (each f n ++ last ∷ []) ≡ Passes → ((i : ℕ) → i < n → f i ≡ Passes) × (last ≡ Passes)
+  index-all e =
+      let all = none-exactly (each f n ++ last ∷ []) .0 e in
+      let count : length (each f n ++ last ∷ []) ≡ n + 1 = length-append (each f n) (last ∷ []) ∙ ap (λ (m : ℕ). m + 1) (each-length f n) in (
+        λ i l. sym (at-index i l) ∙ all i (omega (arith, l, count)),
+        sym (getD-at (each f n) last [] Passes n (each-length f n)) ∙ all n (omega (arith, count)),
+      )
+
+  -- the first that refuses is one of them, or the one behind them
+  pub index-splits : (r : Refusal) → inOrder (each f n ++ last ∷ []) ≡ Refuses r
+      → ((j : ℕ) × (j < n) × ((i : ℕ) → i < j → f i ≡ Passes) × (f j ≡ Refuses r)) ⊎ (((i : ℕ) → i < n → f i ≡ Passes) × (last ≡ Refuses r))
+  index-splits r e = go (first-exactly (each f n ++ last ∷ []) r .0 e)
+    where
+      go : First (each f n ++ last ∷ []) r
+          → ((j : ℕ) × (j < n) × ((i : ℕ) → i < j → f i ≡ Passes) × (f j ≡ Refuses r)) ⊎ (((i : ℕ) → i < n → f i ≡ Passes) × (last ≡ Refuses r))
+      go h = at (lt-or-ge (h .place) n)
+        where
+          at : (h .place < n) ⊎ (n ≤ h .place) → ((j : ℕ) × (j < n) × ((i : ℕ) → i < j → f i ≡ Passes) × (f j ≡ Refuses r)) ⊎ (((i : ℕ) → i < n → f i ≡ Passes) × (last ≡ Refuses r))
+          at (inl l) = inl (h .place, l, (λ i k. sym (at-index i (omega (arith, k, l))) ∙ h .before i k), sym (at-index (h .place) l) ∙ h .refuses)
+          at (inr g) =
+              let here : h .place ≡ n = omega (arith, g, rw (length-append (each f n) (last ∷ []), each-length f n) at (h .there)) in
+              inr ((λ i k. sym (at-index i k) ∙ h .before i (omega (arith, k, here))), sym (getD-at (each f n) last [] Passes n (each-length f n)) ∙ rw here at (h .refuses))
+
+-- ---- the lines from line 2 on
+
+-- the place of the next row
+pub next-row : (nx j p : ℕ) → p ≡ rowPlace nx j → p + (4 * nx + 1) ≡ rowPlace nx (j + 1)
+next-row nx j p e = omega (arith, e)
+
+module _ (bytes : List ℕ) where
+  pub surplus-passes : (line p b : ℕ) → b ≡ readAt bytes p → b ≡ ended → Passes ≡ surplusRow bytes line p
+  surplus-passes line p b e h = rw (← e, eq-eqb b ended h)
+
+  pub surplus-refuses : (line p b : ℕ) → b ≡ readAt bytes p → (b ≡ ended → ⊥) → line ≤ 4294967295 → Refuses (record { number = 8; value = line }) ≡ surplusRow bytes line p
+  surplus-refuses line p b e h l = rw (← e, ne-eqb b ended h) (ap (λ (v : ℕ). Refuses (record { number = 8; value = v })) (sym (given-small line l)))
+
+  -- the check of row j
+  abbrev pub rowCheck : ℕ → ℕ → Checked
+  rowCheck nx j = lineRow bytes (j + 2) (rowPlace nx j) (4 * nx)
+
+  -- as the code finds it, at a place that it has reached
+  pub at-row : (nx j p : ℕ) (k : Checked) → p ≡ rowPlace nx j → k ≡ lineRow bytes (j + 2) p (4 * nx) → k ≡ rowCheck nx j
+  at-row nx j p k e h = h ∙ ap (λ (q : ℕ). lineRow bytes (j + 2) q (4 * nx)) e
+
+  pub rows-more : (nx j : ℕ) → ((i : ℕ) → i < j → rowCheck nx i ≡ Passes) → rowCheck nx j ≡ Passes → (i : ℕ) → i < j + 1 → rowCheck nx i ≡ Passes
+  rows-more nx j before e i h = go (eq-or-lt-of-le (le-of-suc-le-suc (rw (add-one j) at h)))
+    where
+      go : (i ≡ j) ⊎ (i < j) → rowCheck nx i ≡ Passes
+      go (inl q) = rw q e
+      go (inr l) = before i l
+
+  -- and what it says
+  pub surplus-said : (line p : ℕ) (x : Refusal) → line ≤ 4294967295 → surplusRow bytes line p ≡ Refuses x → (x .number ≡ 8) × (x .value ≡ line) × (readAt bytes p ≡ ended → ⊥)
+  surplus-said line p x l e =
+      let h = holds-unless (eqb (readAt bytes p) ended) 8 line x e in (
+        ap (λ (r : Refusal). r .number) h,
+        ap (λ (r : Refusal). r .value) h ∙ given-small line l,
+        λ k. passes-refuses (surplus-passes line p (readAt bytes p) refl k ∙ e),
+      )
+
+  pub surplus-none : (line p : ℕ) → surplusRow bytes line p ≡ Passes → readAt bytes p ≡ ended
+  surplus-none line p = go (eqb (readAt bytes p) ended) refl
+    where
+      go : (b : Bool) → eqb (readAt bytes p) ended ≡ b → cond b Passes (refuses 8 line) ≡ Passes → readAt bytes p ≡ ended
+      go true e h = eqb-true _ _ e
+      go false e h = absurd (passes-refuses (sym h))
+
+  module _ (nx rows : ℕ) where
+    -- a row refuses, and none before it
+    pub record RowAtFault (r : Refusal) : Type 0 where
+      pub row : ℕ
+      pub there : row < rows
+      pub before : (i : ℕ) → i < row → rowCheck nx i ≡ Passes
+      pub refuses : rowCheck nx row ≡ Refuses r
+
+    pub lines-split : (r : Refusal) → linesRow bytes nx rows ≡ Refuses r
+        → RowAtFault r ⊎ (((i : ℕ) → i < rows → rowCheck nx i ≡ Passes) × (surplusRow bytes (rows + 2) (rowPlace nx rows) ≡ Refuses r))
+    lines-split r e = go (index-splits (rowCheck nx) rows _ r e)
+      where
+        go : ((j : ℕ) × (j < rows) × ((i : ℕ) → i < j → rowCheck nx i ≡ Passes) × (rowCheck nx j ≡ Refuses r))
+            ⊎ (((i : ℕ) → i < rows → rowCheck nx i ≡ Passes) × (surplusRow bytes (rows + 2) (rowPlace nx rows) ≡ Refuses r))
+            → RowAtFault r ⊎ (((i : ℕ) → i < rows → rowCheck nx i ≡ Passes) × (surplusRow bytes (rows + 2) (rowPlace nx rows) ≡ Refuses r))
+        go (inl h) = inl (record { row = h .0; there = h .1; before = h .2; refuses = h .3 })
+        go (inr h) = inr h
+
+    pub row-refuses : (j : ℕ) (r : Refusal) → j < rows → ((i : ℕ) → i < j → rowCheck nx i ≡ Passes) → rowCheck nx j ≡ Refuses r → linesRow bytes nx rows ≡ Refuses r
+    row-refuses = index-refuses (rowCheck nx) rows _
+
+    rows-pass : ((i : ℕ) → i < rows → rowCheck nx i ≡ Passes) → linesRow bytes nx rows ≡ surplusRow bytes (rows + 2) (rowPlace nx rows)
+    rows-pass = index-passes (rowCheck nx) rows _
+
+    pub lines-all : linesRow bytes nx rows ≡ Passes → ((i : ℕ) → i < rows → rowCheck nx i ≡ Passes) × (surplusRow bytes (rows + 2) (rowPlace nx rows) ≡ Passes)
+    lines-all = index-all (rowCheck nx) rows _
+
+    pub behind-rows : (j p : ℕ) (k : Checked) → j ≡ rows → p ≡ rowPlace nx j → ((i : ℕ) → i < j → rowCheck nx i ≡ Passes) → k ≡ surplusRow bytes (rows + 2) p → k ≡ linesRow bytes nx rows
+    behind-rows j p k e at before h = h ∙ ap (λ (q : ℕ). surplusRow bytes (rows + 2) q) (at ∙ ap (rowPlace nx) e) ∙ sym (rows-pass (rw e at before))

@@ -1,0 +1,86 @@
+-- `fault` meets its contract: each return is one case of the first wrong byte.
+-- Assumes nothing.
+use mathlib.Core.Path.{_∙_}
+use native.Mathlib.Omega.{arith}
+use Rattle.reading.proofs.Faults.{missing-row, ended-row, early-row, long-row, wrong-row}
+use borrow.Author.Needs.{needs}
+use Rattle.reading.proofs.fault.Statement.{statement}
+use Rattle.reading.proofs.fault.Tie as tie
+use Rattle.reading.proofs.fault.Reads as reads
+use Rattle.reading.proofs.fault.Lts as lts
+use Rattle.reading.proofs.refuse.Reads as refuse-reads
+
+mul-value : tie.Need-mul-value
+mul-value c = search needs
+
+cast-value : tie.Need-cast-value
+cast-value c = search needs
+
+add-value : tie.Need-add-value
+add-value c = search needs
+
+add-value-2 : tie.Need-add-value-2
+add-value-2 c = search needs
+
+refuse-requires : tie.Need-refuse-requires
+refuse-requires c κs = search needs
+
+returns : tie.Need-returns
+returns c =
+    let s = c .before .before .before in
+    c .refuse .ensures ∙ missing-row (s .args .line) (s .args .n) _ _ (s .pre .0) (s .pre .1) _ _ (omega arith) (omega arith) (c .before .before .if1 .taken) (c .before .if2 .taken)
+
+refuse-requires-2 : tie.Need-refuse-requires-2
+refuse-requires-2 c κs = search needs
+
+returns-2 : tie.Need-returns-2
+returns-2 c =
+    let s = c .before .before .before in
+    c .refuse2 .ensures
+    ∙ ended-row (s .args .line) (s .args .n) _ _ (s .pre .0) (s .pre .1) _ _ (omega arith) (omega arith) (c .before .before .if1 .taken) (c .before .if2 .left)
+
+refuse-requires-3 : tie.Need-refuse-requires-3
+refuse-requires-3 c κs = search needs
+
+returns-3 : tie.Need-returns-3
+returns-3 c =
+    let s = c .before .before .before in
+    c .refuse3 .ensures
+    ∙ early-row (s .args .line) (s .args .n) _ _ (s .pre .0) (s .pre .1) _ _ (omega arith) (c .before .before .if1 .left) (omega arith) (c .before .if3 .taken)
+
+refuse-requires-4 : tie.Need-refuse-requires-4
+refuse-requires-4 c κs = search needs
+
+returns-4 : tie.Need-returns-4
+returns-4 c =
+    let s = c .before .before .before .before in
+    c .refuse4 .ensures
+    ∙ long-row (s .args .line) (s .args .n) _ _ (s .pre .0) (s .pre .1) _ _ (omega arith) (c .before .before .before .if1 .left) (c .before .before .if3 .left) (omega arith) (c .before .if4 .taken)
+
+refuse-requires-5 : tie.Need-refuse-requires-5
+refuse-requires-5 c κs = search needs
+
+returns-5 : tie.Need-returns-5
+returns-5 c =
+    let s = c .before .before .before .before in
+    c .refuse5 .ensures
+    ∙ wrong-row (s .args .line) (s .args .n) _ _ (s .pre .0) (s .pre .1) _ _ (omega arith) (c .before .before .before .if1 .left) (c .before .before .if3 .left) (omega arith) (c .before .if4 .left)
+
+pub fault-spec : {M : Type 1} → statement M
+fault-spec =
+    tie.close
+    (tie.spec
+    mul-value
+    cast-value
+    add-value
+    add-value-2
+    refuse-requires
+    returns
+    refuse-requires-2
+    returns-2
+    refuse-requires-3
+    returns-3
+    refuse-requires-4
+    returns-4
+    refuse-requires-5
+    returns-5)
