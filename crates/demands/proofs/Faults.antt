@@ -1,5 +1,4 @@
--- What the line of a refusal says to the clerk who reads it: where it is 8 or 10 to 12, it names the first wrong line of the input, and in it the first
--- wrong byte.
+-- What the line of a refusal says to the clerk who reads it: 8 names the first wrong line of the input, and 10 to 12 name it with its first wrong byte.
 use Prim.Native.Nat.{ℕ, _+_, _*_, _/_, _%_, _≤_, _<_}
 use mathlib.Core.Path.{_≡_, ap}
 use mathlib.Core.List.{List, [], _∷_, _++_}

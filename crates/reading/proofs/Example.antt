@@ -1,4 +1,5 @@
--- Inputs whose first wrong byte is named, computed (document 02, Two): each begins with axes 2, 2, 2 and threshold 100, or is no line yet.
+-- Inputs whose first wrong byte is named, computed (document 02, Two): each begins with axes 2, 2, 2 and threshold 100, or ends before
+-- line 1 is whole.
 -- Assumes nothing.
 use mathlib.Core.Path.{_≡_, refl}
 use mathlib.Core.List.{List, [], _∷_, _++_}

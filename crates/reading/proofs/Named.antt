@@ -1,4 +1,4 @@
--- What a refusal of the program names: the first wrong line, all lines before it being right, and in it the first wrong byte.
+-- What a refusal of the program names: the first wrong line, all lines before it being right, and in it the first wrong byte. And back: such a line decides.
 -- Assumes nothing.
 use Prim.Native.Nat.{ℕ, _+_, _-_, _*_, _/_, _%_, _≤_, _<_}
 use mathlib.Core.Path.{_≡_, refl, sym, ap, subst, _∙_}
@@ -8,18 +8,20 @@ use native.Mathlib.Omega.{arith}
 use borrow.Author.Tests.{ne-eqb}
 use Rattle.laws.proofs.Tests.{lt-or-ge}
 use Rattle.block.specs.declared.Refusal.{Refusal}
+use Rattle.block.specs.declared.Size.{Size}
+use Rattle.block.specs.declared.Checked.{Checked}
 use Rattle.block.specs.declared.Checked.the-variants.{Passes, Refuses}
 use Rattle.block.specs.Answer.{refuses}
 use Rattle.block.specs.Rows.{axisRow, thresholdRow}
-use Rattle.block.proofs.Order.{passes-refuses, order-first, order-rest, order-last}
+use Rattle.block.proofs.Order.{passes-refuses, order-passes, order-first, order-rest, order-last}
 use Rattle.block.proofs.Rows.{given-small}
 use Rattle.reading.specs.Text.{ended, readAt}
 use Rattle.reading.specs.Faults.{Fault, none, missing, short, long, wrong, faultAt, lineColumn, faultRow, lineRow}
-use Rattle.reading.specs.Input.{rowPlace, firstLineRow, surplusRow, largeRow, sizeRead, cutRead, inputVerdict}
+use Rattle.reading.specs.Input.{rowPlace, firstLineRow, surplusRow, linesRow, largeRow, sizeRead, cutRead, inputVerdict}
 use Rattle.reading.specs.Words.{lineStart, lineDigits, faultOf, LineIs, RightBefore, NamesByte, NamesLine}
 use Rattle.reading.proofs.Axes.{at-most-eight}
-use Rattle.reading.proofs.Rows.{rowCheck, RowAtFault, lines-split, lines-all, surplus-said, surplus-none}
-use Rattle.reading.proofs.Verdicts.{of-row, AtLines, verdict-splits}
+use Rattle.reading.proofs.Rows.{rowCheck, RowAtFault, row-refuses, rows-pass, lines-split, lines-all, surplus-said, surplus-none}
+use Rattle.reading.proofs.Verdicts.{first-refuses, lines-decide, of-row, AtLines, verdict-splits}
 use Rattle.reading.proofs.Words.{line-column-back, fault-exactly}
 
 -- ---- a line by its number
@@ -106,8 +108,10 @@ module _ (bytes : List ℕ) (nx : ℕ) where
           record {
             line-low = rw line (a .low);
             line-high = rw line (a .high);
+            line-few = rw line (a .few);
             column-low = rw column (omega arith);
             column-high = rw (line, column) (omega (arith, inside));
+            column-few = rw column (omega (arith, inside, a .narrow));
             earlier = rw line (a .earlier);
             here = rw (line, before, kind) is;
           }
@@ -190,6 +194,47 @@ module _ (bytes : List ℕ) (x : Refusal) where
       go (inr s) =
           let h = surplus-said bytes (rowsRead + 2) (rowPlace nxRead rowsRead) x (omega (arith, s .few)) (s .refuses) in
           record { line-low = rw (h .1) (omega arith); earlier = rw (h .1) (s .earlier); here = inr (h .1, h .2) }
+
+-- ---- and back: what the words say of an input decides its verdict
+
+module _ (bytes : List ℕ) (x : Refusal) where
+  abbrev head : Size
+  head = sizeRead bytes
+
+  abbrev width : ℕ
+  width = sizeRead bytes .nx
+
+  abbrev height : ℕ
+  height = sizeRead bytes .ny * sizeRead bytes .nz
+
+  check-of : (line : ℕ) (f : Fault) (k : Checked) → LineIs bytes width line f → faultRow line f ≡ k → lineRow bytes line (lineStart width line) (lineDigits width line) ≡ k
+  check-of line f k h e = ap (faultRow line) (fault-exactly bytes (lineStart width line) (lineDigits width line) f .1 h) ∙ e
+
+  -- a wrong line 1 comes before all else
+  pub first-line-decides : (f : Fault) → LineIs bytes (sizeRead bytes .nx) 1 f → faultRow 1 f ≡ Refuses x → inputVerdict bytes ≡ Refuses x
+  first-line-decides f h e = first-refuses bytes head (cutRead bytes) x (check-of 1 f (Refuses x) h e)
+
+  -- behind line 1, once rows 1, 9 and 3 pass, the first wrong line
+  module _ (axes : axisRow (sizeRead bytes .nx) (sizeRead bytes .ny) (sizeRead bytes .nz) ≡ Passes) (large : largeRow (sizeRead bytes .nx) (sizeRead bytes .ny) (sizeRead bytes .nz) ≡ Passes)
+      (cut : thresholdRow (cutRead bytes) ≡ Passes) where
+    to-lines : LineIs bytes width 1 none → inputVerdict bytes ≡ linesRow bytes width height
+    to-lines h =
+        lines-decide bytes head (cutRead bytes) (check-of 1 none Passes h refl)
+        (order-passes (axisRow (head .nx) (head .ny) (head .nz)) _ axes ∙ order-last _ ∙ large) cut
+
+    rows-before : (j : ℕ) → RightBefore bytes width (j + 2) → (i : ℕ) → i < j → rowCheck bytes width i ≡ Passes
+    rows-before j right i l = row-line bytes width i ∙ check-of (i + 2) none Passes (right (i + 2) (omega arith) (omega (arith, l))) refl
+
+    pub row-decides : (j : ℕ) (f : Fault) → j < sizeRead bytes .ny * sizeRead bytes .nz → RightBefore bytes (sizeRead bytes .nx) (j + 2)
+        → LineIs bytes (sizeRead bytes .nx) (j + 2) f → faultRow (j + 2) f ≡ Refuses x → inputVerdict bytes ≡ Refuses x
+    row-decides j f l right h e =
+        to-lines (right 1 (omega arith) (omega arith))
+        ∙ row-refuses bytes width height j x l (rows-before j right) (row-line bytes width j ∙ check-of (j + 2) f (Refuses x) h e)
+
+    pub surplus-decides : RightBefore bytes (sizeRead bytes .nx) (sizeRead bytes .ny * sizeRead bytes .nz + 2)
+        → (readAt bytes (rowPlace (sizeRead bytes .nx) (sizeRead bytes .ny * sizeRead bytes .nz)) ≡ ended → ⊥) → inputVerdict bytes ≡ refuses 8 (sizeRead bytes .ny * sizeRead bytes .nz + 2)
+    surplus-decides right h =
+        to-lines (right 1 (omega arith) (omega arith)) ∙ rows-pass bytes width height (rows-before height right) ∙ rw (ne-eqb (readAt bytes (rowPlace width height)) ended h)
 
 -- no refusal: all lines are right, and nothing stands behind the last row
 pub lines-right : (bytes : List ℕ) → inputVerdict bytes ≡ Passes

@@ -133,7 +133,7 @@ module _ (bytes : List ℕ) where
     pub row-refuses : (j : ℕ) (r : Refusal) → j < rows → ((i : ℕ) → i < j → rowCheck nx i ≡ Passes) → rowCheck nx j ≡ Refuses r → linesRow bytes nx rows ≡ Refuses r
     row-refuses = index-refuses (rowCheck nx) rows _
 
-    rows-pass : ((i : ℕ) → i < rows → rowCheck nx i ≡ Passes) → linesRow bytes nx rows ≡ surplusRow bytes (rows + 2) (rowPlace nx rows)
+    pub rows-pass : ((i : ℕ) → i < rows → rowCheck nx i ≡ Passes) → linesRow bytes nx rows ≡ surplusRow bytes (rows + 2) (rowPlace nx rows)
     rows-pass = index-passes (rowCheck nx) rows _
 
     pub lines-all : linesRow bytes nx rows ≡ Passes → ((i : ℕ) → i < rows → rowCheck nx i ≡ Passes) × (surplusRow bytes (rows + 2) (rowPlace nx rows) ≡ Passes)

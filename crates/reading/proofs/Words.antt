@@ -142,8 +142,8 @@ module _ (bytes : List ℕ) (p n : ℕ) where
   fault-one f g h k = sym (fault-back f h) ∙ fault-back g k
 
   -- "lines of upper-case hexadecimal, each ended by one LF"
-  pub line-exactly : FaultIs bytes p n none ↔ (((c : ℕ) → c < n → isDigit (readAt bytes (p + c)) ≡ true) × (readAt bytes (p + n) ≡ LF))
-  line-exactly = (there, back)
+  pub line-exactly : (faultAt bytes p n ≡ none) ↔ (((c : ℕ) → c < n → isDigit (readAt bytes (p + c)) ≡ true) × (readAt bytes (p + n) ≡ LF))
+  line-exactly = (λ e. there (fault-exactly none .0 e), λ h. fault-exactly none .1 (back h))
     where
       there : FaultIs bytes p n none → ((c : ℕ) → c < n → isDigit (readAt bytes (p + c)) ≡ true) × (readAt bytes (p + n) ≡ LF)
       there h = (

@@ -8,7 +8,7 @@ use Rattle.block.specs.declared.Checked.the-variants.{Passes}
 use Rattle.block.specs.Answer.{refuses}
 use Rattle.reading.specs.Text.{LF, ended, readAt, rightBytes}
 
--- what is wrong with a line; where its first wrong byte decides that, the column of this byte, from 0
+-- what is wrong with a line: nothing, or it is missing, short, long, or has a wrong character. The last three have the column, from 0, of its first wrong byte
 pub data Fault : Type 0 where
   none missing : Fault
   short long wrong : ℕ → Fault
@@ -26,7 +26,7 @@ faultAt bytes p n = cond (eqb (rightBytes bytes p n) (n + 1)) none (faultBy n (r
 abbrev pub lineColumn : ℕ → ℕ → ℕ
 lineColumn line c = 65536 * line + (c + 1)
 
--- 8: the line is missing; its number, from 1. 10: it is short; 11: it is long; 12: it has a wrong character; line and column
+-- 8: the line is missing; its number, from 1. 10, 11 and 12: it is short, it is long, or it has a wrong character; line and column
 abbrev pub faultRow : ℕ → Fault → Checked
 faultRow line none = Passes
 faultRow line missing = refuses 8 line

@@ -33,7 +33,7 @@ unfoldable pub numberAt : List ℕ → ℕ → ℕ → ℕ
 numberAt bytes p zero = 0
 numberAt bytes p (suc k) = numberAt bytes p k * 16 + digitOf (readAt bytes (p + k)) % 16
 
--- "lines of upper-case hexadecimal, each ended by one LF": what is right in column c, from 0, of a line of n digits
+-- "lines of upper-case hexadecimal, each ended by one LF": whether b is right in column c, from 0, of a line of n digits
 abbrev pub rightByte : ℕ → ℕ → ℕ → Bool
 rightByte n c b = cond (ltb c n) (isDigit b) (eqb b LF)
 

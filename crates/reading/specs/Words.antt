@@ -18,7 +18,7 @@ lineStart nx line = cond (eqb line 1) 0 (rowPlace nx (line - 2))
 abbrev pub lineDigits : ℕ → ℕ → ℕ
 lineDigits nx line = cond (eqb line 1) 16 (4 * nx)
 
--- 10 is for a short line, 11 for a long one, 12 for a wrong character
+-- 10 is for a short line, 11 for a long one, 12 for a wrong character. No higher number is given (`run-numbers`)
 abbrev pub faultOf : ℕ → ℕ → Fault
 faultOf number c = cond (eqb number 10) (short c) (cond (eqb number 11) (long c) (wrong c))
 
@@ -30,7 +30,8 @@ module _ (bytes : List ℕ) where
     pub there : readAt bytes (p + c) ≡ b
     pub not-right : rightByte n c b ≡ false
 
-  -- what it means that the line of n digits at p is right, missing, short, long, or has a wrong character
+  -- what it means that the line of n digits at p is right, missing, short, long, or has a wrong character. Short: "an early LF, or the end of input (counted as
+  -- a byte) past column 1". Long: "another byte in place of its LF", which is in column n; an LF is right there, so it is not the wrong byte
   abbrev pub FaultIs : ℕ → ℕ → Fault → Type 0
   FaultIs p n none = (c : ℕ) → c ≤ n → rightByte n c (readAt bytes (p + c)) ≡ true
   FaultIs p n missing = FirstWrong p n 0 ended
@@ -50,8 +51,10 @@ module _ (bytes : List ℕ) where
   pub record NamesByte (nx rows : ℕ) (x : Refusal) : Type 0 where
     pub line-low : 1 ≤ x .value / 65536
     pub line-high : x .value / 65536 ≤ rows + 1
+    pub line-few : x .value / 65536 ≤ 65
     pub column-low : 1 ≤ x .value % 65536
     pub column-high : x .value % 65536 ≤ lineDigits nx (x .value / 65536) + 1
+    pub column-few : x .value % 65536 ≤ 33
     pub earlier : RightBefore nx (x .value / 65536)
     pub here : LineIs nx (x .value / 65536) (faultOf (x .number) (x .value % 65536 - 1))
 

@@ -18,6 +18,11 @@ ghost use Rattle.reading.specs.Faults.{faultBy, faultRow, lineRow};
 ghost use Rattle.reading.specs.Input.{linesRow, largeRow, inputRows};
 ghost use Rattle.reading.specs.Steps.{sampleRead};
 
+// What ends a line, and what is read behind the last byte: no byte is 256.
+const LF: u16 = 10;
+
+const ENDED: u16 = 256;
+
 // The byte at a place, or 256 for the end of the input.
 fn read_at(input: &[u8], at: usize) -> u16
     ensures { λ r. ⌜ r ≡ readAt (now (input .entry)) at ⌝ }
@@ -26,7 +31,7 @@ fn read_at(input: &[u8], at: usize) -> u16
     if at < input.len() {
         return input[at] as u16;
     }
-    256
+    ENDED
 }
 
 // A digit's value, 16 for what is no digit.
@@ -78,7 +83,7 @@ fn right_byte(n: usize, column: usize, b: u16) -> bool
     if column < n {
         return digit(b) < 16;
     }
-    b == 10
+    b == LF
 }
 
 // How many bytes of the line of n digits at a place are right before the first wrong one.
@@ -98,7 +103,7 @@ fn right_bytes(input: &[u8], at: usize, n: usize) -> usize
     column
 }
 
-// A row that holds.
+// A refusal with this number and value.
 fn refuse(number: u32, value: u32) -> Checked
     ensures { λ r. ⌜ r ≡ Refuses (record { number = number; value = value }) ⌝ }
 {
@@ -114,13 +119,13 @@ fn fault(line: u32, n: usize, column: usize, b: u16) -> Checked
     ensures { λ r. ⌜ r ≡ faultRow line (faultBy n column b) ⌝ }
 {
     let value = 65536 * line + (column as u32 + 1);
-    if b == 256 {
+    if b == ENDED {
         if column == 0 {
             return refuse(8, line);
         }
         return refuse(10, value);
     }
-    if b == 10 {
+    if b == LF {
         return refuse(10, value);
     }
     if column == n {
@@ -156,7 +161,7 @@ fn check_lines(input: &[u8], nx: usize, rows: u32) -> Checked
         at += 4 * nx + 1;
         j += 1;
     }
-    if read_at(input, at) == 256 {
+    if read_at(input, at) == ENDED {
         return Checked::Passes;
     }
     refuse(8, rows + 2)

@@ -1,5 +1,5 @@
 // Runs `lines::run` on stored inputs and writes, for each, its name and what it got: meshes of all kinds, each refusal that the program can
-// give, and each order of two. What it must write stands in the file stdout; `tests/oracle.py samples` makes that file from the cases below,
+// give, and orders of two. What it must write stands in the file stdout; `tests/oracle.py samples` makes that file from the cases below,
 // which stand in the order in which they are run. A number after a colon in a name is the number of the refusal, and the words behind it say what its
 // value names; tests/samples holds them against the answer.
 use libc::STDOUT_FILENO;
@@ -351,6 +351,10 @@ fn row_lengths() {
           0002000200020064\n00C80000\n0000000\ng\n00000000\n",
     );
     try_case(
+        b"# a short row, and a row too many: 10, line 3, column 8\n\
+          0002000200020064\n00C80000\n0000000\n00000000\n00000000\n00000000\n",
+    );
+    try_case(
         b"# a row that is long and has a letter: 12, line 3, column 2\n\
           0002000200020064\n00C80000\n0g00000000\n00000000\n00000000\n",
     );
@@ -452,7 +456,7 @@ fn ceilings() {
     );
 }
 
-// 8, 10, 11 and 12 of line 1 before 1, 9, 3 and a later line.
+// 10, 11 and 12 of line 1 before 1, 9, 3 and a later line.
 fn line_one_first() {
     try_case(
         b"# line 1 long, an axis under 2: 11, line 1, column 17\n\
@@ -481,6 +485,14 @@ fn line_one_first() {
     try_case(
         b"# line 1 short, an axis over 8: 10, line 1, column 16\n\
           000900020002006\n",
+    );
+    try_case(
+        b"# line 1 short, an axis under 2, a long row: 10, line 1, column 16\n\
+          000100020002006\n00000\n",
+    );
+    try_case(
+        b"# a letter in line 1, an axis over 8, a short row: 12, line 1, column 1\n\
+          x009000200020064\n0000\n",
     );
     try_case(
         b"# a letter in line 1, threshold 0: 12, line 1, column 13\n\
