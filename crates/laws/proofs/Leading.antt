@@ -1,7 +1,7 @@
 -- Laws of `leading`, the first place at which a test fails: it is the only place before which all hold and at which the test does not.
 -- Assumes nothing.
 use Prim.Native.Nat.{ℕ, zero, suc, _+_, _≤_, _<_}
-use mathlib.Core.Path.{_≡_, refl, ap}
+use mathlib.Core.Path.{_≡_, refl, sym, ap, subst}
 use mathlib.Core.Bool.{Bool, true, false, cond}
 use mathlib.Core.Logic.{_⊎_, inl, inr}
 use native.Mathlib.Nat.{not-suc-le-zero, eq-or-lt-of-le, le-of-suc-le-suc}
@@ -16,12 +16,16 @@ HoldsTo f m = (i : ℕ) → i < m → f i ≡ true
 pub holds-to-none : (f : ℕ → Bool) → HoldsTo f 0
 holds-to-none f i h = absurd (not-suc-le-zero h)
 
-pub holds-more : (f : ℕ → Bool) (m : ℕ) → HoldsTo f m → f m ≡ true → HoldsTo f (m + 1)
-holds-more f m a e i h = go (eq-or-lt-of-le (le-of-suc-le-suc (rw (add-one m) at h)))
+-- what is so at each place before m, and at m
+pub before-more : (P : ℕ → Type 0) (m : ℕ) → ((i : ℕ) → i < m → P i) → P m → (i : ℕ) → i < m + 1 → P i
+before-more P m a e i h = go (eq-or-lt-of-le (le-of-suc-le-suc (rw (add-one m) at h)))
   where
-    go : (i ≡ m) ⊎ (i < m) → f i ≡ true
-    go (inl q) = rw q e
+    go : (i ≡ m) ⊎ (i < m) → P i
+    go (inl q) = subst P (sym q) e
     go (inr l) = a i l
+
+pub holds-more : (f : ℕ → Bool) (m : ℕ) → HoldsTo f m → f m ≡ true → HoldsTo f (m + 1)
+holds-more f = before-more (λ (i : ℕ). f i ≡ true)
 
 -- ---- what the first place is
 

@@ -10,33 +10,33 @@ use Rattle.block.specs.declared.Checked.the-variants.{Passes, Refuses}
 use Rattle.block.specs.Answer.{refuses}
 use Rattle.block.proofs.Rows.{given-small}
 use Rattle.reading.specs.Text.{LF, ended, readAt, rightBytes}
-use Rattle.reading.specs.Faults.{faultBy, faultAt, lineColumn, faultRow, lineRow}
+use Rattle.reading.specs.Faults.{Fault, missing, short, long, wrong, faultBy, faultAt, faultRow, lineRow}
+
+-- the cases of the first wrong byte
+module _ (n c b : ℕ) where
+  pub by-missing : b ≡ ended → c ≡ 0 → faultBy n c b ≡ missing
+  by-missing e z = rw (eq-eqb b ended e, eq-eqb c 0 z)
+
+  pub by-end : b ≡ ended → (c ≡ 0 → ⊥) → faultBy n c b ≡ short c
+  by-end e z = rw (eq-eqb b ended e, ne-eqb c 0 z)
+
+  module _ (h : b ≡ ended → ⊥) where
+    pub by-early : b ≡ LF → faultBy n c b ≡ short c
+    by-early e = rw (ne-eqb b ended h, eq-eqb b LF e)
+
+    module _ (f : b ≡ LF → ⊥) where
+      pub by-long : c ≡ n → faultBy n c b ≡ long c
+      by-long e = rw (ne-eqb b ended h, ne-eqb b LF f, eq-eqb c n e)
+
+      pub by-wrong : (c ≡ n → ⊥) → faultBy n c b ≡ wrong c
+      by-wrong e = rw (ne-eqb b ended h, ne-eqb b LF f, ne-eqb c n e)
 
 abbrev refusal : ℕ → ℕ → Checked
 refusal number value = Refuses (record { number = number; value = value })
 
-module _ (line n c b : ℕ) (small : line ≤ 65) (narrow : c ≤ 32) where
-  -- number and value as the code has them, and as the row gives them
-  told : (number k v w : ℕ) → k ≡ number → v ≡ w → w ≤ 4294967295 → refusal k v ≡ refuses number w
-  told number k v w e f h = rw (e, f) (ap (refusal number) (sym (given-small w h)))
-
-  pub missing-row : (k v : ℕ) → k ≡ 8 → v ≡ line → b ≡ ended → c ≡ 0 → refusal k v ≡ faultRow line (faultBy n c b)
-  missing-row k v e f h z = rw (eq-eqb b ended h, eq-eqb c 0 z) (told 8 k v line e f (omega (arith, small)))
-
-  module _ (k v : ℕ) (value : v ≡ lineColumn line c) where
-    pub ended-row : k ≡ 10 → b ≡ ended → (c ≡ 0 → ⊥) → refusal k v ≡ faultRow line (faultBy n c b)
-    ended-row e h z = rw (eq-eqb b ended h, ne-eqb c 0 z) (told 10 k v (lineColumn line c) e value (omega (arith, small, narrow)))
-
-    module _ (h : b ≡ ended → ⊥) where
-      pub early-row : k ≡ 10 → b ≡ LF → refusal k v ≡ faultRow line (faultBy n c b)
-      early-row e f = rw (ne-eqb b ended h, eq-eqb b LF f) (told 10 k v (lineColumn line c) e value (omega (arith, small, narrow)))
-
-      module _ (f : b ≡ LF → ⊥) where
-        pub long-row : k ≡ 11 → c ≡ n → refusal k v ≡ faultRow line (faultBy n c b)
-        long-row e z = rw (ne-eqb b ended h, ne-eqb b LF f, eq-eqb c n z) (told 11 k v (lineColumn line c) e value (omega (arith, small, narrow)))
-
-        pub wrong-row : k ≡ 12 → (c ≡ n → ⊥) → refusal k v ≡ faultRow line (faultBy n c b)
-        wrong-row e z = rw (ne-eqb b ended h, ne-eqb b LF f, ne-eqb c n z) (told 12 k v (lineColumn line c) e value (omega (arith, small, narrow)))
+-- number and value as the code has them are those of the fault's row, which are not cut
+pub row-of : (line number w : ℕ) {k v : ℕ} {f g : Fault} → g ≡ f → faultRow line f ≡ refuses number w → k ≡ number → v ≡ w → w ≤ 4294967295 → refusal k v ≡ faultRow line g
+row-of line number w by says e d small = rw (e, d) (ap (refusal number) (sym (given-small w small)) ∙ sym says ∙ ap (faultRow line) (sym by))
 
 module _ (bytes : List ℕ) (line p n c : ℕ) (found : c ≡ rightBytes bytes p n) where
   pub line-passes : c ≡ n + 1 → Passes ≡ lineRow bytes line p n

@@ -19,10 +19,10 @@ use Rattle.reading.specs.Text.{ended, readAt}
 use Rattle.reading.specs.Faults.{Fault, none, missing, short, long, wrong, faultAt, lineColumn, faultRow, lineRow}
 use Rattle.reading.specs.Input.{rowPlace, firstLineRow, surplusRow, linesRow, largeRow, sizeRead, cutRead, inputVerdict}
 use Rattle.reading.specs.Words.{lineStart, lineDigits, faultOf, LineIs, RightBefore, NamesByte, NamesLine}
-use Rattle.reading.proofs.Axes.{at-most-eight}
-use Rattle.reading.proofs.Rows.{rowCheck, RowAtFault, row-refuses, rows-pass, lines-split, lines-all, surplus-said, surplus-none}
+use Rattle.reading.proofs.Axes.{AtMostEight, at-most-eight}
+use Rattle.reading.proofs.Rows.{AllPass, FirstAmong, rowCheck, row-refuses, rows-pass, lines-split, lines-all, surplus-said, surplus-none}
 use Rattle.reading.proofs.Verdicts.{first-refuses, lines-decide, of-row, AtLines, verdict-splits}
-use Rattle.reading.proofs.Words.{line-column-back, fault-exactly}
+use Rattle.reading.proofs.Words.{line-column-back, columnOf, fault-exactly, inside-line}
 
 -- ---- a line by its number
 
@@ -51,7 +51,7 @@ module _ (bytes : List ℕ) (nx : ℕ) where
   line-right line e = fault-exactly bytes (lineStart nx line) (lineDigits nx line) none .0 (row-passes line (faultAt bytes (lineStart nx line) (lineDigits nx line)) e)
 
   -- line 1 and the rows before row j
-  right-before : (j : ℕ) → firstLineRow bytes ≡ Passes → ((i : ℕ) → i < j → rowCheck bytes nx i ≡ Passes) → RightBefore bytes nx (j + 2)
+  right-before : (j : ℕ) → firstLineRow bytes ≡ Passes → AllPass (rowCheck bytes nx) j → RightBefore bytes nx (j + 2)
   right-before j first rows m low h = go (lt-or-ge m 2)
     where
       go : (m < 2) ⊎ (2 ≤ m) → LineIs bytes nx m none
@@ -85,66 +85,62 @@ module _ (bytes : List ℕ) (nx : ℕ) where
       refuses = e;
     }
 
-    at-row : nx ≤ 8 → rows ≤ 64 → firstLineRow bytes ≡ Passes → RowAtFault bytes nx rows x → LineAtFault rows x
+    at-row : nx ≤ 8 → rows ≤ 64 → firstLineRow bytes ≡ Passes → FirstAmong (rowCheck bytes nx) rows x → LineAtFault rows x
     at-row hx hr first r = record {
-      line = r .row + 2;
+      line = r .place + 2;
       low = omega arith;
       high = omega (arith, r .there);
       few = omega (arith, r .there, hr);
-      narrow = rw (digits-row nx (r .row)) (omega (arith, hx));
-      earlier = right-before (r .row) first (r .before);
-      refuses = sym (row-line (r .row)) ∙ r .refuses;
+      narrow = rw (digits-row nx (r .place)) (omega (arith, hx));
+      earlier = right-before (r .place) first (r .before);
+      refuses = sym (row-line (r .place)) ∙ r .refuses;
     }
 
     -- ---- what it names
 
+    -- a byte, by the halves of the value, which are small
+    abbrev Byte : Type 0
+    Byte = (10 ≤ x .number) × NamesByte bytes nx rows x × (x .value / 65536 ≤ 65) × (x .value % 65536 ≤ 33)
+
+    abbrev Line : Type 0
+    Line = (x .number ≡ 8) × NamesLine bytes nx rows x
+
     module _ (a : LineAtFault rows x) where
-      names : (f : Fault) (c : ℕ) → LineIs bytes nx (a .line) f → c ≤ lineDigits nx (a .line) → x .value ≡ lineColumn (a .line) c → faultOf (x .number) c ≡ f → NamesByte bytes nx rows x
-      names f c is inside value kind =
+      byte : (m c : ℕ) (f : Fault) → 10 ≤ m → LineIs bytes nx (a .line) f → c ≤ lineDigits nx (a .line) → faultOf m c ≡ f → refuses m (lineColumn (a .line) c) ≡ Refuses x → Byte
+      byte m c f ten is inside kind e =
+          let told = of-row x m (lineColumn (a .line) c) e in
+          let value : x .value ≡ lineColumn (a .line) c = told .1 ∙ given-small (lineColumn (a .line) c) (omega (arith, inside, a .narrow, a .few)) in
           let back = line-column-back (a .line) c (omega (arith, inside, a .narrow)) in
           let line : x .value / 65536 ≡ a .line = ap (λ (v : ℕ). v / 65536) value ∙ back .0 in
           let column : x .value % 65536 ≡ c + 1 = ap (λ (v : ℕ). v % 65536) value ∙ back .1 in
-          let before : x .value % 65536 - 1 ≡ c = omega (arith, column) in
-          record {
-            line-low = rw line (a .low);
-            line-high = rw line (a .high);
-            line-few = rw line (a .few);
-            column-low = rw column (omega arith);
-            column-high = rw (line, column) (omega (arith, inside));
-            column-few = rw column (omega (arith, inside, a .narrow));
-            earlier = rw line (a .earlier);
-            here = rw (line, before, kind) is;
-          }
+          let before : x .value % 65536 - 1 ≡ c = omega (arith, column) in (
+            omega (arith, ten, told .0),
+            record {
+              line-low = rw line (a .low);
+              line-high = rw line (a .high);
+              column-low = rw column (omega arith);
+              earlier = rw line (a .earlier);
+              here = rw (told .0, line, before, kind) is;
+            },
+            rw line (a .few),
+            rw column (omega (arith, inside, a .narrow)),
+          )
 
-      -- a value that is not cut
-      value-is : (m c : ℕ) → c ≤ lineDigits nx (a .line) → refuses m (lineColumn (a .line) c) ≡ Refuses x → x .value ≡ lineColumn (a .line) c
-      value-is m c inside e = of-row x m (lineColumn (a .line) c) e .1 ∙ given-small (lineColumn (a .line) c) (omega (arith, inside, a .narrow, a .few))
-
-      byte-at : 10 ≤ x .number → NamesByte bytes nx rows x
-      byte-at ten = go (faultAt bytes (lineStart nx (a .line)) (lineDigits nx (a .line))) (fault-exactly bytes (lineStart nx (a .line)) (lineDigits nx (a .line)) _ .0 refl) (a .refuses)
+      named : Line ⊎ Byte
+      named = go (faultAt bytes (lineStart nx (a .line)) (lineDigits nx (a .line))) (fault-exactly bytes (lineStart nx (a .line)) (lineDigits nx (a .line)) _ .0 refl) (a .refuses)
         where
-          go : (f : Fault) → LineIs bytes nx (a .line) f → faultRow (a .line) f ≡ Refuses x → NamesByte bytes nx rows x
-          go none is e = absurd (passes-refuses e)
-          go missing is e = absurd (omega (arith, ten, of-row x 8 (a .line) e .0))
-          go (short c) is e = names (short c) c is (inside is) (value-is 10 c (inside is) e) (rw (of-row x 10 (lineColumn (a .line) c) e .0))
-            where
-              inside : LineIs bytes nx (a .line) (short c) → c ≤ lineDigits nx (a .line)
-              inside (inl h) = h .inside
-              inside (inr h) = h .0 .inside
-          go (long c) is e = names (long c) c is (is .1 .inside) (value-is 11 c (is .1 .inside) e) (rw (of-row x 11 (lineColumn (a .line) c) e .0))
-          go (wrong c) is e = names (wrong c) c is (is .1 .inside) (value-is 12 c (is .1 .inside) e) (rw (of-row x 12 (lineColumn (a .line) c) e .0))
+          inside : (f : Fault) → LineIs bytes nx (a .line) f → columnOf f ≤ lineDigits nx (a .line)
+          inside = inside-line bytes (lineStart nx (a .line)) (lineDigits nx (a .line))
 
-      line-at : x .number ≡ 8 → NamesLine bytes nx rows x
-      line-at eight = go (faultAt bytes (lineStart nx (a .line)) (lineDigits nx (a .line))) (fault-exactly bytes (lineStart nx (a .line)) (lineDigits nx (a .line)) _ .0 refl) (a .refuses)
-        where
-          go : (f : Fault) → LineIs bytes nx (a .line) f → faultRow (a .line) f ≡ Refuses x → NamesLine bytes nx rows x
+          go : (f : Fault) → LineIs bytes nx (a .line) f → faultRow (a .line) f ≡ Refuses x → Line ⊎ Byte
           go none is e = absurd (passes-refuses e)
           go missing is e =
-              let line : x .value ≡ a .line = of-row x 8 (a .line) e .1 ∙ given-small (a .line) (omega (arith, a .few)) in
-              record { line-low = rw line (a .low); earlier = rw line (a .earlier); here = inl (rw line (a .high), rw line is) }
-          go (short c) is e = absurd (omega (arith, eight, of-row x 10 (lineColumn (a .line) c) e .0))
-          go (long c) is e = absurd (omega (arith, eight, of-row x 11 (lineColumn (a .line) c) e .0))
-          go (wrong c) is e = absurd (omega (arith, eight, of-row x 12 (lineColumn (a .line) c) e .0))
+              let told = of-row x 8 (a .line) e in
+              let line : x .value ≡ a .line = told .1 ∙ given-small (a .line) (omega (arith, a .few)) in
+              inl (told .0, record { line-low = rw line (a .low); earlier = rw line (a .earlier); here = inl (rw line (a .high), rw line is) })
+          go (short c) is e = inr (byte 10 c (short c) (omega arith) is (inside (short c) is) refl e)
+          go (long c) is e = inr (byte 11 c (long c) (omega arith) is (inside (long c) is) refl e)
+          go (wrong c) is e = inr (byte 12 c (wrong c) (omega arith) is (inside (wrong c) is) refl e)
 
 -- ---- the whole input
 
@@ -155,45 +151,49 @@ module _ (bytes : List ℕ) (x : Refusal) where
   abbrev rowsRead : ℕ
   rowsRead = sizeRead bytes .ny * sizeRead bytes .nz
 
-  -- something stands behind the last row
-  pub record Surplus : Type 0 where
-    pub few : rowsRead ≤ 64
-    pub earlier : RightBefore bytes nxRead (rowsRead + 2)
-    pub refuses : surplusRow bytes (rowsRead + 2) (rowPlace nxRead rowsRead) ≡ Refuses x
-
-  at-fault : inputVerdict bytes ≡ Refuses x → (x .number ≡ 8) ⊎ (10 ≤ x .number) → LineAtFault bytes nxRead rowsRead x ⊎ Surplus
-  at-fault e n = go (verdict-splits bytes x n e)
+  -- a refusal that speaks of a line names it, or the byte in it
+  found : inputVerdict bytes ≡ Refuses x → (x .number ≡ 8) ⊎ (10 ≤ x .number) → Line bytes nxRead rowsRead x ⊎ Byte bytes nxRead rowsRead x
+  found e n = go (verdict-splits bytes x n e)
     where
-      rows : AtLines bytes x → LineAtFault bytes nxRead rowsRead x ⊎ Surplus
+      rows : AtLines bytes x → Line bytes nxRead rowsRead x ⊎ Byte bytes nxRead rowsRead x
       rows h = split (lines-split bytes nxRead rowsRead x (h .lines))
         where
-          split : RowAtFault bytes nxRead rowsRead x
-              ⊎ (((i : ℕ) → i < rowsRead → rowCheck bytes nxRead i ≡ Passes) × (surplusRow bytes (rowsRead + 2) (rowPlace nxRead rowsRead) ≡ Refuses x))
-              → LineAtFault bytes nxRead rowsRead x ⊎ Surplus
-          split (inl r) = let eight = at-most-eight _ _ _ (h .large) in inl (at-row bytes nxRead rowsRead x (eight .x) (eight .rows) (h .first) r)
-          split (inr r) = inr (record { few = at-most-eight _ _ _ (h .large) .rows; earlier = right-before bytes nxRead rowsRead (h .first) (r .0); refuses = r .1 })
+          eight : AtMostEight (sizeRead bytes .nx) (sizeRead bytes .ny) (sizeRead bytes .nz)
+          eight = at-most-eight _ _ _ (h .large)
 
-      go : (firstLineRow bytes ≡ Refuses x) ⊎ AtLines bytes x → LineAtFault bytes nxRead rowsRead x ⊎ Surplus
-      go (inl f) = inl (at-first bytes nxRead rowsRead x f)
+          split : FirstAmong (rowCheck bytes nxRead) rowsRead x ⊎ (AllPass (rowCheck bytes nxRead) rowsRead × (surplusRow bytes (rowsRead + 2) (rowPlace nxRead rowsRead) ≡ Refuses x))
+              → Line bytes nxRead rowsRead x ⊎ Byte bytes nxRead rowsRead x
+          split (inl r) = named bytes nxRead rowsRead x (at-row bytes nxRead rowsRead x (eight .x) (eight .rows) (h .first) r)
+          split (inr r) =
+              let s = surplus-said bytes (rowsRead + 2) (rowPlace nxRead rowsRead) x (omega (arith, eight .rows)) (r .1) in
+              inl (s .0, record { line-low = rw (s .1) (omega arith); earlier = rw (s .1) (right-before bytes nxRead rowsRead (h .first) (r .0)); here = inr (s .1, s .2) })
+
+      go : (firstLineRow bytes ≡ Refuses x) ⊎ AtLines bytes x → Line bytes nxRead rowsRead x ⊎ Byte bytes nxRead rowsRead x
+      go (inl f) = named bytes nxRead rowsRead x (at-first bytes nxRead rowsRead x f)
       go (inr h) = rows h
+
+  the-byte : inputVerdict bytes ≡ Refuses x → 10 ≤ x .number → Byte bytes nxRead rowsRead x
+  the-byte e ten = go (found e (inr ten))
+    where
+      go : Line bytes nxRead rowsRead x ⊎ Byte bytes nxRead rowsRead x → Byte bytes nxRead rowsRead x
+      go (inl h) = absurd (omega (arith, ten, h .0))
+      go (inr h) = h
 
   -- 10, 11 and 12: the byte that the value names is the first wrong one, of the first wrong line
   pub byte-named : inputVerdict bytes ≡ Refuses x → 10 ≤ x .number → NamesByte bytes (sizeRead bytes .nx) (sizeRead bytes .ny * sizeRead bytes .nz) x
-  byte-named e ten = go (at-fault e (inr ten))
-    where
-      go : LineAtFault bytes nxRead rowsRead x ⊎ Surplus → NamesByte bytes nxRead rowsRead x
-      go (inl a) = byte-at bytes nxRead rowsRead x a ten
-      go (inr s) = absurd (omega (arith, ten, surplus-said bytes (rowsRead + 2) (rowPlace nxRead rowsRead) x (omega (arith, s .few)) (s .refuses) .0))
+  byte-named e ten = the-byte e ten .1
+
+  -- line and column are so small that the value is not cut
+  pub byte-small : inputVerdict bytes ≡ Refuses x → 10 ≤ x .number → (x .value / 65536 ≤ 65) × (x .value % 65536 ≤ 33)
+  byte-small e ten = let h = the-byte e ten in (h .2, h .3)
 
   -- 8: the line that the value names is missing or surplus, and all lines before it are right
   pub line-named : inputVerdict bytes ≡ Refuses x → x .number ≡ 8 → NamesLine bytes (sizeRead bytes .nx) (sizeRead bytes .ny * sizeRead bytes .nz) x
-  line-named e eight = go (at-fault e (inl eight))
+  line-named e eight = go (found e (inl eight))
     where
-      go : LineAtFault bytes nxRead rowsRead x ⊎ Surplus → NamesLine bytes nxRead rowsRead x
-      go (inl a) = line-at bytes nxRead rowsRead x a eight
-      go (inr s) =
-          let h = surplus-said bytes (rowsRead + 2) (rowPlace nxRead rowsRead) x (omega (arith, s .few)) (s .refuses) in
-          record { line-low = rw (h .1) (omega arith); earlier = rw (h .1) (s .earlier); here = inr (h .1, h .2) }
+      go : Line bytes nxRead rowsRead x ⊎ Byte bytes nxRead rowsRead x → NamesLine bytes nxRead rowsRead x
+      go (inl h) = h .1
+      go (inr h) = absurd (omega (arith, eight, h .0))
 
 -- ---- and back: what the words say of an input decides its verdict
 
@@ -222,14 +222,14 @@ module _ (bytes : List ℕ) (x : Refusal) where
         lines-decide bytes head (cutRead bytes) (check-of 1 none Passes h refl)
         (order-passes (axisRow (head .nx) (head .ny) (head .nz)) _ axes ∙ order-last _ ∙ large) cut
 
-    rows-before : (j : ℕ) → RightBefore bytes width (j + 2) → (i : ℕ) → i < j → rowCheck bytes width i ≡ Passes
+    rows-before : (j : ℕ) → RightBefore bytes width (j + 2) → AllPass (rowCheck bytes width) j
     rows-before j right i l = row-line bytes width i ∙ check-of (i + 2) none Passes (right (i + 2) (omega arith) (omega (arith, l))) refl
 
     pub row-decides : (j : ℕ) (f : Fault) → j < sizeRead bytes .ny * sizeRead bytes .nz → RightBefore bytes (sizeRead bytes .nx) (j + 2)
         → LineIs bytes (sizeRead bytes .nx) (j + 2) f → faultRow (j + 2) f ≡ Refuses x → inputVerdict bytes ≡ Refuses x
     row-decides j f l right h e =
         to-lines (right 1 (omega arith) (omega arith))
-        ∙ row-refuses bytes width height j x l (rows-before j right) (row-line bytes width j ∙ check-of (j + 2) f (Refuses x) h e)
+        ∙ row-refuses bytes width height x (record { place = j; there = l; before = rows-before j right; refuses = row-line bytes width j ∙ check-of (j + 2) f (Refuses x) h e })
 
     pub surplus-decides : RightBefore bytes (sizeRead bytes .nx) (sizeRead bytes .ny * sizeRead bytes .nz + 2)
         → (readAt bytes (rowPlace (sizeRead bytes .nx) (sizeRead bytes .ny * sizeRead bytes .nz)) ≡ ended → ⊥) → inputVerdict bytes ≡ refuses 8 (sizeRead bytes .ny * sizeRead bytes .nz + 2)

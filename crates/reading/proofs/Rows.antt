@@ -5,8 +5,6 @@ use mathlib.Core.Path.{_≡_, refl, sym, ap, _∙_}
 use mathlib.Core.Bool.{Bool, true, false, cond}
 use mathlib.Core.Logic.{_⊎_, inl, inr}
 use mathlib.Core.List.{List, [], _∷_, _++_}
-use native.Mathlib.Nat.{eq-or-lt-of-le, le-of-suc-le-suc}
-use native.Mathlib.Numerals.{add-one}
 use native.Mathlib.Omega.{arith}
 use lib.Dec.{eqb}
 use lib.ListN.{length, getD, length-append, List·getD-append}
@@ -26,47 +24,67 @@ use Rattle.reading.specs.Input.{rowPlace, surplusRow, linesRow}
 
 -- ---- checks over an index, and one behind them
 
+-- the first n pass
+abbrev pub AllPass : (ℕ → Checked) → ℕ → Type 0
+AllPass f n = (i : ℕ) → i < n → f i ≡ Passes
+
+-- one of the first n refuses so, and none before it
+pub record FirstAmong (f : ℕ → Checked) (n : ℕ) (r : Refusal) : Type 0 where
+  pub place : ℕ
+  pub there : place < n
+  pub before : AllPass f place
+  pub refuses : f place ≡ Refuses r
+
 module _ (f : ℕ → Checked) (n : ℕ) (last : Checked) where
-  at-index : (i : ℕ) → i < n → getD (each f n ++ last ∷ []) i Passes ≡ f i
+  abbrev checks : List Checked
+  checks = each f n ++ last ∷ []
+
+  checks-length : length checks ≡ n + 1
+  checks-length = length-append (each f n) (last ∷ []) ∙ ap (λ (m : ℕ). m + 1) (each-length f n)
+
+  at-index : (i : ℕ) → i < n → getD checks i Passes ≡ f i
   at-index i h = List·getD-append (each f n) (last ∷ []) Passes i (rw (each-length f n) h) ∙ each-at f n i Passes h
 
-  pub index-refuses : (j : ℕ) (r : Refusal) → j < n → ((i : ℕ) → i < j → f i ≡ Passes) → f j ≡ Refuses r → inOrder (each f n ++ last ∷ []) ≡ Refuses r
-  index-refuses j r h before e =
-      first-exactly (each f n ++ last ∷ []) r .1
+  at-last : getD checks n Passes ≡ last
+  at-last = getD-at (each f n) last [] Passes n (each-length f n)
+
+  index-refuses : (r : Refusal) → FirstAmong f n r → inOrder checks ≡ Refuses r
+  index-refuses r h =
+      first-exactly checks r .1
       record {
-        place = j;
-        there = rw (length-append (each f n) (last ∷ []), each-length f n) (omega arith);
-        refuses = at-index j h ∙ e;
-        before = λ i l. at-index i (omega arith) ∙ before i l;
+        place = h .place;
+        there = omega (arith, checks-length, h .there);
+        refuses = at-index (h .place) (h .there) ∙ h .refuses;
+        before = λ i l. at-index i (omega (arith, l, h .there)) ∙ h .before i l;
       }
 
-  pub index-passes : ((i : ℕ) → i < n → f i ≡ Passes) → inOrder (each f n ++ last ∷ []) ≡ last
+  index-passes : AllPass f n → inOrder checks ≡ last
   index-passes all =
       orders-pass (each f n) (last ∷ []) (none-exactly (each f n) .1 (λ i l. each-at f n i Passes (rw (each-length f n) at l) ∙ all i (rw (each-length f n) at l)))
       ∙ order-last last
 
-  pub index-all : inOrder (each f n ++ last ∷ []) ≡ Passes → ((i : ℕ) → i < n → f i ≡ Passes) × (last ≡ Passes)
+  index-all : inOrder checks ≡ Passes → AllPass f n × (last ≡ Passes)
   index-all e =
-      let all = none-exactly (each f n ++ last ∷ []) .0 e in
-      let count : length (each f n ++ last ∷ []) ≡ n + 1 = length-append (each f n) (last ∷ []) ∙ ap (λ (m : ℕ). m + 1) (each-length f n) in (
-        λ i l. sym (at-index i l) ∙ all i (omega (arith, l, count)),
-        sym (getD-at (each f n) last [] Passes n (each-length f n)) ∙ all n (omega (arith, count)),
-      )
+      let all = none-exactly checks .0 e in
+      (λ i l. sym (at-index i l) ∙ all i (omega (arith, l, checks-length)), sym at-last ∙ all n (omega (arith, checks-length)))
 
   -- the first that refuses is one of them, or the one behind them
-  pub index-splits : (r : Refusal) → inOrder (each f n ++ last ∷ []) ≡ Refuses r
-      → ((j : ℕ) × (j < n) × ((i : ℕ) → i < j → f i ≡ Passes) × (f j ≡ Refuses r)) ⊎ (((i : ℕ) → i < n → f i ≡ Passes) × (last ≡ Refuses r))
-  index-splits r e = go (first-exactly (each f n ++ last ∷ []) r .0 e)
+  index-splits : (r : Refusal) → inOrder checks ≡ Refuses r → FirstAmong f n r ⊎ (AllPass f n × (last ≡ Refuses r))
+  index-splits r e = go (first-exactly checks r .0 e)
     where
-      go : First (each f n ++ last ∷ []) r
-          → ((j : ℕ) × (j < n) × ((i : ℕ) → i < j → f i ≡ Passes) × (f j ≡ Refuses r)) ⊎ (((i : ℕ) → i < n → f i ≡ Passes) × (last ≡ Refuses r))
+      go : First checks r → FirstAmong f n r ⊎ (AllPass f n × (last ≡ Refuses r))
       go h = at (lt-or-ge (h .place) n)
         where
-          at : (h .place < n) ⊎ (n ≤ h .place) → ((j : ℕ) × (j < n) × ((i : ℕ) → i < j → f i ≡ Passes) × (f j ≡ Refuses r)) ⊎ (((i : ℕ) → i < n → f i ≡ Passes) × (last ≡ Refuses r))
-          at (inl l) = inl (h .place, l, (λ i k. sym (at-index i (omega (arith, k, l))) ∙ h .before i k), sym (at-index (h .place) l) ∙ h .refuses)
+          at : (h .place < n) ⊎ (n ≤ h .place) → FirstAmong f n r ⊎ (AllPass f n × (last ≡ Refuses r))
+          at (inl l) = inl (record {
+            place = h .place;
+            there = l;
+            before = λ i k. sym (at-index i (omega (arith, k, l))) ∙ h .before i k;
+            refuses = sym (at-index (h .place) l) ∙ h .refuses;
+          })
           at (inr g) =
-              let here : h .place ≡ n = omega (arith, g, rw (length-append (each f n) (last ∷ []), each-length f n) at (h .there)) in
-              inr ((λ i k. sym (at-index i k) ∙ h .before i (omega (arith, k, here))), sym (getD-at (each f n) last [] Passes n (each-length f n)) ∙ rw here at (h .refuses))
+              let here : h .place ≡ n = omega (arith, g, checks-length, h .there) in
+              inr (λ i k. sym (at-index i k) ∙ h .before i (omega (arith, k, here)), sym at-last ∙ rw here at (h .refuses))
 
 -- ---- the lines from line 2 on
 
@@ -89,14 +107,7 @@ module _ (bytes : List ℕ) where
   pub at-row : (nx j p : ℕ) (k : Checked) → p ≡ rowPlace nx j → k ≡ lineRow bytes (j + 2) p (4 * nx) → k ≡ rowCheck nx j
   at-row nx j p k e h = h ∙ ap (λ (q : ℕ). lineRow bytes (j + 2) q (4 * nx)) e
 
-  pub rows-more : (nx j : ℕ) → ((i : ℕ) → i < j → rowCheck nx i ≡ Passes) → rowCheck nx j ≡ Passes → (i : ℕ) → i < j + 1 → rowCheck nx i ≡ Passes
-  rows-more nx j before e i h = go (eq-or-lt-of-le (le-of-suc-le-suc (rw (add-one j) at h)))
-    where
-      go : (i ≡ j) ⊎ (i < j) → rowCheck nx i ≡ Passes
-      go (inl q) = rw q e
-      go (inr l) = before i l
-
-  -- and what it says
+  -- what a surplus line says
   pub surplus-said : (line p : ℕ) (x : Refusal) → line ≤ 4294967295 → surplusRow bytes line p ≡ Refuses x → (x .number ≡ 8) × (x .value ≡ line) × (readAt bytes p ≡ ended → ⊥)
   surplus-said line p x l e =
       let h = holds-unless (eqb (readAt bytes p) ended) 8 line x e in (
@@ -112,32 +123,22 @@ module _ (bytes : List ℕ) where
       go true e h = eqb-true _ _ e
       go false e h = absurd (passes-refuses (sym h))
 
+  -- the rows of a block, and what stands behind them
   module _ (nx rows : ℕ) where
-    -- a row refuses, and none before it
-    pub record RowAtFault (r : Refusal) : Type 0 where
-      pub row : ℕ
-      pub there : row < rows
-      pub before : (i : ℕ) → i < row → rowCheck nx i ≡ Passes
-      pub refuses : rowCheck nx row ≡ Refuses r
+    abbrev behind : Checked
+    behind = surplusRow bytes (rows + 2) (rowPlace nx rows)
 
-    pub lines-split : (r : Refusal) → linesRow bytes nx rows ≡ Refuses r
-        → RowAtFault r ⊎ (((i : ℕ) → i < rows → rowCheck nx i ≡ Passes) × (surplusRow bytes (rows + 2) (rowPlace nx rows) ≡ Refuses r))
-    lines-split r e = go (index-splits (rowCheck nx) rows _ r e)
-      where
-        go : ((j : ℕ) × (j < rows) × ((i : ℕ) → i < j → rowCheck nx i ≡ Passes) × (rowCheck nx j ≡ Refuses r))
-            ⊎ (((i : ℕ) → i < rows → rowCheck nx i ≡ Passes) × (surplusRow bytes (rows + 2) (rowPlace nx rows) ≡ Refuses r))
-            → RowAtFault r ⊎ (((i : ℕ) → i < rows → rowCheck nx i ≡ Passes) × (surplusRow bytes (rows + 2) (rowPlace nx rows) ≡ Refuses r))
-        go (inl h) = inl (record { row = h .0; there = h .1; before = h .2; refuses = h .3 })
-        go (inr h) = inr h
+    pub lines-split : (r : Refusal) → linesRow bytes nx rows ≡ Refuses r → FirstAmong (rowCheck nx) rows r ⊎ (AllPass (rowCheck nx) rows × (surplusRow bytes (rows + 2) (rowPlace nx rows) ≡ Refuses r))
+    lines-split = index-splits (rowCheck nx) rows behind
 
-    pub row-refuses : (j : ℕ) (r : Refusal) → j < rows → ((i : ℕ) → i < j → rowCheck nx i ≡ Passes) → rowCheck nx j ≡ Refuses r → linesRow bytes nx rows ≡ Refuses r
-    row-refuses = index-refuses (rowCheck nx) rows _
+    pub row-refuses : (r : Refusal) → FirstAmong (rowCheck nx) rows r → linesRow bytes nx rows ≡ Refuses r
+    row-refuses = index-refuses (rowCheck nx) rows behind
 
-    pub rows-pass : ((i : ℕ) → i < rows → rowCheck nx i ≡ Passes) → linesRow bytes nx rows ≡ surplusRow bytes (rows + 2) (rowPlace nx rows)
-    rows-pass = index-passes (rowCheck nx) rows _
+    pub rows-pass : AllPass (rowCheck nx) rows → linesRow bytes nx rows ≡ surplusRow bytes (rows + 2) (rowPlace nx rows)
+    rows-pass = index-passes (rowCheck nx) rows behind
 
-    pub lines-all : linesRow bytes nx rows ≡ Passes → ((i : ℕ) → i < rows → rowCheck nx i ≡ Passes) × (surplusRow bytes (rows + 2) (rowPlace nx rows) ≡ Passes)
-    lines-all = index-all (rowCheck nx) rows _
+    pub lines-all : linesRow bytes nx rows ≡ Passes → AllPass (rowCheck nx) rows × (surplusRow bytes (rows + 2) (rowPlace nx rows) ≡ Passes)
+    lines-all = index-all (rowCheck nx) rows behind
 
-    pub behind-rows : (j p : ℕ) (k : Checked) → j ≡ rows → p ≡ rowPlace nx j → ((i : ℕ) → i < j → rowCheck nx i ≡ Passes) → k ≡ surplusRow bytes (rows + 2) p → k ≡ linesRow bytes nx rows
+    pub behind-rows : (j p : ℕ) (k : Checked) → j ≡ rows → p ≡ rowPlace nx j → AllPass (rowCheck nx) j → k ≡ surplusRow bytes (rows + 2) p → k ≡ linesRow bytes nx rows
     behind-rows j p k e at before h = h ∙ ap (λ (q : ℕ). surplusRow bytes (rows + 2) q) (at ∙ ap (rowPlace nx) e) ∙ sym (rows-pass (rw e at before))

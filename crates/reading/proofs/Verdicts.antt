@@ -19,7 +19,7 @@ use Rattle.block.proofs.Rows.{holds-where, holds-unless, lowest-refusal}
 use Rattle.reading.specs.Text.{ended, readAt}
 use Rattle.reading.specs.Faults.{Fault, none, missing, short, long, wrong, faultAt, lineColumn, faultRow}
 use Rattle.reading.specs.Input.{rowPlace, firstLineRow, surplusRow, linesRow, largeRow, sizeRead, cutRead, inputRows, inputVerdict}
-use Rattle.reading.proofs.Rows.{rowCheck, RowAtFault, lines-split}
+use Rattle.reading.proofs.Rows.{AllPass, FirstAmong, rowCheck, lines-split}
 
 -- ---- the first of the rows that refuses
 
@@ -75,8 +75,8 @@ of-fault line (wrong c) x e = of-line x 12 (lineColumn line c) (omega arith) (om
 of-lines : (bytes : List ℕ) (nx rows : ℕ) (x : Refusal) → linesRow bytes nx rows ≡ Refuses x → InProgram x
 of-lines bytes nx rows x e = go (lines-split bytes nx rows x e)
   where
-    go : RowAtFault bytes nx rows x ⊎ (((i : ℕ) → i < rows → rowCheck bytes nx i ≡ Passes) × (surplusRow bytes (rows + 2) (rowPlace nx rows) ≡ Refuses x)) → InProgram x
-    go (inl r) = of-fault (r .row + 2) (faultAt bytes (rowPlace nx (r .row)) (4 * nx)) x (r .refuses)
+    go : FirstAmong (rowCheck bytes nx) rows x ⊎ (AllPass (rowCheck bytes nx) rows × (surplusRow bytes (rows + 2) (rowPlace nx rows) ≡ Refuses x)) → InProgram x
+    go (inl r) = of-fault (r .place + 2) (faultAt bytes (rowPlace nx (r .place)) (4 * nx)) x (r .refuses)
     go (inr h) = let k = told x (rows + 2) (holds-unless (eqb (readAt bytes (rowPlace nx rows)) ended) 8 (rows + 2) x (h .1)) in (inr (inr (omega (arith, k .0), omega (arith, k .0))), omega (arith, k .1))
 
 run-refusals : (bytes : List ℕ) (x : Refusal) → inputVerdict bytes ≡ Refuses x → InProgram x

@@ -17,6 +17,7 @@ use Rattle.block.proofs.Rows.{given-small}
 use Rattle.reading.specs.Text.{LF, ended, readAt, isDigit, rightByte, rightBytes}
 use Rattle.reading.specs.Faults.{Fault, none, missing, short, long, wrong, faultBy, faultAt, lineColumn, faultRow, lineRow}
 use Rattle.reading.specs.Words.{faultOf, FirstWrong, FaultIs}
+use Rattle.reading.proofs.Faults.{by-end, by-long, by-wrong}
 use Rattle.reading.proofs.Line.{rightAt, right-digit, right-end, right-most, wrong-at, all-right}
 
 -- "the value holds the line in its upper 16 bits and the column, from 1, in its lower ones"
@@ -24,7 +25,7 @@ pub line-column-back : (line c : ℕ) → c < 65535 → (lineColumn line c / 655
 line-column-back line c h = (omega arith, omega arith)
 
 -- the column that a fault has, and the fault read back from what its row says
-abbrev columnOf : Fault → ℕ
+abbrev pub columnOf : Fault → ℕ
 columnOf none = 0
 columnOf missing = 0
 columnOf (short c) = c
@@ -77,13 +78,13 @@ module _ (bytes : List ℕ) (p n : ℕ) where
       rw (← all, eq-eqb (n + 1) (n + 1) refl)
   fault-back missing h = by-first 0 ended h
   fault-back (short c) (inl h) = by-first c LF h
-  fault-back (short c) (inr h) = by-first c ended (h .0) ∙ rw (ne-eqb c 0 (λ e. absurd (omega (arith, e, h .1))))
+  fault-back (short c) (inr h) = by-first c ended (h .0) ∙ by-end n c ended refl (λ e. absurd (omega (arith, e, h .1)))
   fault-back (long c) h =
       let b = h .0 in
-      by-first c b (h .1) ∙ rw (ne-eqb b ended (h .3), ne-eqb b LF (not-end b (subst (λ (m : ℕ). FirstWrong bytes p n m b) (h .2) (h .1))), eq-eqb c n (h .2))
+      by-first c b (h .1) ∙ by-long n c b (h .3) (not-end b (subst (λ (m : ℕ). FirstWrong bytes p n m b) (h .2) (h .1))) (h .2)
   fault-back (wrong c) h =
       let b = h .0 in
-      by-first c b (h .1) ∙ rw (ne-eqb b ended (h .3), ne-eqb b LF (h .4), ne-eqb c n (λ e. absurd (omega (arith, e, h .2))))
+      by-first c b (h .1) ∙ by-wrong n c b (h .3) (h .4) (λ e. absurd (omega (arith, e, h .2)))
 
   -- ---- from the check to the words
 
@@ -118,7 +119,7 @@ module _ (bytes : List ℕ) (p n : ℕ) where
   pub fault-exactly : (f : Fault) → (faultAt bytes p n ≡ f) ↔ FaultIs bytes p n f
   fault-exactly f = (λ e. subst (FaultIs bytes p n) e fault-there, fault-back f)
 
-  inside-line : (f : Fault) → FaultIs bytes p n f → columnOf f ≤ n
+  pub inside-line : (f : Fault) → FaultIs bytes p n f → columnOf f ≤ n
   inside-line none h = omega arith
   inside-line missing h = omega arith
   inside-line (short c) (inl h) = h .inside

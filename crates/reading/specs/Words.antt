@@ -51,10 +51,7 @@ module _ (bytes : List ℕ) where
   pub record NamesByte (nx rows : ℕ) (x : Refusal) : Type 0 where
     pub line-low : 1 ≤ x .value / 65536
     pub line-high : x .value / 65536 ≤ rows + 1
-    pub line-few : x .value / 65536 ≤ 65
     pub column-low : 1 ≤ x .value % 65536
-    pub column-high : x .value % 65536 ≤ lineDigits nx (x .value / 65536) + 1
-    pub column-few : x .value % 65536 ≤ 33
     pub earlier : RightBefore nx (x .value / 65536)
     pub here : LineIs nx (x .value / 65536) (faultOf (x .number) (x .value % 65536 - 1))
 

@@ -5,10 +5,11 @@ use mathlib.Core.Path.{_≡_, sym, _∙_}
 use native.Mathlib.Nat.{not-suc-le-zero}
 use native.Mathlib.Omega.{arith}
 use borrow.Author.Needs.{needs}
+use Rattle.laws.proofs.Leading.{before-more}
 use Rattle.block.specs.declared.Checked.the-variants.{Passes}
 use Rattle.reading.specs.Input.{rowPlace}
 use Rattle.reading.proofs.Reading.{rows-small}
-use Rattle.reading.proofs.Rows.{rowCheck, at-row, next-row, rows-more, row-refuses, behind-rows, surplus-passes, surplus-refuses}
+use Rattle.reading.proofs.Rows.{AllPass, rowCheck, at-row, next-row, row-refuses, behind-rows, surplus-passes, surplus-refuses}
 use Rattle.reading.proofs.check_lines.Statement.{statement}
 use Rattle.reading.proofs.check_lines.Tie as tie
 use Rattle.reading.proofs.check_lines.Reads as reads
@@ -18,7 +19,7 @@ use Rattle.reading.proofs.read_at.Reads as read-at-reads
 use Rattle.reading.proofs.refuse.Reads as refuse-reads
 
 abbrev Inv-loop : tie.InvT-loop
-Inv-loop input nx rows at₀ j₀ at j = (j ≤ rows) × (at ≡ rowPlace nx j) × ((i : ℕ) → i < j → rowCheck input nx i ≡ Passes)
+Inv-loop input nx rows at₀ j₀ at j = (j ≤ rows) × (at ≡ rowPlace nx j) × AllPass (rowCheck input nx) j
 
 abbrev μ-loop : tie.MeasureT-loop
 μ-loop input nx rows at₀ j₀ at j = rows - j
@@ -54,8 +55,12 @@ returns c =
     let d = t .before in
     let l = d .before in
     let a = start l .args in
-    sym (row-refuses (a .input .now) (a .nx) (a .rows) (l .loop .j) _ (d .loop-test .taken) (l .loop .inv .2)
-    (sym (at-row (a .input .now) (a .nx) (l .loop .j) _ _ (l .loop .inv .1) (t .check-line .ensures)) ∙ c .before .row .given .1))
+    sym (row-refuses (a .input .now) (a .nx) (a .rows) _ (record {
+      place = l .loop .j;
+      there = d .loop-test .taken;
+      before = l .loop .inv .2;
+      refuses = sym (at-row (a .input .now) (a .nx) (l .loop .j) _ _ (l .loop .inv .1) (t .check-line .ensures)) ∙ c .before .row .given .1;
+    }))
 
 enum-told : tie.Need-enum-told Inv-loop μ-loop
 enum-told c = search needs
@@ -85,7 +90,7 @@ loop-again c =
     let a = start l .args in (
       search needs,
       next-row (a .nx) (l .loop .j) _ (l .loop .inv .1),
-      rows-more (a .input .now) (a .nx) (l .loop .j) (l .loop .inv .2)
+      before-more (λ (i : ℕ). rowCheck (a .input .now) (a .nx) i ≡ Passes) (l .loop .j) (l .loop .inv .2)
           (sym (at-row (a .input .now) (a .nx) (l .loop .j) _ _ (l .loop .inv .1) (t .check-line .ensures)) ∙ c .enum-told .given .1),
     )
 

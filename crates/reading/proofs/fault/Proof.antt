@@ -1,8 +1,9 @@
 -- `fault` meets its contract: each return is one case of the first wrong byte.
 -- Assumes nothing.
-use mathlib.Core.Path.{_∙_}
+use mathlib.Core.Path.{refl, _∙_}
 use native.Mathlib.Omega.{arith}
-use Rattle.reading.proofs.Faults.{missing-row, ended-row, early-row, long-row, wrong-row}
+use Rattle.reading.specs.Faults.{lineColumn}
+use Rattle.reading.proofs.Faults.{by-missing, by-end, by-early, by-long, by-wrong, row-of}
 use borrow.Author.Needs.{needs}
 use Rattle.reading.proofs.fault.Statement.{statement}
 use Rattle.reading.proofs.fault.Tie as tie
@@ -28,7 +29,8 @@ refuse-requires c κs = search needs
 returns : tie.Need-returns
 returns c =
     let s = c .before .before .before in
-    c .refuse .ensures ∙ missing-row (s .args .line) (s .args .n) _ _ (s .pre .0) (s .pre .1) _ _ (omega arith) (omega arith) (c .before .before .if1 .taken) (c .before .if2 .taken)
+    let a = s .args in
+    c .refuse .ensures ∙ row-of (a .line) 8 (a .line) (by-missing (a .n) (a .column) _ (c .before .before .if1 .taken) (c .before .if2 .taken)) refl (omega arith) (omega arith) (omega (arith, s .pre .0, s .pre .1))
 
 refuse-requires-2 : tie.Need-refuse-requires-2
 refuse-requires-2 c κs = search needs
@@ -36,8 +38,8 @@ refuse-requires-2 c κs = search needs
 returns-2 : tie.Need-returns-2
 returns-2 c =
     let s = c .before .before .before in
-    c .refuse2 .ensures
-    ∙ ended-row (s .args .line) (s .args .n) _ _ (s .pre .0) (s .pre .1) _ _ (omega arith) (omega arith) (c .before .before .if1 .taken) (c .before .if2 .left)
+    let a = s .args in
+    c .refuse2 .ensures ∙ row-of (a .line) 10 (lineColumn (a .line) (a .column)) (by-end (a .n) (a .column) _ (c .before .before .if1 .taken) (c .before .if2 .left)) refl (omega arith) (omega arith) (omega (arith, s .pre .0, s .pre .1))
 
 refuse-requires-3 : tie.Need-refuse-requires-3
 refuse-requires-3 c κs = search needs
@@ -45,8 +47,8 @@ refuse-requires-3 c κs = search needs
 returns-3 : tie.Need-returns-3
 returns-3 c =
     let s = c .before .before .before in
-    c .refuse3 .ensures
-    ∙ early-row (s .args .line) (s .args .n) _ _ (s .pre .0) (s .pre .1) _ _ (omega arith) (c .before .before .if1 .left) (omega arith) (c .before .if3 .taken)
+    let a = s .args in
+    c .refuse3 .ensures ∙ row-of (a .line) 10 (lineColumn (a .line) (a .column)) (by-early (a .n) (a .column) _ (c .before .before .if1 .left) (c .before .if3 .taken)) refl (omega arith) (omega arith) (omega (arith, s .pre .0, s .pre .1))
 
 refuse-requires-4 : tie.Need-refuse-requires-4
 refuse-requires-4 c κs = search needs
@@ -54,8 +56,8 @@ refuse-requires-4 c κs = search needs
 returns-4 : tie.Need-returns-4
 returns-4 c =
     let s = c .before .before .before .before in
-    c .refuse4 .ensures
-    ∙ long-row (s .args .line) (s .args .n) _ _ (s .pre .0) (s .pre .1) _ _ (omega arith) (c .before .before .before .if1 .left) (c .before .before .if3 .left) (omega arith) (c .before .if4 .taken)
+    let a = s .args in
+    c .refuse4 .ensures ∙ row-of (a .line) 11 (lineColumn (a .line) (a .column)) (by-long (a .n) (a .column) _ (c .before .before .before .if1 .left) (c .before .before .if3 .left) (c .before .if4 .taken)) refl (omega arith) (omega arith) (omega (arith, s .pre .0, s .pre .1))
 
 refuse-requires-5 : tie.Need-refuse-requires-5
 refuse-requires-5 c κs = search needs
@@ -63,8 +65,8 @@ refuse-requires-5 c κs = search needs
 returns-5 : tie.Need-returns-5
 returns-5 c =
     let s = c .before .before .before .before in
-    c .refuse5 .ensures
-    ∙ wrong-row (s .args .line) (s .args .n) _ _ (s .pre .0) (s .pre .1) _ _ (omega arith) (c .before .before .before .if1 .left) (c .before .before .if3 .left) (omega arith) (c .before .if4 .left)
+    let a = s .args in
+    c .refuse5 .ensures ∙ row-of (a .line) 12 (lineColumn (a .line) (a .column)) (by-wrong (a .n) (a .column) _ (c .before .before .before .if1 .left) (c .before .before .if3 .left) (c .before .if4 .left)) refl (omega arith) (omega arith) (omega (arith, s .pre .0, s .pre .1))
 
 pub fault-spec : {M : Type 1} → statement M
 fault-spec =
