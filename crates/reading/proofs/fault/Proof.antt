@@ -30,7 +30,8 @@ returns : tie.Need-returns
 returns c =
     let s = c .before .before .before in
     let a = s .args in
-    c .refuse .ensures ∙ row-of (a .line) 8 (a .line) (by-missing (a .n) (a .column) _ (c .before .before .if1 .taken) (c .before .if2 .taken)) refl (omega arith) (omega arith) (omega (arith, s .pre .0, s .pre .1))
+    let by = by-missing (a .n) (a .column) _ (c .before .before .if1 .taken) (c .before .if2 .taken) in
+    c .refuse .ensures ∙ row-of (a .line) 8 (a .line) by refl (omega arith) (omega arith) (omega (arith, s .pre .0, s .pre .1))
 
 refuse-requires-2 : tie.Need-refuse-requires-2
 refuse-requires-2 c κs = search needs
@@ -39,7 +40,8 @@ returns-2 : tie.Need-returns-2
 returns-2 c =
     let s = c .before .before .before in
     let a = s .args in
-    c .refuse2 .ensures ∙ row-of (a .line) 10 (lineColumn (a .line) (a .column)) (by-end (a .n) (a .column) _ (c .before .before .if1 .taken) (c .before .if2 .left)) refl (omega arith) (omega arith) (omega (arith, s .pre .0, s .pre .1))
+    let by = by-end (a .n) (a .column) _ (c .before .before .if1 .taken) (c .before .if2 .left) in
+    c .refuse2 .ensures ∙ row-of (a .line) 10 (lineColumn (a .line) (a .column)) by refl (omega arith) (omega arith) (omega (arith, s .pre .0, s .pre .1))
 
 refuse-requires-3 : tie.Need-refuse-requires-3
 refuse-requires-3 c κs = search needs
@@ -48,7 +50,8 @@ returns-3 : tie.Need-returns-3
 returns-3 c =
     let s = c .before .before .before in
     let a = s .args in
-    c .refuse3 .ensures ∙ row-of (a .line) 10 (lineColumn (a .line) (a .column)) (by-early (a .n) (a .column) _ (c .before .before .if1 .left) (c .before .if3 .taken)) refl (omega arith) (omega arith) (omega (arith, s .pre .0, s .pre .1))
+    let by = by-early (a .n) (a .column) _ (c .before .before .if1 .left) (c .before .if3 .taken) in
+    c .refuse3 .ensures ∙ row-of (a .line) 10 (lineColumn (a .line) (a .column)) by refl (omega arith) (omega arith) (omega (arith, s .pre .0, s .pre .1))
 
 refuse-requires-4 : tie.Need-refuse-requires-4
 refuse-requires-4 c κs = search needs
@@ -57,7 +60,8 @@ returns-4 : tie.Need-returns-4
 returns-4 c =
     let s = c .before .before .before .before in
     let a = s .args in
-    c .refuse4 .ensures ∙ row-of (a .line) 11 (lineColumn (a .line) (a .column)) (by-long (a .n) (a .column) _ (c .before .before .before .if1 .left) (c .before .before .if3 .left) (c .before .if4 .taken)) refl (omega arith) (omega arith) (omega (arith, s .pre .0, s .pre .1))
+    let by = by-long (a .n) (a .column) _ (c .before .before .before .if1 .left) (c .before .before .if3 .left) (c .before .if4 .taken) in
+    c .refuse4 .ensures ∙ row-of (a .line) 11 (lineColumn (a .line) (a .column)) by refl (omega arith) (omega arith) (omega (arith, s .pre .0, s .pre .1))
 
 refuse-requires-5 : tie.Need-refuse-requires-5
 refuse-requires-5 c κs = search needs
@@ -66,7 +70,8 @@ returns-5 : tie.Need-returns-5
 returns-5 c =
     let s = c .before .before .before .before in
     let a = s .args in
-    c .refuse5 .ensures ∙ row-of (a .line) 12 (lineColumn (a .line) (a .column)) (by-wrong (a .n) (a .column) _ (c .before .before .before .if1 .left) (c .before .before .if3 .left) (c .before .if4 .left)) refl (omega arith) (omega arith) (omega (arith, s .pre .0, s .pre .1))
+    let by = by-wrong (a .n) (a .column) _ (c .before .before .before .if1 .left) (c .before .before .if3 .left) (c .before .if4 .left) in
+    c .refuse5 .ensures ∙ row-of (a .line) 12 (lineColumn (a .line) (a .column)) by refl (omega arith) (omega arith) (omega (arith, s .pre .0, s .pre .1))
 
 pub fault-spec : {M : Type 1} → statement M
 fault-spec =
