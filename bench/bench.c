@@ -1,13 +1,17 @@
-/* Times the library and the plain implementation on one block. Usage: bench file nx ny nz t, the file raw little-endian
-   16-bit numbers, x fastest. Prints a line for each figure, its name and its value:
+/* Times the library and the plain implementation on one block. Usage: bench file nx ny nz t mesh.ply, the file raw
+   little-endian 16-bit numbers, x fastest. Writes the mesh to mesh.ply, with a spacing of 0.1 millimetres along each
+   axis. Prints a line for each figure, its name and its value:
      crossed, rim, doubtful  crossed edges, steps out of the block from metal samples, faces with four crossed edges
      vertices, quads         of the mesh
      counts, mesh            seconds of the library's two calls; mesh writes into memory that was written to before
      whole                   seconds of counts, of taking memory of that size by malloc, and of mesh, in one go
      plain                   the same of the plain implementation
+     bytes                   of the PLY file of the mesh
+     ply                     seconds of the library's call that makes that file, in memory that was written to before
+     copy                    seconds of memcpy of that file into such memory
    A time is the best of 15 runs, or of as many as begin within half a second, but at least 2.
-   Assumes that both are linked in; built with -DSELF there is no library, and its three times are not printed.
-   The counts and the meshes of the two must agree, bit by bit, or there are no times. */
+   Assumes that both are linked in; built with -DSELF there is no library, and its four times are not printed.
+   The counts, the meshes and the files of the two must agree, bit by bit, or there are no times. */
 #define _POSIX_C_SOURCE 199309L
 
 #include "../include/parsniprow.h"
@@ -22,14 +26,18 @@
 #ifdef SELF
 #define parsniprow_counts plain_counts
 #define parsniprow_mesh plain_mesh
+#define parsniprow_ply plain_ply
 #endif
 
-enum { MOST_RUNS = 15, LEAST_RUNS = 2, ANSWER = 3 };
-static const double long_enough = 0.5;
+enum { MOST_RUNS = 15, LEAST_RUNS = 2, ANSWER = 3, SHORT_FILE = 15 };
+static const double long_enough = 0.5, spacing = 0.1;
 
 typedef void counts_function(uint32_t, uint32_t, uint32_t, const uint16_t *, size_t, uint16_t, uint32_t *, size_t);
 typedef void mesh_function(uint32_t, uint32_t, uint32_t, const uint16_t *, size_t, uint16_t, uint32_t *, size_t,
                            double *, size_t, uint32_t *, size_t, uint32_t *, size_t);
+typedef void ply_function(uint32_t, uint32_t, uint32_t, const uint32_t *, size_t, const double *, size_t,
+                          const uint32_t *, size_t, double, double, double, uint8_t *, size_t, uint64_t *, size_t,
+                          uint32_t *, size_t);
 
 struct mesh {
     uint32_t *words, *quads;
@@ -170,6 +178,84 @@ static double whole_seconds(void *with)
     return now() - from;
 }
 
+/* The PLY file of a mesh, and memory of the same size. */
+struct file {
+    const struct mesh *mesh;
+    uint8_t *bytes, *other;
+    size_t size;
+};
+
+/* The file of a mesh into lent memory; gives its size. Where the memory is too short, that is the size needed. */
+static size_t ask_ply(ply_function *function, const struct mesh *mesh, uint8_t *bytes, size_t size)
+{
+    uint32_t answer[ANSWER];
+    uint64_t length;
+    function(block.length[0], block.length[1], block.length[2], mesh->words, 2 * mesh->vertex_count, mesh->offsets,
+             3 * mesh->vertex_count, mesh->quads, 4 * mesh->quad_count, spacing, spacing, spacing, bytes, size, &length,
+             1, answer, ANSWER);
+    if (answer[0] == SHORT_FILE)
+        return answer[1];
+    if (answer[0] != 0)
+        stop("the file was refused");
+    return (size_t)length;
+}
+
+static double ply_seconds(void *with)
+{
+    struct file *file = with;
+    double from = now();
+    if (ask_ply(parsniprow_ply, file->mesh, file->bytes, file->size) != file->size)
+        stop("the file is not of the size that was told");
+    return now() - from;
+}
+
+static double copy_seconds(void *with)
+{
+    struct file *file = with;
+    double from = now();
+    memcpy(file->other, file->bytes, file->size);
+    return now() - from;
+}
+
+static void write_file(const struct file *file, const char *name)
+{
+    FILE *out = fopen(name, "wb");
+    if (!out)
+        stop("the PLY file cannot be opened");
+    if ((fwrite(file->bytes, 1, file->size, out) != file->size) | (fclose(out) != 0))
+        stop("the PLY file could not be written");
+}
+
+static void print_file_times(const struct mesh *mesh, const char *name)
+{
+    struct file file = {mesh, NULL, NULL, 0};
+    double ply_time, copy_time;
+    uint8_t none[1];
+    file.size = ask_ply(parsniprow_ply, mesh, none, 0);
+    file.bytes = taken(file.size);
+    file.other = taken(file.size);
+    memset(file.bytes, 0xA5, file.size);
+    memset(file.other, 0xA5, file.size);
+    ply_time = best_of(ply_seconds, &file);
+    copy_time = best_of(copy_seconds, &file);
+    if (memcmp(file.other, file.bytes, file.size) != 0)
+        stop("the copy differs from the file");
+    memset(file.other, 0xA5, file.size);
+    if (ask_ply(plain_ply, mesh, file.other, file.size) != file.size ||
+        memcmp(file.other, file.bytes, file.size) != 0)
+        stop("the file differs from that of plain");
+    write_file(&file, name);
+    printf("bytes %zu\n", file.size);
+#ifdef SELF
+    (void)ply_time;
+#else
+    printf("ply %.9f\n", ply_time);
+#endif
+    printf("copy %.9f\n", copy_time);
+    free(file.bytes);
+    free(file.other);
+}
+
 static int same(const struct mesh *a, const struct mesh *b)
 {
     return a->vertex_count == b->vertex_count && a->quad_count == b->quad_count &&
@@ -178,7 +264,7 @@ static int same(const struct mesh *a, const struct mesh *b)
            memcmp(a->quads, b->quads, 4 * a->quad_count * sizeof *a->quads) == 0;
 }
 
-static void print_times(void)
+static void print_times(const char *file_name)
 {
     uint32_t counted[ANSWER];
     struct mesh lent;
@@ -191,6 +277,7 @@ static void print_times(void)
     plain_time = best_of(whole_seconds, &plain);
     if (!same(&lent, &plain.left) || !same(&ours.left, &plain.left))
         stop("the mesh differs from that of plain");
+    print_file_times(&lent, file_name);
     printf("vertices %zu\nquads %zu\n", plain.left.vertex_count, plain.left.quad_count);
 #ifdef SELF
     (void)counts_time;
@@ -207,11 +294,11 @@ static void print_times(void)
 
 int main(int argc, char **argv)
 {
-    if (argc != 6)
-        stop("usage: bench file nx ny nz t");
+    if (argc != 7)
+        stop("usage: bench file nx ny nz t mesh.ply");
     block = read_block(argv + 1);
     print_shape();
-    print_times();
+    print_times(argv[6]);
     free(block.samples);
     return 0;
 }

@@ -2,15 +2,23 @@
 """Times the programs that Debian has for the same work on one block. Usage:
   peers.py versions                prints a line for each peer: key, name, package, version ("-" if it is not installed)
   peers.py key file nx ny nz t     prints "points polygons seconds" of the peer on the block
+  peers.py ply_writer mesh.ply     prints a line for each figure of VTK's PLY writer on the mesh, name and value:
+                                     vtk_bytes    of the file that it writes
+                                     vtk_memory   seconds of writing to a string
+                                     vtk_file     seconds of writing to a file in memory (/dev/shm)
+                                   or nothing if VTK is not installed
 
 The file is raw little-endian 16-bit numbers, x fastest. A time is the best of 15 runs, or of as many as begin within
 half a second, but at least 2. The block is in memory, in the form that the peer takes, before the first run; the peer
 takes the memory of its mesh within the time, and the mesh of the run before is given back outside of it.
+Of the PLY writer only the call that writes is timed. Its mesh is that of the library's PLY file, in VTK's own form, and
+its file must hold the same quads, and the same places rounded to 32-bit floats, or there are no times.
 
 Assumes that the process may run on one processor only (taskset), as OpenVDB takes all that it is allowed; the peers are
 Debian's packages python3-vtk9, python3-skimage and python3-openvdb, in Debian's own python."""
 import os
 import sys
+import tempfile
 import time
 
 MOST_RUNS = 15
@@ -124,6 +132,81 @@ def volume_to_mesh(name, lengths, t):
     return lambda: grid.convertToQuads(t), lambda mesh: (len(mesh[0]), len(mesh[1]))
 
 
+# ---- VTK's PLY writer ----
+
+def ply_parts(content, number):
+    """The places, numbers of that type, and the faces of a binary little-endian PLY file of quads."""
+    import numpy
+    begin = content.index(b"end_header\n") + len(b"end_header\n")
+    elements = [line.split() for line in content[:begin].decode().splitlines() if line.startswith("element ")]
+    count = {name: int(word) for _, name, word in elements}
+    places = numpy.frombuffer(content, number, 3 * count["vertex"], begin).reshape(-1, 3)
+    faces = numpy.frombuffer(content, [("corners", "u1"), ("quad", "<i4", 4)], count["face"], begin + places.nbytes)
+    if len(content) != begin + places.nbytes + faces.nbytes or not (faces["corners"] == 4).all():
+        sys.exit("peers.py: the PLY file is not one of quads")
+    return places, faces
+
+
+def vtk_mesh(places, quads):
+    """The mesh in the form that VTK's own filters make: points, here of doubles, and polygons of VTK's own numbers."""
+    from vtkmodules.util.numpy_support import numpy_to_vtk, numpy_to_vtkIdTypeArray
+    from vtkmodules.vtkCommonCore import vtkPoints
+    from vtkmodules.vtkCommonDataModel import vtkCellArray, vtkPolyData
+    points, polygons, mesh = vtkPoints(), vtkCellArray(), vtkPolyData()
+    points.SetData(numpy_to_vtk(places, deep=1))
+    polygons.SetData(4, numpy_to_vtkIdTypeArray(quads.astype("int64").reshape(-1), deep=1))
+    mesh.SetPoints(points)
+    mesh.SetPolys(polygons)
+    return mesh
+
+
+def ply_writer(mesh, name):
+    """A writer to the file of that name, or to a string if there is none. A file of the name is removed before."""
+    from vtkmodules.vtkIOPLY import vtkPLYWriter
+    writer = vtkPLYWriter()
+    writer.SetInputData(mesh)
+    writer.SetFileTypeToBinary()
+    writer.SetDataByteOrderToLittleEndian()
+    if not name:
+        writer.SetWriteToOutputString(1)
+        return writer
+    if os.path.exists(name):
+        os.remove(name)
+    writer.SetFileName(name)
+    return writer
+
+
+def ply_time(mesh, name=None):
+    """The seconds of writing to the file of that name, or to a string if there is none."""
+    def next_run():
+        writer = ply_writer(mesh, name)
+        return lambda: writer.Write() or sys.exit("peers.py: VTK could not write its PLY file")
+
+    return best_time(next_run)[1]
+
+
+def print_ply_times(name):
+    """The string is not looked at: that of VTK 9.1.0 is empty in the end, though all was written to it."""
+    try:
+        vtk_version()
+        from vtkmodules import vtkIOPLY  # only to see that it is there
+    except ImportError:
+        return
+    one_vtk_thread()
+    with open(name, "rb") as file:
+        places, faces = ply_parts(file.read(), "<f8")
+    mesh = vtk_mesh(places, faces["quad"])
+    with tempfile.TemporaryDirectory(dir="/dev/shm") as folder:
+        written = os.path.join(folder, "mesh.ply")
+        memory_time, file_time = ply_time(mesh), ply_time(mesh, written)
+        with open(written, "rb") as file:
+            content = file.read()
+    written_places, written_faces = ply_parts(content, "<f4")
+    if (written_places != places.astype("<f4")).any() or (written_faces != faces).any():
+        sys.exit("peers.py: VTK's PLY file does not hold the same mesh")
+    print(f"vtk_bytes {len(content)}\nvtk_memory {memory_time:.6f}\nvtk_file {file_time:.6f}")
+
+
 # ---- all of them ----
 
 PEERS = {
@@ -143,31 +226,38 @@ def print_versions():
         print(key, name, package, found, sep="\t")
 
 
-def best_time(run, size):
+def best_time(next_run):
+    """What the last run made, and the least seconds of one. Each run is a function that is got outside of the time."""
     best, spent, runs = None, 0.0, 0
     while runs < LEAST_RUNS or (runs < MOST_RUNS and spent < LONG_ENOUGH):
-        mesh = None
+        run = made = None
+        run = next_run()
         begin = time.perf_counter()
-        mesh = run()
+        made = run()
         took = time.perf_counter() - begin
         best = took if best is None else min(best, took)
         spent += took
         runs += 1
-    return (*size(mesh), best)
+    return made, best
 
 
 def main():
     if sys.argv[1:] == ["versions"]:
         print_versions()
         return
-    if len(sys.argv) != 7 or sys.argv[1] not in PEERS:
-        sys.exit("usage: peers.py versions, or peers.py key file nx ny nz t, the key one of " + ", ".join(PEERS))
+    is_writer = len(sys.argv) == 3 and sys.argv[1] == "ply_writer"
+    if not is_writer and (len(sys.argv) != 7 or sys.argv[1] not in PEERS):
+        sys.exit("usage: peers.py versions, or peers.py ply_writer mesh.ply, or peers.py key file nx ny nz t, the key "
+                 "one of " + ", ".join(PEERS))
     if len(os.sched_getaffinity(0)) != 1:
         sys.exit("peers.py: may run on more than one processor, so OpenVDB would take more than one thread")
+    if is_writer:
+        print_ply_times(sys.argv[2])
+        return
     lengths = [int(word) for word in sys.argv[3:6]]
     run, size = PEERS[sys.argv[1]][3](sys.argv[2], lengths, float(sys.argv[6]))
-    points, polygons, seconds = best_time(run, size)
-    print(points, polygons, f"{seconds:.6f}")
+    mesh, seconds = best_time(lambda: run)
+    print(*size(mesh), f"{seconds:.6f}")
 
 
 main()

@@ -54,16 +54,21 @@ def whole(number):
     return f"{int(number):,}"
 
 
-def with_ratio(block, seconds):
-    """Seconds, and in brackets the library's time divided by them."""
-    return f"{three_digits(seconds)} ({block['whole'] / seconds:.2f})" if "whole" in block else three_digits(seconds)
+def with_ratio(block, seconds, time="whole"):
+    """Seconds, and in brackets the library's time of that name divided by them."""
+    return f"{three_digits(seconds)} ({block[time] / seconds:.2f})" if time in block else three_digits(seconds)
 
 
-# ---- the three tables ----
+# ---- the four tables ----
+
+def module_mark(words):
+    """What the head of a column says of a library that is not the one that ships."""
+    return "" if words["library"] in ("none", "x86_64") else f", {words['library']} module"
+
 
 def print_times(words, peers, blocks):
     timed = words["library"] != "none"
-    mark = "" if words["library"] in ("none", "x86_64") else f", {words['library']} module"
+    mark = module_mark(words)
     heads = ["block"]
     if timed:
         heads += ["counts" + mark, "mesh" + mark, "counts + mesh" + mark]
@@ -109,6 +114,29 @@ def print_sizes(peers, blocks):
         row = [f"{kind} {size}", whole(block["crossed"]), whole(block["doubtful"])]
         row.append(f"{whole(block['vertices'])} / {whole(block['quads'])}")
         row += [f"{whole(made['points'])} / {whole(made['polygons'])}" for made in block["made"].values()]
+        rows.append(row)
+    print_table(heads, rows)
+
+
+VTK_WAYS = {"vtk_memory": "VTK, to a string", "vtk_file": "VTK, to a file in memory"}
+
+
+def print_files(words, blocks):
+    timed = words["library"] != "none"
+    mark = module_mark(words)
+    has_vtk = all("vtk_bytes" in block for block in blocks.values())
+    heads = ["block", "bytes of the file"] + (["ply" + mark] if timed else []) + ["memcpy"]
+    if has_vtk:
+        heads += ["bytes of VTK's file", *VTK_WAYS.values()] + (["faster of VTK's"] if timed else [])
+    rows = []
+    for (kind, size), block in blocks.items():
+        row = [f"{kind} {size}", whole(block["bytes"])] + ([f"**{three_digits(block['ply'])}**"] if timed else [])
+        row.append(with_ratio(block, block["copy"], "ply"))
+        if has_vtk:
+            row += [whole(block["vtk_bytes"])] + [with_ratio(block, block[way], "ply") for way in VTK_WAYS]
+        if has_vtk and timed:
+            best = min(VTK_WAYS, key=lambda way: block[way])
+            row.append(f"{VTK_WAYS[best].partition(', ')[2]} ({block['ply'] / block[best]:.2f})")
         rows.append(row)
     print_table(heads, rows)
 
@@ -175,6 +203,18 @@ How the library's cost grows with the block; the last two columns are against th
 depends on how much surface there is: the housing's own surface grows less than its samples.
 """
 
+FILES_TEXT = """
+The mesh as a binary PLY file: seconds, measured as above; in brackets `ply` divided by that time. `ply` is the
+library's call, into memory that was written to before; memcpy copies the same bytes into such memory.
+
+- VTK's writer (vtkPLYWriter) has the same vertices, as doubles, and the same quads as its own polygons before the time
+  begins, and only its call Write() is timed. It writes places as 32-bit floats, so its file is the shorter one.
+- It writes to a string, and to a file in /dev/shm, which is memory too. The string of VTK 9.1.0 is empty in the end: it
+  writes everything to a stream and drops that. The last column has the faster of the two all the same.
+- Checked: the library's file is that of plain C, byte by byte. VTK's file has the same quads, and the same places
+  rounded to 32-bit floats.
+"""
+
 SIZES_TEXT = """
 What each program made. A doubtful face is one with four crossed edges. Checked: Flying Edges has a point for each
 crossed edge, OpenVDB a quad for each crossed edge and for each step out of the block from metal, Marching Cubes 99 to
@@ -197,6 +237,8 @@ def main():
     if words["library"] != "none":
         print_text(GROWTH_TEXT)
         print_growth(blocks)
+    print_text(FILES_TEXT)
+    print_files(words, blocks)
     print_text(SIZES_TEXT)
     print_sizes(peers, blocks)
     wrong = faults(peers, blocks)

@@ -1,27 +1,34 @@
 /* The scan tool: reads a raw block of 16-bit grey values, has the library draw the surface between metal and hollow,
-   and writes how many vertices and quads it has, on request also the vertices and quads themselves.
-   Usage: scan FILE NX NY NZ THRESHOLD BYTE-ORDER [--mesh OUT]; "scan --help" says what each of them is.
+   and writes how many vertices and quads it has, on request also the vertices and quads themselves: as plain text, as
+   a PLY file for a viewer, or both.
+   Usage: scan FILE NX NY NZ THRESHOLD BYTE-ORDER [--mesh OUT] [--ply OUT --spacing X Y Z]; "scan --help" says what each
+   of them is.
    Assumes a POSIX system, and the library linked in (include/parsniprow.h).
 
    Standard output is the record, in lines of a word and what it says: what was asked, and the library's answer.
      file, axes, threshold, byte-order    what was asked, as it was read
+     spacing X Y Z                        the same, where a PLY file is asked for
      values LEAST to GREATEST             the grey values in the file
      ceiling COUNT                        how many of them are 65535, the detector's ceiling
      vertices COUNT, quads COUNT          the mesh
      marked COUNT                         how many vertices have a corner of their cube at the ceiling
+     ply BYTES                            how long the PLY file is, where one is asked for
      refused NUMBER value VALUE           there is no mesh, and no line of values or counts
      note SENTENCE                        what the answer does not mean, or what to do
    Standard error has progress, a line each second, and a sentence where there is no answer; standard output then has
    nothing.
    Exit status: 0 a mesh; 1 a file or memory failed; 2 bad arguments; 3 refused by the library.
 
-   OUT is plain text: four lines that begin with # and say what follows, the record's lines without notes, a line for
-   each vertex by rising number from 0,
+   The OUT of --mesh is plain text: four lines that begin with # and say what follows, the record's lines without notes,
+   a line for each vertex by rising number from 0,
      v NUMBER I J K X Y Z MASK            its cube, its place in the cube, its mask: four digits in hexadecimal, the
                                           first 1 where the vertex is marked, the others its edges
    and a line for each quad, the numbers of its vertices: q A B C D. The vertex is at (I + X, J + Y, K + Z) in grid
    steps; X, Y and Z have so many digits that the same double is read back.
-   OUT must not be there yet: nothing is overwritten. It is written as OUT.part and renamed when it is whole. */
+   The OUT of --ply is the file that parsniprow_ply makes, in millimetres. It has neither masks nor marks.
+   A spacing that the library refuses is refused before FILE is opened, as an axis is.
+   OUT must not be there yet: nothing is overwritten. It is written as OUT.part and renamed when it is whole. Where both
+   are asked for, both are whole before the first is renamed. */
 #define _XOPEN_SOURCE 700
 
 #include "parsniprow.h"
@@ -39,16 +46,18 @@
 #include <unistd.h>
 
 enum { ANSWER = 3, AXES = 3, BYTES_A_SAMPLE = 2, WORDS_A_VERTEX = 2, OFFSETS_A_VERTEX = 3, VERTICES_A_QUAD = 4 };
-enum { NO_REFUSAL, BAD_AXIS, BAD_COUNT, BAD_THRESHOLD };
+enum { NO_REFUSAL, BAD_AXIS, BAD_COUNT, BAD_THRESHOLD, BAD_SPACING = 13, NO_ROOM = 15 };
 enum { STATUS_MESH, STATUS_FAILED, STATUS_ARGUMENTS, STATUS_REFUSED };
-enum { ARGUMENTS = 6, ARGUMENTS_WITH_MESH = 8, MOST_AT_ONCE = 1 << 20, MEGABYTE = 1000000 };
+enum { ARGUMENTS = 6, LENGTH = 1, MOST_AT_ONCE = 1 << 20, MEGABYTE = 1000000 };
 enum { MARK = 1 << 12 }; /* in the word of a vertex */
 
-/* What was asked. Names as shown are one line, whatever the file is called. */
+/* What was asked. Names as shown are one line, whatever the file is called. The spacing is that of the PLY file, if one
+   is asked for; as text it is null where it is not given. */
 struct request {
-    const char *file, *out, *file_shown, *out_shown, *byte_order;
+    const char *file, *file_shown, *byte_order, *spacing_text[AXES];
     uint32_t length[AXES];
     uint16_t threshold;
+    double spacing[AXES];
 };
 
 struct block {
@@ -61,14 +70,17 @@ struct block {
 struct mesh {
     uint32_t *words, *quads, vertex_count, quad_count, marked_count;
     double *offsets;
+    uint8_t *ply;
+    uint64_t ply_len;
 };
 
 /* ---- progress, told by a clock, so that it is told within a long call too ---- */
 
-enum stage { OPENING, READING, COUNTING, MESHING, WRITING };
+enum stage { OPENING, READING, COUNTING, MESHING, DRAWING, WRITING };
 enum { WHOLE = 100, NO_PERCENT = 127, STAGE_STEP = 128 };
 
-static const char *const stage_names[] = {"opening the file", "reading", "counting", "making the mesh", "writing"};
+static const char *const stage_names[] = {"opening the file", "reading", "counting", "making the mesh",
+                                          "making the PLY file", "writing"};
 /* stage and percent in one number, so that the clock never sees the one change without the other */
 static volatile sig_atomic_t progress;
 static struct timespec started;
@@ -119,21 +131,29 @@ static void tell_progress(int signal_number)
     errno = kept;
 }
 
-/* ---- the unfinished mesh file, which no way out leaves behind ---- */
+/* ---- the files that are written, of which no way out leaves an unfinished one behind ---- */
 
-static char *part_name;
-static volatile sig_atomic_t is_part_there;
+enum { MESH_FILE, PLY_FILE, OUTS };
 
-static void remove_part(void)
+/* A file that is asked for if it has a name. As long as it is unfinished its name is part. */
+static struct out {
+    const char *option, *thing, *name, *shown;
+    char *part;
+    volatile sig_atomic_t is_part_there;
+} outs[OUTS] = {{"--mesh", "the mesh", NULL, NULL, NULL, 0}, {"--ply", "the PLY file", NULL, NULL, NULL, 0}};
+
+static void remove_parts(void)
 {
-    if (is_part_there)
-        unlink(part_name);
-    is_part_there = 0;
+    for (int which = 0; which < OUTS; which++) {
+        if (outs[which].is_part_there)
+            unlink(outs[which].part);
+        outs[which].is_part_there = 0;
+    }
 }
 
 static void end_by_signal(int signal_number)
 {
-    remove_part();
+    remove_parts();
     signal(signal_number, SIG_DFL);
     raise(signal_number);
 }
@@ -185,7 +205,7 @@ static void fail(int status, const char *format, ...)
 {
     va_list values;
     alarm(0);
-    remove_part();
+    remove_parts();
     fputs("scan: ", stderr);
     va_start(values, format);
     vfprintf(stderr, format, values);
@@ -229,7 +249,7 @@ static const char *shown(const char *text)
 
 static void help(void)
 {
-    puts("target/scan FILE NX NY NZ THRESHOLD BYTE-ORDER [--mesh OUT]\n"
+    puts("target/scan FILE NX NY NZ THRESHOLD BYTE-ORDER [--mesh OUT] [--ply OUT --spacing X Y Z]\n"
          "\n"
          "Draws the surface between metal and hollow in a scan as a mesh of quads, and writes how many vertices and\n"
          "quads it has. Nothing is smoothed.\n"
@@ -240,16 +260,23 @@ static void help(void)
          "  THRESHOLD   1 to 65534. A value of at least THRESHOLD is metal, any other is hollow\n"
          "  BYTE-ORDER  little if the low byte of each value comes first, big if the high byte does. The wrong one\n"
          "              cannot be noticed, but the line \"values\" then shows values that the part does not have\n"
-         "  --mesh OUT  also writes the vertices and quads to the file OUT, which must not be there yet");
+         "  --mesh OUT  also writes the vertices and quads to the file OUT, as plain text\n"
+         "  --ply OUT --spacing X Y Z\n"
+         "              also writes them to the file OUT as PLY, which viewers read, in millimetres. X, Y and Z are\n"
+         "              the millimetres from one value to the next along x, y and z, each above 0 and at most 1000\n"
+         "\n"
+         "OUT must not be there yet. Both files can be asked for, under two names.");
     puts("\n"
-         "Numbers are plain digits. For example:\n"
+         "Numbers are plain digits; X, Y and Z may have a point and digits behind it. For example:\n"
          "\n"
          "  target/scan housing.raw 256 256 200 23000 little --mesh housing-mesh.txt\n"
+         "  target/scan housing.raw 256 256 200 23000 little --ply housing.ply --spacing 0.125 0.125 0.2\n"
          "\n"
          "Standard output has what was asked, then the lines \"values\", \"ceiling\", \"vertices\", \"quads\" and\n"
-         "\"marked\"; or the line \"refused NUMBER value VALUE\", no count, and what to do. OUT has the same lines,\n"
-         "then a line for each vertex, in steps of the grid at I+X, J+Y, K+Z, with the mask of the edges of cube\n"
-         "I J K that it joins; then a line for each quad:\n"
+         "\"marked\", and with --ply the line \"ply\" with the bytes of the file; or the line\n"
+         "\"refused NUMBER value VALUE\", no count, and what to do. The file of --mesh has the same lines, then a\n"
+         "line for each vertex, in steps of the grid at I+X, J+Y, K+Z, with the mask of the edges of cube I J K that\n"
+         "it joins; then a line for each quad:\n"
          "\n"
          "  v NUMBER I J K X Y Z MASK\n"
          "  q VERTEX VERTEX VERTEX VERTEX");
@@ -257,7 +284,7 @@ static void help(void)
          "A value of 65535 is the detector's ceiling. What the detector saw there is not known. It is drawn as\n"
          "metal. The line \"ceiling\" says how many such values there are. A vertex is marked if a corner of its\n"
          "cube is at the ceiling. The line \"marked\" says how many vertices are. The MASK of a marked vertex begins\n"
-         "with 1, that of any other with 0.\n"
+         "with 1, that of any other with 0. A PLY file does not show which vertices are marked.\n"
          "\n"
          "Exit status: 0 a mesh; 1 a file or memory failed; 2 bad arguments; 3 refused.");
     finish(STATUS_MESH);
@@ -278,14 +305,70 @@ static uint32_t number(const char *name, const char *text, uint32_t limit, const
     return (uint32_t)value;
 }
 
-static void read_out(struct request *request, const char *option, const char *out)
+/* Plain digits, and where there is a point, digits behind it too. What the number may be, the library says. */
+static double decimal(const char *name, const char *text)
 {
-    if (strcmp(option, "--mesh") != 0)
-        fail(STATUS_ARGUMENTS, "\"%s\" stands where only --mesh can.", shown(option));
-    if (out[0] == 0 || out[0] == '-')
-        fail(STATUS_ARGUMENTS, "OUT is \"%s\", and it must be a name that does not begin with a dash.", shown(out));
-    request->out = out;
-    request->out_shown = shown(out);
+    static const char figures[] = "0123456789";
+    size_t whole = strspn(text, figures), part = text[whole] == '.' ? strspn(text + whole + 1, figures) : 0;
+    size_t length = part > 0 ? whole + 1 + part : whole;
+    if (whole == 0 || text[length])
+        fail(STATUS_ARGUMENTS, "%s of --spacing is \"%s\", and it must be millimetres in plain digits with at most one "
+             "point, as in 0.125: no comma, sign, letter or space.", name, shown(text));
+    return strtod(text, NULL);
+}
+
+static void read_spacing(struct request *request, char **words)
+{
+    static const char *const names[AXES] = {"X", "Y", "Z"};
+    for (int axis = 0; axis < AXES; axis++) {
+        request->spacing[axis] = decimal(names[axis], words[axis]);
+        request->spacing_text[axis] = words[axis];
+    }
+}
+
+static void read_out(struct out *out, const char *name)
+{
+    if (name[0] == 0 || name[0] == '-')
+        fail(STATUS_ARGUMENTS, "OUT is \"%s\", and it must be a name that does not begin with a dash.", shown(name));
+    out->name = name;
+    out->shown = shown(name);
+}
+
+/* Each option is given at most once, and has its words behind it. */
+static void check_option(const char *option, int is_given, int are_words_there, const char *wanted)
+{
+    if (is_given)
+        fail(STATUS_ARGUMENTS, "%s is given twice.", option);
+    if (!are_words_there)
+        fail(STATUS_ARGUMENTS, "%s must be followed by %s.", option, wanted);
+}
+
+/* Reads an option, behind which so many words are left, and gives how many of them are its own. */
+static int read_option(struct request *request, char **words, int left)
+{
+    for (int which = 0; which < OUTS; which++)
+        if (strcmp(words[0], outs[which].option) == 0) {
+            check_option(words[0], outs[which].name != NULL, left >= 1, "the name OUT");
+            read_out(&outs[which], words[1]);
+            return 1;
+        }
+    if (strcmp(words[0], "--spacing") != 0)
+        fail(STATUS_ARGUMENTS, "\"%s\" stands where only --mesh, --ply and --spacing can.", shown(words[0]));
+    check_option(words[0], request->spacing_text[0] != NULL, left >= AXES, "X, Y and Z");
+    read_spacing(request, words + 1);
+    return AXES;
+}
+
+static void read_options(struct request *request, int given, char **words)
+{
+    for (int at = 0; at < given; at++)
+        at += read_option(request, words + at, given - at - 1);
+    if (outs[PLY_FILE].name && !request->spacing_text[0])
+        fail(STATUS_ARGUMENTS, "--ply is given without --spacing X Y Z, the millimetres from one value to the next.");
+    if (request->spacing_text[0] && !outs[PLY_FILE].name)
+        fail(STATUS_ARGUMENTS, "--spacing is given without --ply OUT, and only a PLY file has millimetres.");
+    if (outs[MESH_FILE].name && outs[PLY_FILE].name && strcmp(outs[MESH_FILE].name, outs[PLY_FILE].name) == 0)
+        fail(STATUS_ARGUMENTS, "--mesh and --ply both name %s, and they must name two files.", outs[PLY_FILE].shown);
 }
 
 static struct request read_arguments(int argc, char **argv)
@@ -295,9 +378,9 @@ static struct request read_arguments(int argc, char **argv)
     int given = argc - 1;
     if (given == 1 && strcmp(argv[1], "--help") == 0)
         help();
-    if (given != ARGUMENTS && given != ARGUMENTS_WITH_MESH)
-        fail(STATUS_ARGUMENTS, "There are %d arguments, and there must be %d, or %d with --mesh OUT.", given, ARGUMENTS,
-             ARGUMENTS_WITH_MESH);
+    if (given < ARGUMENTS)
+        fail(STATUS_ARGUMENTS, "There are %d arguments, and there must be %d before any --mesh or --ply.", given,
+             ARGUMENTS);
     request.file = argv[1];
     request.file_shown = shown(argv[1]);
     for (int axis = 0; axis < AXES; axis++)
@@ -306,8 +389,7 @@ static struct request read_arguments(int argc, char **argv)
     request.byte_order = argv[6];
     if (strcmp(argv[6], "little") != 0 && strcmp(argv[6], "big") != 0)
         fail(STATUS_ARGUMENTS, "BYTE-ORDER is \"%s\", and it must be little or big.", shown(argv[6]));
-    if (given == ARGUMENTS_WITH_MESH)
-        read_out(&request, argv[7], argv[8]);
+    read_options(&request, given - ARGUMENTS, argv + 1 + ARGUMENTS);
     return request;
 }
 
@@ -320,6 +402,9 @@ static void put_request(FILE *to, const struct request *request)
     fprintf(to, "axes %" PRIu32 " %" PRIu32 " %" PRIu32 "\n", length[0], length[1], length[2]);
     fprintf(to, "threshold %" PRIu16 "\n", request->threshold);
     fprintf(to, "byte-order %s\n", request->byte_order);
+    if (request->spacing_text[0])
+        fprintf(to, "spacing %s %s %s\n", request->spacing_text[0], request->spacing_text[1],
+                request->spacing_text[2]);
 }
 
 static void put_counts(FILE *to, const struct block *block, const struct mesh *mesh)
@@ -329,6 +414,8 @@ static void put_counts(FILE *to, const struct block *block, const struct mesh *m
     fprintf(to, "vertices %" PRIu32 "\n", mesh->vertex_count);
     fprintf(to, "quads %" PRIu32 "\n", mesh->quad_count);
     fprintf(to, "marked %" PRIu32 "\n", mesh->marked_count);
+    if (outs[PLY_FILE].name)
+        fprintf(to, "ply %" PRIu64 "\n", mesh->ply_len);
 }
 
 static void advise_on_axis(const struct request *request, uint32_t axis)
@@ -336,6 +423,13 @@ static void advise_on_axis(const struct request *request, uint32_t axis)
     printf("note Axis %c is %" PRIu32 " values long, and it must be 2 to 256. Check that the numbers stand in the "
            "order NX NY NZ THRESHOLD.\n", "xyz"[axis % AXES], request->length[axis % AXES]);
     printf("note Of a scan that is longer, cut out a part.\n");
+}
+
+static void advise_on_spacing(const struct request *request, uint32_t axis)
+{
+    printf("note The spacing along %c is %s, and it must be above 0 and at most 1000 millimetres. Take it from the "
+           "scan's papers: how far it is from one value to the next.\n",
+           "xyz"[axis % AXES], request->spacing_text[axis % AXES]);
 }
 
 static void refuse(const struct request *request, const uint32_t *answer)
@@ -346,7 +440,9 @@ static void refuse(const struct request *request, const uint32_t *answer)
         advise_on_axis(request, answer[1]);
     else if (answer[0] == BAD_THRESHOLD)
         printf("note The threshold must be from 1 to 65534. Choose one between the greys of hollow and of metal.\n");
-    else /* 2, 5 and 6 cannot come about: samples and room are as many as the library says */
+    else if (answer[0] == BAD_SPACING)
+        advise_on_spacing(request, answer[1]);
+    else /* no other can come about: samples, room and mesh are as the library says */
         printf("note This is a fault of the scan tool and not of the scan. Report it together with these lines.\n");
     finish(STATUS_REFUSED);
 }
@@ -365,6 +461,8 @@ static void note_ceilings(const struct request *request, const struct block *blo
     else
         printf("note A marked vertex has a corner of its cube at the ceiling, so the surface there is not certain. "
                "With --mesh its mask begins with 1.\n");
+    if (outs[PLY_FILE].name && mesh->marked_count > 0)
+        printf("note The PLY file does not show which vertices are marked.\n");
     printf("note If a marked vertex or a value at the ceiling is where the claim is judged, do not judge by the mesh "
            "there. Scan the part again with less exposure. Do not change the value in the file.\n");
 }
@@ -464,6 +562,34 @@ static size_t samples_wanted(const struct request *request)
     return answer[1];
 }
 
+/* Asks for the PLY file of a mesh, into room for so many bytes; gives how long it is. */
+static uint64_t ask_ply(const struct request *request, const struct mesh *mesh, uint64_t room_len, uint32_t *answer)
+{
+    const uint32_t *length = request->length;
+    const double *spacing = request->spacing;
+    uint64_t ply_len = 0;
+    parsniprow_ply(length[0], length[1], length[2], mesh->words, (size_t)WORDS_A_VERTEX * mesh->vertex_count,
+                   mesh->offsets, (size_t)OFFSETS_A_VERTEX * mesh->vertex_count, mesh->quads,
+                   (size_t)VERTICES_A_QUAD * mesh->quad_count, spacing[0], spacing[1], spacing[2], mesh->ply,
+                   (size_t)room_len, &ply_len, LENGTH, answer, ANSWER);
+    return ply_len;
+}
+
+/* The library, asked for the file of no mesh without room for it, refuses the spacing or else the room. */
+static void check_spacing(const struct request *request)
+{
+    uint32_t no_word = 0, answer[ANSWER];
+    double no_offset = 0;
+    uint8_t no_byte = 0;
+    struct mesh nothing = {0};
+    nothing.words = nothing.quads = &no_word;
+    nothing.offsets = &no_offset;
+    nothing.ply = &no_byte;
+    ask_ply(request, &nothing, 0, answer);
+    if (answer[0] != NO_ROOM)
+        refuse(request, answer);
+}
+
 static void count_ceilings(struct block *block)
 {
     uint32_t answer[ANSWER];
@@ -509,35 +635,53 @@ static void make_mesh(const struct request *request, const struct block *block, 
         mesh->marked_count += (mesh->words[WORDS_A_VERTEX * vertex + 1] & MARK) != 0;
 }
 
-/* ---- the mesh file ---- */
-
-static void check_new(const struct request *request)
+/* The first answer says how much room is needed. */
+static void make_ply(const struct request *request, struct mesh *mesh)
 {
-    struct stat about;
-    if (lstat(request->out, &about) == 0)
-        fail(STATUS_FAILED, "%s is there already, and nothing is overwritten. Name another file for the mesh.",
-             request->out_shown);
+    uint32_t answer[ANSWER];
+    uint8_t no_byte = 0;
+    uint64_t needed;
+    enter(DRAWING);
+    mesh->ply = &no_byte;
+    ask_ply(request, mesh, 0, answer);
+    if (answer[0] != NO_ROOM)
+        refuse(request, answer);
+    needed = answer[1];
+    mesh->ply = room(needed, needed, "The PLY file");
+    mesh->ply_len = ask_ply(request, mesh, needed, answer);
+    if (answer[0] != NO_REFUSAL)
+        refuse(request, answer);
 }
 
-static FILE *open_part(const struct request *request)
+/* ---- the files ---- */
+
+static void check_new(const struct out *out)
+{
+    struct stat about;
+    if (lstat(out->name, &about) == 0)
+        fail(STATUS_FAILED, "%s is there already, and nothing is overwritten. Name another file for %s.", out->shown,
+             out->thing);
+}
+
+static FILE *open_part(struct out *out)
 {
     static const char ending[] = ".part";
-    size_t length = strlen(request->out) + sizeof ending;
+    size_t length = strlen(out->name) + sizeof ending;
     FILE *to = NULL;
     int file;
-    part_name = room(length, length, "A name");
-    snprintf(part_name, length, "%s%s", request->out, ending);
-    file = open(part_name, O_WRONLY | O_CREAT | O_EXCL, 0666);
+    out->part = room(length, length, "A name");
+    snprintf(out->part, length, "%s%s", out->name, ending);
+    file = open(out->part, O_WRONLY | O_CREAT | O_EXCL, 0666);
     if (file == -1 && errno == EEXIST)
-        fail(STATUS_FAILED, "%s%s is there already, and the mesh has this name while it is written. Name another file "
-             "for the mesh.", request->out_shown, ending);
+        fail(STATUS_FAILED, "%s%s is there already, and %s has this name while it is written. Name another file for "
+             "%s.", out->shown, ending, out->thing, out->thing);
     if (file != -1) {
-        is_part_there = 1;
+        out->is_part_there = 1;
         to = fdopen(file, "w");
     }
     if (!to)
-        fail(STATUS_FAILED, "%s cannot be written: %s. Check its folder, and that you may write there.",
-             request->out_shown, strerror(errno));
+        fail(STATUS_FAILED, "%s cannot be written: %s. Check its folder, and that you may write there.", out->shown,
+             strerror(errno));
     return to;
 }
 
@@ -581,17 +725,46 @@ static int put_mesh(FILE *to, const struct request *request, const struct block 
     return !ferror(to);
 }
 
-static void write_mesh(const struct request *request, const struct block *block, const struct mesh *mesh)
+static int put_ply(FILE *to, const struct mesh *mesh)
 {
-    FILE *to = open_part(request);
-    if (!put_mesh(to, request, block, mesh) || fclose(to) != 0)
+    size_t done = 0, all = (size_t)mesh->ply_len;
+    while (done < all) {
+        size_t now = all - done < MOST_AT_ONCE ? all - done : MOST_AT_ONCE;
+        advance(WRITING, done, all);
+        if (fwrite(mesh->ply + done, 1, now, to) != now)
+            return 0;
+        done += now;
+    }
+    return 1;
+}
+
+static void write_part(int which, const struct request *request, const struct block *block, const struct mesh *mesh)
+{
+    struct out *out = &outs[which];
+    FILE *to = open_part(out);
+    if (!(which == PLY_FILE ? put_ply(to, mesh) : put_mesh(to, request, block, mesh)) || fclose(to) != 0)
         fail(STATUS_FAILED, "%s could not be written to its end: %s. Nothing of it is left. Make room, or name "
-             "another folder.", request->out_shown, strerror(errno));
-    check_new(request);
-    if (rename(part_name, request->out) != 0)
-        fail(STATUS_FAILED, "%s cannot be written: %s. Name another file for the mesh.", request->out_shown,
-             strerror(errno));
-    is_part_there = 0;
+             "another folder.", out->shown, strerror(errno));
+}
+
+static void rename_part(struct out *out)
+{
+    check_new(out);
+    if (rename(out->part, out->name) != 0)
+        fail(STATUS_FAILED, "%s cannot be written: %s. Name another file for %s.", out->shown, strerror(errno),
+             out->thing);
+    out->is_part_there = 0;
+}
+
+/* All of them are whole before the first gets its name. */
+static void write_files(const struct request *request, const struct block *block, const struct mesh *mesh)
+{
+    for (int which = 0; which < OUTS; which++)
+        if (outs[which].name)
+            write_part(which, request, block, mesh);
+    for (int which = 0; which < OUTS; which++)
+        if (outs[which].name)
+            rename_part(&outs[which]);
 }
 
 int main(int argc, char **argv)
@@ -602,14 +775,18 @@ int main(int argc, char **argv)
     hold_standard_streams();
     set_signals();
     request = read_arguments(argc, argv);
-    if (request.out)
-        check_new(&request);
+    for (int which = 0; which < OUTS; which++)
+        if (outs[which].name)
+            check_new(&outs[which]);
     block.count = samples_wanted(&request);
+    if (outs[PLY_FILE].name)
+        check_spacing(&request);
     read_block(&request, &block);
     mesh = count_mesh(&request, &block);
     count_ceilings(&block);
     make_mesh(&request, &block, &mesh);
-    if (request.out)
-        write_mesh(&request, &block, &mesh);
+    if (outs[PLY_FILE].name)
+        make_ply(&request, &mesh);
+    write_files(&request, &block, &mesh);
     report(&request, &block, &mesh);
 }

@@ -16,8 +16,8 @@
      the function says; of a shorter place as many are written as it has room for, and what lies behind is kept.
 
    REFUSALS
-   What cannot be answered is refused by number. Checks run in the order of the numbers; the first that holds is given,
-   with its value. Each function says which of them it tries.
+   What cannot be answered is refused by number. Each function says which numbers it tries, and in which order; the
+   first that holds is given, with its value.
 
      number  given exactly when                value
      1       an axis is under 2 or over 256    lowest such axis, 0 to 2
@@ -27,6 +27,19 @@
              offsets_len under 3, a vertex
      6       quads_len is under 4 a quad       quads needed
      7       quads_len is no multiple of 4     quads_len modulo 4
+     13      a spacing is not above 0, or      lowest such axis, 0 to 2
+             above 1000
+     14      a quad names a vertex that is     lowest such quad
+             not there
+     15      file_len is under the bytes of    bytes needed
+             the file
+     22      words_len and offsets_len are     words_len
+             not twice and three times one
+             count of at most 66325500
+     23      the cube of a vertex is not in    lowest such vertex
+             the block
+     24      an offset of a vertex is not      lowest such vertex
+             from 0 to 1
 
    A value above 4294967295 is given as that. Number 4 is given by nothing any more.
 
@@ -83,7 +96,7 @@ void parsniprow_cube(uint16_t c0, uint16_t c1, uint16_t c2, uint16_t c3, uint16_
      nx, ny, nz  axis lengths in samples, each 2 to 256
      samples     nx * ny * nz grey values
      t           the threshold, 1 to 65534
-     answer      answer place, 3 items: 0, vertices, quads; or refusal (1, 2 or 3), its value, 0 */
+     answer      answer place, 3 items: 0, vertices, quads; or refusal (1, 2 or 3, tried in this order), its value, 0 */
 void parsniprow_counts(uint32_t nx, uint32_t ny, uint32_t nz, const uint16_t *samples, size_t samples_len, uint16_t t,
                        uint32_t *answer, size_t answer_len);
 
@@ -98,7 +111,7 @@ void parsniprow_counts(uint32_t nx, uint32_t ny, uint32_t nz, const uint16_t *sa
      quads    room for 4 items a quad: the numbers of its vertices, from 0. Seen along its edge from the hollow end they
               run against the clock where x, y, z are right-handed. A quad need be neither flat nor convex; vertices may
               share a place, so its area may be 0
-     answer   answer place, 3 items: 0, vertices, quads; or refusal (1, 2, 3, 5 or 6), its value, 0
+     answer   answer place, 3 items: 0, vertices, quads; or refusal (1, 2, 3, 5 or 6, tried in this order), its value, 0
    The three buffers keep their contents on refusal, and always behind the mesh. */
 void parsniprow_mesh(uint32_t nx, uint32_t ny, uint32_t nz, const uint16_t *samples, size_t samples_len, uint16_t t,
                      uint32_t *words, size_t words_len, double *offsets, size_t offsets_len, uint32_t *quads,
@@ -119,6 +132,28 @@ void parsniprow_closed(const uint32_t *quads, size_t quads_len, uint32_t *answer
      answer   answer place, 3 items: 0, how many samples are 65535, the lowest index of one; where there is none, that
               index is samples_len. A number above 4294967295 is given as that */
 void parsniprow_ceilings(const uint16_t *samples, size_t samples_len, uint32_t *answer, size_t answer_len);
+
+/* A mesh as a PLY file, for a viewer: binary, little-endian, format 1.0. The vertices are three doubles x, y, z in
+   millimetres, the faces lists of four vertex numbers, in the order of the buffers. Its time grows with the mesh. The
+   file has 170 bytes and the decimal digits of both counts, 24 bytes a vertex and 17 a quad. Ask with a file_len of 0
+   first: the answer is then 15 with the bytes needed, if nothing else is wrong.
+     nx, ny, nz  axis lengths in samples, each 2 to 256, of the block that the mesh was made of
+     words       2 items a vertex, as parsniprow_mesh writes them; the first is the number of its cube, and the second,
+                 mask and mark, is not looked at and not in the file
+     offsets     3 items a vertex, each from 0 to 1; minus zero passes
+     quads       4 vertex numbers a quad; quads of no area are written as they are
+     x, y, z     the spacing along each axis: millimetres from one sample to the next, above 0 and at most 1000
+     file        room for the file, which stands at its front
+     length      answer place, 1 item: how many bytes the file has, never cut; 0 on refusal
+     answer      answer place, 3 items: 0, 0, 0; or refusal (1, 22, 23, 24, 7, 13, 14 or 15, tried in this order), its
+                 value, 0
+   The x of a vertex of the cube (i, j, k) is i plus its offset, then times the spacing, each rounded once, and so are y
+   and z. Lend words and offsets with lengths of 2 * vertices and 3 * vertices exactly, and quads with 4 * quads.
+   The file buffer keeps its contents on refusal, and always behind the file. */
+void parsniprow_ply(uint32_t nx, uint32_t ny, uint32_t nz, const uint32_t *words, size_t words_len,
+                    const double *offsets, size_t offsets_len, const uint32_t *quads, size_t quads_len, double x,
+                    double y, double z, uint8_t *file, size_t file_len, uint64_t *length, size_t length_len,
+                    uint32_t *answer, size_t answer_len);
 
 #ifdef __cplusplus
 }

@@ -1,4 +1,4 @@
-/* A caller of the installed library, in the words that C and C++ share: the paper's samples through each of the six
+/* A caller of the installed library, in the words that C and C++ share: the paper's samples through each of the seven
    functions, in a thread with a stack of 64 KiB, which the header says is enough. Prints what is wrong and ends with
    status 1, or ends with status 0.
    Assumes the installed header and archive, and POSIX threads. */
@@ -11,6 +11,7 @@
 #include <string.h>
 
 enum { STACK = 65536, SAMPLES = 27, VERTICES = 8, MARKED_VERTICES = 9, QUADS = 6, MARK = 4096 };
+enum { FILE_BYTES = 466, HEAD_BYTES = 172 };
 
 static int faults;
 
@@ -91,6 +92,33 @@ static void ask_closed(const uint32_t *quads)
     expect("three numbers", answers(answer, 7, 3, 0) && answer[3] == 0);
 }
 
+static void ask_ply(void)
+{
+    static const unsigned char vertex[8] = {0x34, 0x33, 0x33, 0x33, 0x33, 0x33, 0xB3, 0x3F};
+    static const unsigned char face[17] = {4, 0, 0, 0, 0, 4, 0, 0, 0, 6, 0, 0, 0, 2, 0, 0, 0};
+    uint16_t samples[SAMPLES] = {0};
+    uint32_t words[2 * VERTICES], quads[4 * QUADS], answer[3] = {9, 9, 9};
+    double offsets[3 * VERTICES];
+    uint8_t file[FILE_BYTES + 1];
+    uint64_t length[1] = {9};
+    samples[13] = 400;
+    file[FILE_BYTES] = 9;
+    parsniprow_mesh(3, 3, 3, samples, SAMPLES, 100, words, 2 * VERTICES, offsets, 3 * VERTICES, quads, 4 * QUADS,
+                    answer, 3);
+    parsniprow_ply(3, 3, 3, words, 2 * VERTICES, offsets, 3 * VERTICES, quads, 4 * QUADS, 0.1, 0.2, 0.5, file, 0,
+                   length, 1, answer, 3);
+    expect("a file without room", answers(answer, 15, FILE_BYTES, 0) && length[0] == 0);
+    parsniprow_ply(3, 3, 3, words, 2 * VERTICES, offsets, 3 * VERTICES, quads, 4 * QUADS, 0.1, 0.2, 0.5, file,
+                   FILE_BYTES + 1, length, 1, answer, 3);
+    expect("a file", answers(answer, 0, 0, 0) && length[0] == FILE_BYTES && file[FILE_BYTES] == 9);
+    expect("its bytes", memcmp(file, "ply\nformat binary_little_endian 1.0\nelement vertex 8\n", 53) == 0 &&
+                            memcmp(file + HEAD_BYTES, vertex, sizeof vertex) == 0 &&
+                            memcmp(file + HEAD_BYTES + 24 * VERTICES, face, sizeof face) == 0);
+    parsniprow_ply(3, 3, 3, words, 2 * VERTICES, offsets, 3 * VERTICES, quads, 4 * QUADS, 0.1, 0, 0.5, file,
+                   FILE_BYTES, length, 1, answer, 3);
+    expect("a spacing of 0", answers(answer, 13, 1, 0) && length[0] == 0);
+}
+
 /* A block of 256 samples an axis: the mesh, which counts first, has the deepest stack. */
 static void ask_large(void)
 {
@@ -112,6 +140,7 @@ static void *ask(void *unused)
     ask_cube();
     ask_block(quads);
     ask_closed(quads);
+    ask_ply();
     ask_large();
     return unused;
 }

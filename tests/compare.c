@@ -1,8 +1,8 @@
-/* Compares the library with the plain implementation on many random blocks, edges, cubes, lists of quads and lists of
-   samples: the answers, and every byte of every lent buffer, with what is beside it.
+/* Compares the library with the plain implementation on many random blocks, edges, cubes, lists of quads, lists of
+   samples and meshes that become files: the answers, and every byte of every lent buffer, with what is beside it.
    Usage: compare [blocks [seed [first block]]].
-   From 20,000 blocks on it also fails if something that it should try never occurred. The last line is a summary, and
-   the exit status is 0 only if nothing differed and nothing was missing.
+   From 20,000 blocks on it also tries what takes seconds, and fails if something that it should try never occurred. The
+   last line is a summary, and the exit status is 0 only if nothing differed and nothing was missing.
    Assumes that the library is linked in; built with -DSELF the plain implementation stands in for it. */
 #include "compare.h"
 
@@ -15,8 +15,9 @@
 
 enum { DEFAULT_BLOCKS = 20000, DEFAULT_SEED = 1, ENOUGH_BLOCKS = 20000, LINE = 118, MOST_MISSING = 64 };
 
-static const char *const function_names[FUNCTIONS] = {"parsniprow_edge", "parsniprow_cube",   "parsniprow_counts",
-                                                      "parsniprow_mesh", "parsniprow_closed", "parsniprow_ceilings"};
+static const char *const function_names[FUNCTIONS] = {"parsniprow_edge",   "parsniprow_cube",     "parsniprow_counts",
+                                                      "parsniprow_mesh",   "parsniprow_closed",   "parsniprow_ceilings",
+                                                      "parsniprow_ply"};
 
 static uint64_t asked[FUNCTIONS][BESIDES], differences;
 static char occasion[120];
@@ -134,6 +135,8 @@ static void try_fixed(void)
     try_fixed_lists();
     working_on(strcpy(occasion, "among the lists of samples that are asked once"));
     try_fixed_ceilings();
+    working_on(strcpy(occasion, "among the files that are asked once"));
+    try_fixed_files();
 }
 
 static void try_with_block(uint64_t seed, uint64_t block)
@@ -149,6 +152,7 @@ static void try_with_block(uint64_t seed, uint64_t block)
     try_cubes(&trial);
     try_lists(&trial);
     try_ceilings(&trial);
+    try_files(&trial);
 }
 
 static void print_missing(void)
@@ -159,7 +163,7 @@ static void print_missing(void)
 
 static int report(uint64_t blocks)
 {
-    uint64_t edges, cubes, lists, ceilings;
+    uint64_t edges, cubes, lists, ceilings, files;
     char of_missing[40] = "";
     int enough = blocks >= ENOUGH_BLOCKS;
     tally_blocks();
@@ -167,15 +171,17 @@ static int report(uint64_t blocks)
     cubes = tally_cubes();
     lists = tally_lists();
     ceilings = tally_ceilings();
+    files = tally_files();
     tally_asked();
     printf("\n");
     if (enough) {
         print_missing();
         snprintf(of_missing, sizeof of_missing, "%zu cases missing, ", missing_count);
     }
-    printf("compare: %llu blocks, %llu edges, %llu cubes, %llu lists of quads, %llu of samples, %s%llu differences\n",
+    printf("compare: %llu blocks, %llu edges, %llu cubes, %llu lists of quads, %llu of samples, %llu files, "
+           "%s%llu differences\n",
            (unsigned long long)blocks, (unsigned long long)edges, (unsigned long long)cubes, (unsigned long long)lists,
-           (unsigned long long)ceilings, of_missing, (unsigned long long)differences);
+           (unsigned long long)ceilings, (unsigned long long)files, of_missing, (unsigned long long)differences);
     return differences > 0 || (enough && missing_count > 0);
 }
 
@@ -208,6 +214,10 @@ int main(int argc, char **argv)
     watch_for_crashes();
     printf("compare: seed %llu, blocks from %llu\n", (unsigned long long)seed, (unsigned long long)first);
     try_fixed();
+    if (blocks >= ENOUGH_BLOCKS) {
+        working_on(strcpy(occasion, "with the longest file"));
+        try_longest_file();
+    }
     for (uint64_t block = first; block - first < blocks; block++)
         try_with_block(seed, block);
     return report(blocks);

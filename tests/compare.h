@@ -15,6 +15,7 @@
 #define parsniprow_mesh plain_mesh
 #define parsniprow_closed plain_closed
 #define parsniprow_ceilings plain_ceilings
+#define parsniprow_ply plain_ply
 #endif
 
 enum { ANSWER = 3, CLOSED_ANSWER = 4, LOOPS = 4, COORDINATES = 12, MOST_SHIFT = 8 };
@@ -22,7 +23,7 @@ enum { ANSWER = 3, CLOSED_ANSWER = 4, LOOPS = 4, COORDINATES = 12, MOST_SHIFT = 
 /* The mark of a vertex whose cube has a corner at the ceiling, a bit of its word. */
 enum { MARK = 4096 };
 
-enum function { EDGE, CUBE, COUNTS, MESH, CLOSED, CEILINGS, FUNCTIONS };
+enum function { EDGE, CUBE, COUNTS, MESH, CLOSED, CEILINGS, PLY, FUNCTIONS };
 
 /* ---- judging a call ---- */
 
@@ -62,17 +63,19 @@ struct trial {
     uint32_t length[3]; /* of the block before anything was made wrong about it */
     uint16_t t;
     const uint16_t *samples;
-    const uint32_t *quads; /* of its mesh, where that was accepted, else null */
-    size_t quad_count;
+    const uint32_t *words, *quads; /* of its mesh, where that was accepted, else null */
+    const double *offsets;
+    size_t vertex_count, quad_count;
 };
 
 /* Asks the counts and the mesh of a block and fills in the trial but for its chance; then what goes with the block:
-   some edges, some of its cubes, some lists of quads, its samples at the ceiling. */
+   some edges, some of its cubes, some lists of quads, its samples at the ceiling, some files. */
 void try_block(struct trial *trial);
 void try_edges(struct trial *trial);
 void try_cubes(struct trial *trial);
 void try_lists(struct trial *trial);
 void try_ceilings(struct trial *trial);
+void try_files(struct trial *trial);
 
 /* What is asked once, whatever the blocks. */
 void try_fixed_blocks(void);
@@ -80,6 +83,10 @@ void try_fixed_edges(void);
 void try_fixed_cubes(void);
 void try_fixed_lists(void);
 void try_fixed_ceilings(void);
+void try_fixed_files(void);
+
+/* What takes seconds, and is asked only with enough blocks. */
+void try_longest_file(void);
 
 /* Print what has occurred, and give the number of calls. */
 void tally_blocks(void);
@@ -87,5 +94,6 @@ uint64_t tally_edges(void);
 uint64_t tally_cubes(void);
 uint64_t tally_lists(void);
 uint64_t tally_ceilings(void);
+uint64_t tally_files(void);
 
 #endif

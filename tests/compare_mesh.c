@@ -406,8 +406,13 @@ void try_block(struct trial *trial)
     struct call call = choose_call(trial);
     run_call(&call);
     count_call(&call);
-    trial->quads = answer[0] == 0 ? start(&plain_quads) : NULL;
-    trial->quad_count = answer[0] == 0 ? answer[2] : 0;
+    if (answer[0] != 0)
+        return;
+    trial->words = start(&plain_words);
+    trial->offsets = start(&plain_offsets);
+    trial->quads = start(&plain_quads);
+    trial->vertex_count = answer[1];
+    trial->quad_count = answer[2];
 }
 
 /* ---- what is asked once ---- */

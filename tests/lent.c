@@ -65,14 +65,21 @@ static size_t whole_length(const struct lent *lent)
 
 /* ---- room ---- */
 
+void give_back(struct lent *lent)
+{
+    if (lent->mapping && munmap(lent->mapping, lent->mapping_len) != 0)
+        stop("a mapping cannot be given back");
+    lent->mapping = NULL;
+    lent->room_len = 0;
+}
+
 /* A mapping of which nothing may be touched but its room; it begins and ends with a page at least. */
 static void make_room(struct lent *lent, size_t bytes)
 {
     size_t page = page_length();
     if (lent->room_len >= bytes)
         return;
-    if (lent->mapping && munmap(lent->mapping, lent->mapping_len) != 0)
-        stop("a mapping cannot be given back");
+    give_back(lent);
     lent->room_len = (2 * bytes + page - 1) / page * page;
     lent->mapping_len = lent->room_len + 3 * page;
     lent->mapping = mmap(NULL, lent->mapping_len, PROT_NONE, MAP_PRIVATE | MAP_ANONYMOUS, -1, 0);

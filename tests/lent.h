@@ -44,6 +44,9 @@ struct lying {
 /* Makes place for so many items and fills it, and what is beside it, with the pattern. */
 void lend(struct lent *lent, size_t count, struct lying lying);
 
+/* Gives all of its place back, so that after a long lending short ones do not have long pages opened and closed. */
+void give_back(struct lent *lent);
+
 /* The first lent item. */
 void *start(const struct lent *lent);
 

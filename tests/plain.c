@@ -1,13 +1,16 @@
 /* The paper's rules in plain C by another method than the library's: loops are walked link by link, no table of masks,
-   faces come from the corners, a quad's vertices are searched for, the sides of a list of quads are sorted.
+   faces come from the corners, a quad's vertices are searched for, the sides of a list of quads are sorted. A file is
+   refused by one rule after the other, each over the whole mesh, and its head is printed.
    Assumes doubles rounded to nearest, each operation by itself (-ffp-contract=off). */
 #include "plain.h"
 
 #include <stdio.h>
 #include <stdlib.h>
+#include <string.h>
 
 enum { AXES = 3, CORNERS = 8, EDGES = 12, FACES = 6, MOST_LOOPS = 4, CEILING = 65535, MARK = 4096 };
 enum { SHORTEST_AXIS = 2, LONGEST_AXIS = 256, WORDS = 2, SIDES = 4, ANSWER = 3, CLOSED_ANSWER = 4 };
+enum { MOST_VERTICES = 66325500, WIDEST_SPACING = 1000, MOST_HEAD = 256, DOUBLE_BYTES = 8, INT_BYTES = 4 };
 
 /* Corner pairs of the edges, the lower one first. */
 static const unsigned ends[EDGES][2] = {{0, 1}, {2, 3}, {4, 5}, {6, 7}, {0, 2}, {1, 3},
@@ -347,16 +350,24 @@ static struct refusal check_threshold(uint16_t t)
     return t == 0 || t == CEILING ? refuse(3, t) : accepted;
 }
 
-static struct refusal check_block(uint32_t nx, uint32_t ny, uint32_t nz, size_t samples_len, uint16_t t)
+static struct refusal check_axes(uint32_t nx, uint32_t ny, uint32_t nz)
 {
-    uint32_t length[AXES], wanted;
+    uint32_t length[AXES];
     length[0] = nx;
     length[1] = ny;
     length[2] = nz;
     for (uint32_t axis = 0; axis < AXES; axis++)
         if (length[axis] < SHORTEST_AXIS || length[axis] > LONGEST_AXIS)
             return refuse(1, axis);
-    wanted = nx * ny * nz;
+    return accepted;
+}
+
+static struct refusal check_block(uint32_t nx, uint32_t ny, uint32_t nz, size_t samples_len, uint16_t t)
+{
+    struct refusal refusal = check_axes(nx, ny, nz);
+    uint32_t wanted = nx * ny * nz;
+    if (refusal.number)
+        return refusal;
     if (samples_len != wanted)
         return refuse(2, wanted);
     return check_threshold(t);
@@ -466,6 +477,151 @@ static size_t first_side_at_fault(const uint32_t *quads, size_t quads_len)
     return fault;
 }
 
+/* ---- the PLY file ---- */
+
+/* A mesh that is to be drawn, with the axes of its block and the spacing along each. */
+struct drawing {
+    struct block block; /* its samples and threshold are not used */
+    const uint32_t *words, *quads;
+    const double *offsets;
+    size_t words_len, offsets_len, quads_len;
+    double spacing[AXES];
+};
+
+static size_t drawn_vertices(const struct drawing *drawing)
+{
+    return drawing->words_len / WORDS;
+}
+
+static size_t drawn_quads(const struct drawing *drawing)
+{
+    return drawing->quads_len / SIDES;
+}
+
+static struct refusal check_lengths(const struct drawing *drawing)
+{
+    size_t count = drawn_vertices(drawing);
+    if (count <= MOST_VERTICES && drawing->words_len == WORDS * count && drawing->offsets_len == AXES * count)
+        return accepted;
+    return refuse(22, cut_to_u32(drawing->words_len));
+}
+
+static struct refusal check_cubes(const struct drawing *drawing)
+{
+    size_t end = cubes(&drawing->block);
+    for (size_t vertex = 0; vertex < drawn_vertices(drawing); vertex++)
+        if (drawing->words[WORDS * vertex] >= end)
+            return refuse(23, (uint32_t)vertex);
+    return accepted;
+}
+
+/* What is no number is not at least 0. */
+static struct refusal check_offsets(const struct drawing *drawing)
+{
+    for (size_t at = 0; at < drawing->offsets_len; at++)
+        if (!(drawing->offsets[at] >= 0.0 && drawing->offsets[at] <= 1.0))
+            return refuse(24, (uint32_t)(at / AXES));
+    return accepted;
+}
+
+static struct refusal check_rest(const struct drawing *drawing)
+{
+    return drawing->quads_len % SIDES != 0 ? refuse(7, (uint32_t)(drawing->quads_len % SIDES)) : accepted;
+}
+
+static struct refusal check_spacing(const struct drawing *drawing)
+{
+    for (uint32_t axis = 0; axis < AXES; axis++)
+        if (!(drawing->spacing[axis] > 0.0 && drawing->spacing[axis] <= WIDEST_SPACING))
+            return refuse(13, axis);
+    return accepted;
+}
+
+static struct refusal check_quads(const struct drawing *drawing)
+{
+    for (size_t at = 0; at < drawing->quads_len; at++)
+        if (drawing->quads[at] >= drawn_vertices(drawing))
+            return refuse(14, cut_to_u32(at / SIDES));
+    return accepted;
+}
+
+/* Prints the head of the file, and gives its length. */
+static size_t print_head(const struct drawing *drawing, char head[MOST_HEAD])
+{
+    int length = snprintf(head, MOST_HEAD,
+                          "ply\nformat binary_little_endian 1.0\nelement vertex %llu\nproperty double x\nproperty "
+                          "double y\nproperty double z\nelement face %llu\nproperty list uchar int "
+                          "vertex_indices\nend_header\n",
+                          (unsigned long long)drawn_vertices(drawing), (unsigned long long)drawn_quads(drawing));
+    if (length < 0 || length >= MOST_HEAD)
+        impossible("the head of a file is too long");
+    return (size_t)length;
+}
+
+static uint64_t file_bytes(const struct drawing *drawing)
+{
+    char head[MOST_HEAD];
+    return print_head(drawing, head) + (uint64_t)drawn_vertices(drawing) * AXES * DOUBLE_BYTES +
+           (uint64_t)drawn_quads(drawing) * (1 + SIDES * INT_BYTES);
+}
+
+static struct refusal check_drawing(const struct drawing *drawing, size_t file_len)
+{
+    static struct refusal (*const checks[])(const struct drawing *) = {check_lengths, check_cubes,   check_offsets,
+                                                                       check_rest,    check_spacing, check_quads};
+    uint64_t needed = file_bytes(drawing);
+    for (size_t i = 0; i < sizeof checks / sizeof *checks; i++) {
+        struct refusal refusal = checks[i](drawing);
+        if (refusal.number)
+            return refusal;
+    }
+    return needed > file_len ? refuse(15, cut_to_u32(needed)) : accepted;
+}
+
+/* So many bytes of a number, the lowest first; gives the place behind them. */
+static uint8_t *put_bytes(uint8_t *to, uint64_t number, unsigned count)
+{
+    for (unsigned i = 0; i < count; i++)
+        to[i] = (uint8_t)(number >> 8 * i);
+    return to + count;
+}
+
+static uint8_t *put_double(uint8_t *to, double number)
+{
+    uint64_t bits;
+    memcpy(&bits, &number, sizeof bits);
+    return put_bytes(to, bits, DOUBLE_BYTES);
+}
+
+static uint8_t *put_vertex(uint8_t *to, const struct drawing *drawing, size_t vertex)
+{
+    size_t across = drawing->block.length[0] - 1, layer = across * (drawing->block.length[1] - 1);
+    size_t number = drawing->words[WORDS * vertex], cube[AXES];
+    cube[2] = number / layer;
+    cube[1] = (number - cube[2] * layer) / across;
+    cube[0] = number - cube[2] * layer - cube[1] * across;
+    for (unsigned axis = 0; axis < AXES; axis++) {
+        double steps = (double)cube[axis] + drawing->offsets[AXES * vertex + axis];
+        to = put_double(to, steps * drawing->spacing[axis]);
+    }
+    return to;
+}
+
+static void draw(const struct drawing *drawing, uint8_t *file)
+{
+    char head[MOST_HEAD];
+    size_t head_len = print_head(drawing, head);
+    uint8_t *to = file + head_len;
+    memcpy(file, head, head_len);
+    for (size_t vertex = 0; vertex < drawn_vertices(drawing); vertex++)
+        to = put_vertex(to, drawing, vertex);
+    for (size_t at = 0; at < drawing->quads_len; at++) {
+        if (at % SIDES == 0)
+            to = put_bytes(to, SIDES, 1);
+        to = put_bytes(to, drawing->quads[at], INT_BYTES);
+    }
+}
+
 /* ---- the questions ---- */
 
 void plain_edge(uint16_t p, uint16_t q, uint16_t t, double *fraction, size_t fraction_len, uint32_t *answer,
@@ -571,4 +727,20 @@ void plain_ceilings(const uint16_t *samples, size_t samples_len, uint32_t *answe
             lowest = index;
         }
     say(answer, answer_len, 0, cut_to_u32(count), cut_to_u32(lowest));
+}
+
+void plain_ply(uint32_t nx, uint32_t ny, uint32_t nz, const uint32_t *words, size_t words_len, const double *offsets,
+               size_t offsets_len, const uint32_t *quads, size_t quads_len, double x, double y, double z, uint8_t *file,
+               size_t file_len, uint64_t *length, size_t length_len, uint32_t *answer, size_t answer_len)
+{
+    struct drawing drawing = {block_of(nx, ny, nz, NULL, 0), words,     quads,    offsets, words_len,
+                              offsets_len,                   quads_len, {x, y, z}};
+    struct refusal refusal = check_axes(nx, ny, nz);
+    if (!refusal.number)
+        refusal = check_drawing(&drawing, file_len);
+    if (!refusal.number)
+        draw(&drawing, file);
+    if (length_len > 0)
+        length[0] = refusal.number ? 0 : file_bytes(&drawing);
+    say_refused(answer, answer_len, refusal);
 }

@@ -39,6 +39,12 @@ void plain_closed(const uint32_t *quads, size_t quads_len, uint32_t *answer, siz
    samples_len; a number above 4294967295 is given as that. No refusal. */
 void plain_ceilings(const uint16_t *samples, size_t samples_len, uint32_t *answer, size_t answer_len);
 
+/* The mesh as a PLY file, each coordinate in millimetres. Answer: 0, 0, 0. Refusals 1, 22, 23, 24, 7, 13, 14, 15, tried
+   in this order. The length is 0 on refusal, and the file's room is then kept; behind the file it is kept always. */
+void plain_ply(uint32_t nx, uint32_t ny, uint32_t nz, const uint32_t *words, size_t words_len, const double *offsets,
+               size_t offsets_len, const uint32_t *quads, size_t quads_len, double x, double y, double z, uint8_t *file,
+               size_t file_len, uint64_t *length, size_t length_len, uint32_t *answer, size_t answer_len);
+
 /* The edges of a face as a mask, worked out from the corners. Faces x=0, x=1, y=0, y=1, z=0, z=1 are 0 to 5. */
 uint32_t plain_face(unsigned face);
 

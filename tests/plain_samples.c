@@ -1,6 +1,7 @@
 /* Runs the plain implementation on the paper's samples: the example block with its whole output, the nine cubes, the
-   edges, the refusals, lists of quads and the table of faces; and on samples at the ceiling, which are metal and leave
-   a mark. Prints each sample and its verdict; exits with 1 if one differs.
+   edges, the refusals, lists of quads and the table of faces; on samples at the ceiling, which are metal and leave a
+   mark; and on files of the example's mesh and of the empty one. Prints each sample and its verdict; exits with 1 if
+   one differs.
    Assumes nothing of the library. */
 #include "bench_cubes.h"
 #include "plain.h"
@@ -318,6 +319,57 @@ static void lists(void)
     list("fault in quad 1", last, 8, 0, 0, 1, 0);
 }
 
+/* ---- files ---- */
+
+static const char example_head[] = "ply\nformat binary_little_endian 1.0\nelement vertex 8\nproperty double x\n"
+                                   "property double y\nproperty double z\nelement face 6\n"
+                                   "property list uchar int vertex_indices\nend_header\n";
+static const char empty_file[] = "ply\nformat binary_little_endian 1.0\nelement vertex 0\nproperty double x\n"
+                                 "property double y\nproperty double z\nelement face 0\n"
+                                 "property list uchar int vertex_indices\nend_header\n";
+
+enum { HEAD = sizeof example_head - 1, EMPTY_FILE = 172, EXAMPLE_FILE = 466, FACES_AT = HEAD + 24 * EXAMPLE_VERTICES };
+
+static int file_says(const uint32_t *answer, uint32_t number, uint32_t value, uint64_t length, uint64_t wanted)
+{
+    return says(answer, number, value, 0) && length == wanted;
+}
+
+/* At spacings 0.1, 0.2 and 0.5, into room for so many bytes. */
+static void draw_example(uint8_t *file, size_t file_len, uint64_t *length, uint32_t *answer)
+{
+    uint16_t samples[EXAMPLE_SAMPLES];
+    uint32_t words[2 * EXAMPLE_VERTICES], quads[4 * EXAMPLE_QUADS];
+    double offsets[3 * EXAMPLE_VERTICES];
+    example_block(samples);
+    plain_mesh(3, 3, 3, samples, EXAMPLE_SAMPLES, 100, words, 2 * EXAMPLE_VERTICES, offsets, 3 * EXAMPLE_VERTICES,
+               quads, 4 * EXAMPLE_QUADS, answer, ANSWER);
+    plain_ply(3, 3, 3, words, 2 * EXAMPLE_VERTICES, offsets, 3 * EXAMPLE_VERTICES, quads, 4 * EXAMPLE_QUADS, 0.1, 0.2,
+              0.5, file, file_len, length, 1, answer, ANSWER);
+}
+
+static void files(void)
+{
+    static const uint8_t first_vertex[] = {0x34, 0x33, 0x33, 0x33, 0x33, 0x33, 0xB3, 0x3F, 0x34, 0x33, 0x33, 0x33,
+                                           0x33, 0x33, 0xC3, 0x3F, 0x00, 0x00, 0x00, 0x00, 0x00, 0x00, 0xD8, 0x3F};
+    static const uint8_t first_face[] = {4, 0, 0, 0, 0, 4, 0, 0, 0, 6, 0, 0, 0, 2, 0, 0, 0};
+    uint8_t file[EXAMPLE_FILE];
+    uint64_t length = 9;
+    uint32_t answer[ANSWER], no_word = 0;
+    double no_offset = 0;
+    draw_example(file, EXAMPLE_FILE - 1, &length, answer);
+    verdict("room for 465 bytes: 15, value 466", file_says(answer, 15, EXAMPLE_FILE, length, 0));
+    draw_example(file, EXAMPLE_FILE, &length, answer);
+    verdict("the example's file: 466 bytes", file_says(answer, 0, 0, length, EXAMPLE_FILE));
+    verdict("its head", memcmp(file, example_head, HEAD) == 0);
+    verdict("its first vertex", memcmp(file + HEAD, first_vertex, sizeof first_vertex) == 0);
+    verdict("its first face", memcmp(file + FACES_AT, first_face, sizeof first_face) == 0);
+    plain_ply(2, 2, 2, &no_word, 0, &no_offset, 0, &no_word, 0, 1, 1, 1, file, EXAMPLE_FILE, &length, 1, answer,
+              ANSWER);
+    verdict("the file of no mesh: 172 bytes",
+            file_says(answer, 0, 0, length, EMPTY_FILE) && memcmp(file, empty_file, EMPTY_FILE) == 0);
+}
+
 /* ---- faces ---- */
 
 static void faces(void)
@@ -343,6 +395,7 @@ int main(void)
     refusals();
     ceilings_of_blocks();
     lists();
+    files();
     example();
     printf("plain_samples: %u differences\n", failures);
     return failures ? 1 : 0;

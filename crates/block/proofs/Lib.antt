@@ -4,5 +4,6 @@ pub mod Rows
 pub mod Sizes
 pub mod Fixed
 pub mod Order
+pub mod Searches
 pub mod ClearRuns
 pub mod Saturated

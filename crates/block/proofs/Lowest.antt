@@ -70,3 +70,21 @@ module _ {A : Type 0} (bad : A → Bool) (d : A) where
       go : (lowest bad xs < length xs) ⊎ (length xs ≤ lowest bad xs) → bad (getD xs k d) ≡ false
       go (inl l) = let clash : refuses number (lowest bad xs) ≡ Passes = sym (row-refuses bad number xs l) ∙ e in let z : _≡_ {A = ℕ} 0 1 = cc in absurd (omega arith)
       go (inr g) = lowest-before xs k (omega arith)
+
+-- the row of three elements, by the first that is bad
+module _ {A : Type 0} (number : ℕ) (bad : A → Bool) (x y z : A) where
+  pub first-of-three : bad x ≡ true → lowestRow number bad (x ∷ y ∷ z ∷ []) ≡ refuses number 0
+  unfolding lowestRow lowest
+  first-of-three a = simp a
+
+  pub second-of-three : bad x ≡ false → bad y ≡ true → lowestRow number bad (x ∷ y ∷ z ∷ []) ≡ refuses number 1
+  unfolding lowestRow lowest
+  second-of-three a b = simp (a, b)
+
+  pub third-of-three : bad x ≡ false → bad y ≡ false → bad z ≡ true → lowestRow number bad (x ∷ y ∷ z ∷ []) ≡ refuses number 2
+  unfolding lowestRow lowest
+  third-of-three a b c = simp (a, b, c)
+
+  pub none-of-three : bad x ≡ false → bad y ≡ false → bad z ≡ false → lowestRow number bad (x ∷ y ∷ z ∷ []) ≡ Passes
+  unfolding lowestRow lowest
+  none-of-three a b c = simp (a, b, c)

@@ -6,10 +6,11 @@ use Prim.Native.Nat.{ℕ, zero, suc, _<_}
 use native.Mathlib.Nat.{not-suc-le-zero, le-of-suc-le-suc}
 use native.Mathlib.Omega.{arith}
 use lib.ListN.{length, getD}
+use Rattle.laws.specs.Below.{over}
 use Rattle.block.specs.declared.Refusal.{Refusal}
 use Rattle.block.specs.declared.Checked.{Checked}
 use Rattle.block.specs.declared.Checked.the-variants.{Passes, Refuses}
-use Rattle.block.specs.Answer.{Answer, accepted, refused, inOrder, First, decided, judged}
+use Rattle.block.specs.Answer.{Answer, accepted, refused, inOrder, First, decided, judged, written}
 
 -- ---- a check and an answer are one thing or the other
 
@@ -117,22 +118,32 @@ unfolding decided
 refused-says Passes a r e = absurd (accepted-refused (sym e))
 refused-says (Refuses q) a r e = cc
 
-refused-back : {A : Type 0} (k : Checked) (a : A) (r : Refusal) → k ≡ Refuses r → judged k a ≡ refused r
+pub judged-refused : {A : Type 0} (k : Checked) (a : A) (r : Refusal) → k ≡ Refuses r → refused r ≡ judged k a
 unfolding decided
-refused-back k a r e = rw e
+judged-refused k a r e = rw e
 
 pub accepted-says : {A : Type 0} (k : Checked) (a b : A) → accepted b ≡ judged k a → (k ≡ Passes) × (b ≡ a)
 unfolding decided
 accepted-says Passes a b e = (refl, cc)
 accepted-says (Refuses q) a b e = absurd (accepted-refused e)
 
-accepted-back : {A : Type 0} (k : Checked) (a b : A) → k ≡ Passes → b ≡ a → judged k a ≡ accepted b
+pub judged-passed : {A : Type 0} (k : Checked) (a b : A) → k ≡ Passes → a ≡ b → accepted a ≡ judged k b
 unfolding decided
-accepted-back k a b e f = rw (e, f)
+judged-passed k a b e f = rw (e, f)
 
 module _ {A : Type 0} (k : Checked) (a : A) (said : Answer A) (promise : said ≡ judged k a) where
   pub refused-exactly : (r : Refusal) → (said ≡ refused r) ↔ (k ≡ Refuses r)
-  refused-exactly r = (λ e. refused-says k a r (sym e ∙ promise), λ e. promise ∙ refused-back k a r e)
+  refused-exactly r = (λ e. refused-says k a r (sym e ∙ promise), λ e. promise ∙ sym (judged-refused k a r e))
 
   pub accepted-exactly : (b : A) → (said ≡ accepted b) ↔ ((k ≡ Passes) × (b ≡ a))
-  accepted-exactly b = (λ e. accepted-says k a b (sym e ∙ promise), λ h. promise ∙ accepted-back k a b (h .0) (h .1))
+  accepted-exactly b = (λ e. accepted-says k a b (sym e ∙ promise), λ h. promise ∙ sym (judged-passed k b a (h .0) (h .1)))
+
+-- ---- buffers: after a refusal one is as it was, else what is answered is over its front
+
+pub written-refused : {A : Type 0} (k : Checked) (xs b : List A) (r : Refusal) → k ≡ Refuses r → written k xs b ≡ b
+unfolding decided
+written-refused k xs b r e = rw e
+
+pub written-passed : {A : Type 0} (k : Checked) (xs b : List A) → k ≡ Passes → written k xs b ≡ over xs b
+unfolding decided
+written-passed k xs b e = rw e

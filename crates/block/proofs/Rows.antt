@@ -39,6 +39,13 @@ pub holds-unless : (b : Bool) (n v : ℕ) (x : Refusal) → cond b Passes (refus
 holds-unless true n v x e = absurd (passes-refuses e)
 holds-unless false n v x e = refusal-is n v x e
 
+-- as the code finds a row that holds where a test does not
+pub unless-passes : (b : Bool) (n v : ℕ) → b ≡ true → Passes ≡ cond b Passes (refuses n v)
+unless-passes b n v e = rw e
+
+pub unless-refuses : (b : Bool) (n v w : ℕ) → b ≡ false → w ≡ given v → Refuses (record { number = n; value = w }) ≡ cond b Passes (refuses n v)
+unless-refuses b n v w e g = rw (e, g)
+
 -- one that names the lowest place
 pub lowest-refusal : {A : Type 0} (n : ℕ) (bad : A → Bool) (xs : List A) (x : Refusal) → lowestRow n bad xs ≡ Refuses x
     → (lowest bad xs < length xs) × (x ≡ record { number = n; value = given (lowest bad xs) })

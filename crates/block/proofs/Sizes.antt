@@ -13,11 +13,12 @@ use Rattle.block.specs.declared.Refusal.{Refusal}
 use Rattle.block.specs.declared.Checked.the-variants.{Passes, Refuses}
 use Rattle.block.specs.declared.Size.{Size}
 use Rattle.block.specs.declared.Sized.the-variants.{Made, BadAxis}
-use Rattle.block.specs.Answer.{inOrder, decided}
-use Rattle.block.specs.Rows.{shortest, longest, outOfLimits, axisRow, lowestRow, lowest}
-use Rattle.block.specs.Size.{saidSize, sizeAnswer, SizeMade, Limits}
-use Rattle.block.proofs.Lowest.{row-clear}
-use Rattle.block.proofs.Order.{order-last, refused-says, accepted-says}
+use Rattle.block.specs.Answer.{inOrder, refuses}
+use Rattle.block.specs.Rows.{shortest, longest, outOfLimits, axisRow}
+use Rattle.block.specs.Size.{sizeOf, saidSize, sizeAnswer, SizeMade, Limits}
+use Rattle.block.proofs.Lowest.{row-clear, first-of-three, second-of-three, third-of-three, none-of-three}
+use Rattle.block.proofs.Rows.{given-small}
+use Rattle.block.proofs.Order.{order-last, refused-says, accepted-says, judged-refused, judged-passed}
 
 -- no two answers say the same
 pub said-size-injective : Injective saidSize
@@ -51,22 +52,20 @@ in-limits n l h = rw (le-ltb n shortest l) (le-ltb longest n h)
 
 -- what `Size::new` says, by the first axis that is out of its limits
 module _ (nx ny nz : ℕ) where
+  bad-axis : (a : ℕ) → axisRow nx ny nz ≡ refuses 1 a → a ≤ 2 → saidSize (BadAxis a) ≡ sizeAnswer nx ny nz
+  bad-axis a e h = rw (order-last (axisRow nx ny nz), e) (judged-refused (refuses 1 a) (sizeOf nx ny nz) _ (ap (λ (v : ℕ). Refuses (record { number = 1; value = v })) (given-small a (omega (arith, h)))))
+
   pub first-bad : outOfLimits nx ≡ true → saidSize (BadAxis 0) ≡ sizeAnswer nx ny nz
-  unfolding lowestRow lowest inOrder decided
-  first-bad x = simp x
+  first-bad x = bad-axis 0 (first-of-three 1 outOfLimits nx ny nz x) (omega arith)
 
   pub second-bad : outOfLimits nx ≡ false → outOfLimits ny ≡ true → saidSize (BadAxis 1) ≡ sizeAnswer nx ny nz
-  unfolding lowestRow lowest inOrder decided
-  second-bad x y = simp (x, y)
+  second-bad x y = bad-axis 1 (second-of-three 1 outOfLimits nx ny nz x y) (omega arith)
 
   pub third-bad : outOfLimits nx ≡ false → outOfLimits ny ≡ false → outOfLimits nz ≡ true → saidSize (BadAxis 2) ≡ sizeAnswer nx ny nz
-  unfolding lowestRow lowest inOrder decided
-  third-bad x y z = simp (x, y, z)
+  third-bad x y z = bad-axis 2 (third-of-three 1 outOfLimits nx ny nz x y z) (omega arith)
 
-  pub none-bad : outOfLimits nx ≡ false → outOfLimits ny ≡ false → outOfLimits nz ≡ false
-      → saidSize (Made (record { nx = nx; ny = ny; nz = nz })) ≡ sizeAnswer nx ny nz
-  unfolding lowestRow lowest inOrder decided
-  none-bad x y z = simp (x, y, z)
+  pub none-bad : outOfLimits nx ≡ false → outOfLimits ny ≡ false → outOfLimits nz ≡ false → saidSize (Made (sizeOf nx ny nz)) ≡ sizeAnswer nx ny nz
+  none-bad x y z = judged-passed _ _ _ (order-last (axisRow nx ny nz) ∙ none-of-three 1 outOfLimits nx ny nz x y z) refl
 
 -- axis lengths that row 1 passes
 pub axes-within : (nx ny nz : ℕ) → axisRow nx ny nz ≡ Passes → Limits (record { nx = nx; ny = ny; nz = nz })
@@ -79,8 +78,7 @@ axes-within nx ny nz e =
 
 -- and the other way
 pub within-axes : (nx ny nz : ℕ) → Limits (record { nx = nx; ny = ny; nz = nz }) → axisRow nx ny nz ≡ Passes
-unfolding lowestRow lowest
-within-axes nx ny nz l = simp (in-limits nx (l .x-low) (l .x-high), in-limits ny (l .y-low) (l .y-high), in-limits nz (l .z-low) (l .z-high))
+within-axes nx ny nz l = none-of-three 1 outOfLimits nx ny nz (in-limits nx (l .x-low) (l .x-high)) (in-limits ny (l .y-low) (l .y-high)) (in-limits nz (l .z-low) (l .z-high))
 
 -- what row 1 says, by what `Size::new` answered
 pub axis-refused : (nx ny nz a : ℕ) → SizeMade nx ny nz (BadAxis a) → axisRow nx ny nz ≡ Refuses (record { number = 1; value = a })

@@ -3,6 +3,7 @@ use Prim.Native.Nat.{ℕ, min, _<_}
 use mathlib.Core.Path.{_≡_}
 use mathlib.Core.List.{List, [], _∷_}
 use lib.ListN.{length, getD}
+use Rattle.laws.specs.Below.{over}
 use Rattle.laws.specs.Filled.{filled}
 use Rattle.block.specs.declared.Refusal.{Refusal}
 use Rattle.block.specs.declared.Checked.{Checked}
@@ -42,6 +43,10 @@ decided (Refuses r) a other = other r
 -- the answer of an input that the checks judge so
 abbrev pub judged : {A : Type 0} → Checked → A → Answer A
 judged k a = decided k (accepted a) refused
+
+-- a buffer afterwards: what is answered over its front, with the rest kept, or all as it was
+abbrev pub written : {A : Type 0} → Checked → List A → List A → List A
+written k xs buffer = decided k (over xs buffer) (λ r. buffer)
 
 -- an answer in n numbers: 0 and what is answered, or number and value; then zeros
 abbrev pub told : {A : Type 0} → ℕ → (A → List ℕ) → Answer A → List ℕ

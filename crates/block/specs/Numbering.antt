@@ -1,5 +1,5 @@
 -- The numbering of a block's samples, cubes and edges, x fastest (document 01, "The block and its numbering").
-use Prim.Native.Nat.{ℕ, _-_, _*_}
+use Prim.Native.Nat.{ℕ, _-_, _*_, _/_, _%_}
 use Rattle.laws.specs.Index.{indexIn}
 use Rattle.block.specs.declared.Size.{Size}
 
@@ -16,6 +16,13 @@ cubeNumber n i j k = indexIn (n .nx - 1) (n .ny - 1) i j k
 
 abbrev pub cubeCount : Size → ℕ
 cubeCount n = (n .nx - 1) * ((n .ny - 1) * (n .nz - 1))
+
+-- f of the coordinates of the sample with index p, and of the cube with number c
+abbrev pub atSample : {A : Type 0} → Size → (ℕ → ℕ → ℕ → A) → ℕ → A
+atSample n f p = f (p % n .nx) (p / n .nx % n .ny) (p / n .nx / n .ny)
+
+abbrev pub atCube : {A : Type 0} → Size → (ℕ → ℕ → ℕ → A) → ℕ → A
+atCube n f c = f (c % (n .nx - 1)) (c / (n .nx - 1) % (n .ny - 1)) (c / (n .nx - 1) / (n .ny - 1))
 
 -- an edge of the block is named by the axis along which it runs and by its lower sample
 pub data Axis : Type 0 where

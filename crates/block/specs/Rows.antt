@@ -4,6 +4,7 @@ use mathlib.Core.Bool.{Bool, cond, _||_}
 use mathlib.Core.List.{List, [], _∷_}
 use lib.Dec.{ltb, eqb}
 use lib.ListN.{length}
+use Rattle.laws.specs.Leading.{leading}
 use Rattle.block.specs.declared.Checked.{Checked}
 use Rattle.block.specs.declared.Checked.the-variants.{Passes}
 use Rattle.block.specs.declared.Cut.{Cut}
@@ -21,6 +22,11 @@ lowest bad (x ∷ xs) = cond (bad x) 0 (suc (lowest bad xs))
 unfoldable pub lowestRow : {A : Type 0} → ℕ → (A → Bool) → List A → Checked
 unfolding lowest
 lowestRow number bad xs = cond (ltb (lowest bad xs) (length xs)) (refuses number (lowest bad xs)) Passes
+
+-- a row that holds where the test fails at some number below n, with the lowest such number as its value
+unfoldable pub searchRow : ℕ → (ℕ → Bool) → ℕ → Checked
+unfolding leading
+searchRow number good n = cond (eqb (leading good n) n) Passes (refuses number (leading good n))
 
 -- the axis limits: "each 2 to 256"
 abbrev pub shortest : ℕ

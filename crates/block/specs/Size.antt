@@ -8,6 +8,10 @@ use Rattle.block.specs.declared.Sized.the-variants.{Made, BadAxis}
 use Rattle.block.specs.Answer.{Answer, accepted, refused, inOrder, judged}
 use Rattle.block.specs.Rows.{shortest, longest, axisRow}
 
+-- three axis lengths as a size, accepted or not
+abbrev pub sizeOf : ℕ → ℕ → ℕ → Size
+sizeOf nx ny nz = record { nx = nx; ny = ny; nz = nz }
+
 -- 01's number and values of each case: a refused axis is refusal 1
 abbrev pub saidSize : Sized → Answer Size
 saidSize (Made n) = accepted n
@@ -15,7 +19,7 @@ saidSize (BadAxis a) = refused (record { number = 1; value = a })
 
 -- three axis lengths make a size, or are refused by row 1
 abbrev pub sizeAnswer : ℕ → ℕ → ℕ → Answer Size
-sizeAnswer nx ny nz = judged (inOrder (axisRow nx ny nz ∷ [])) (record { nx = nx; ny = ny; nz = nz })
+sizeAnswer nx ny nz = judged (inOrder (axisRow nx ny nz ∷ [])) (sizeOf nx ny nz)
 
 -- the promise of `Size::new`
 abbrev pub SizeMade : ℕ → ℕ → ℕ → Sized → Type 0

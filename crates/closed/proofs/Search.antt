@@ -1,6 +1,6 @@
 -- The search for the first side that is not in order: the uses that are counted, the side that is judged, and what the search answers.
 -- Assumes nothing.
-use mathlib.Core.Path.{_≡_, refl}
+use mathlib.Core.Path.{_≡_, refl, sym, _∙_}
 use mathlib.Core.Bool.{Bool, true, false, _&&_, _||_}
 use mathlib.Core.List.{List, [], _∷_}
 use Prim.Native.Nat.{ℕ, _+_, _*_, _/_, _%_, _≤_, _<_}
@@ -13,10 +13,13 @@ use Rattle.laws.specs.Bits.{bit}
 use Rattle.laws.specs.Counting.{count}
 use Rattle.laws.specs.Leading.{leading}
 use Rattle.laws.proofs.Leading.{HoldsTo, leading-at, leading-all}
-use Rattle.block.specs.Answer.{accepted, inOrder, decided, judged}
-use Rattle.block.proofs.Rows.{given-small}
-use Rattle.closed.specs.declared.Closure.the-variants.{Refused}
-use Rattle.closed.specs.Closed.{sameSide, sideSound, Finding, allSound, openAt, findingOf, lengthRow, ClosedAnswered}
+use Rattle.block.specs.declared.Refusal.{Refusal}
+use Rattle.block.specs.declared.Checked.the-variants.{Passes, Refuses}
+use Rattle.block.specs.Answer.{accepted, inOrder, judged}
+use Rattle.block.proofs.Order.{order-refuses, order-last, judged-refused, judged-passed}
+use Rattle.lists.specs.Rows.{lengthRow}
+use Rattle.closed.specs.declared.Closure.the-variants as closure
+use Rattle.closed.specs.Closed.{sameSide, sideSound, Finding, allSound, openAt, findingOf, ClosedAnswered}
 use Rattle.closed.specs.Steps.{nextPlace, usesBefore, soundSide}
 
 -- ---- two sides, and a side with its uses
@@ -90,10 +93,8 @@ module _ (quads : List ℕ) where
 
   -- ---- and what is answered
 
-  pub answer-refused : (length quads % 4 ≡ 0 → ⊥) → ClosedAnswered quads (Refused (record { number = 7; value = length quads % 4 }))
-  unfolding inOrder decided
-  answer-refused h = rw (ne-eqb (length quads % 4) 0 h, given-small (length quads % 4) (omega arith))
+  pub answer-refused : (r : Refusal) → lengthRow quads ≡ Refuses r → ClosedAnswered quads (closure.Refused r)
+  answer-refused r e = judged-refused _ _ r (order-refuses (lengthRow quads) [] r e)
 
-  pub answer-found : length quads % 4 ≡ 0 → (f : Finding) → findingOf quads ≡ f → accepted f ≡ judged (inOrder (lengthRow quads ∷ [])) (findingOf quads)
-  unfolding inOrder decided
-  answer-found h f e = rw (eq-eqb (length quads % 4) 0 h, e)
+  pub answer-found : lengthRow quads ≡ Passes → (f : Finding) → findingOf quads ≡ f → accepted f ≡ judged (inOrder (lengthRow quads ∷ [])) (findingOf quads)
+  answer-found h f e = judged-passed _ _ _ (order-last (lengthRow quads) ∙ h) (sym e)

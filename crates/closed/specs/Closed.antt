@@ -7,9 +7,8 @@ use lib.Dec.{eqb}
 use lib.ListN.{length, getD}
 use Rattle.laws.specs.Counting.{count}
 use Rattle.laws.specs.Leading.{leading}
-use Rattle.block.specs.declared.Checked.{Checked}
-use Rattle.block.specs.declared.Checked.the-variants.{Passes}
-use Rattle.block.specs.Answer.{Answer, accepted, refused, refuses, inOrder, judged}
+use Rattle.block.specs.Answer.{Answer, accepted, refused, inOrder, judged}
+use Rattle.lists.specs.Rows.{lengthRow}
 use Rattle.closed.specs.declared.Closure.{Closure}
 use Rattle.closed.specs.declared.Closure.the-variants.{Closed, Open, Refused}
 
@@ -40,10 +39,6 @@ unfoldable pub findingOf : List ℕ → Finding
 findingOf quads =
     let first = leading (sideSound quads) (length quads) in
     cond (eqb first (length quads)) allSound (openAt (first / 4) (first % 4))
-
--- 7: the length of a quad list is no multiple of 4; the length modulo 4
-abbrev pub lengthRow : List ℕ → Checked
-lengthRow quads = cond (eqb (length quads % 4) 0) Passes (refuses 7 (length quads % 4))
 
 -- 01's number and values of each case
 abbrev pub saidClosure : Closure → Answer Finding

@@ -1,5 +1,6 @@
 // The closed question: whether each side of a list of quads is in order, and the first side that is not (document 01, "The mesh"). It
 // compares every side with every other, so its cost grows with the square of the list's length.
+use block::Checked;
 use block::Refusal;
 ghost use mathlib.Core.Path.{_≡_};
 ghost use Prim.Native.Nat.{_≤_, _<_};
@@ -54,12 +55,9 @@ fn sound(a: u32, b: u32, uses: usize) -> bool
 pub fn closed(quads: &[u32]) -> Closure
     ensures { λ r. ⌜ ClosedAnswered (now (quads .entry)) r ⌝ }
 {
-    let rest = quads.len() % 4;
-    if rest != 0 {
-        return Closure::Refused(Refusal {
-            number: 7,
-            value: rest as u32,
-        });
+    let row = lists::check_length(quads);
+    if let Checked::Refuses(r) = row {
+        return Closure::Refused(r);
     }
     let count = quads.len() / 4;
     let mut quad = 0;

@@ -2,7 +2,7 @@
 -- there is exactly one. So there is a call of `mesh` wherever its checks pass.
 use Prim.Native.Nat.{ℕ, _≤_}
 use native.Mathlib.Omega.{arith}
-use mathlib.Core.Path.{_≡_, refl}
+use mathlib.Core.Path.{_≡_, refl, sym}
 use mathlib.Core.Bool.{Bool, true, false, cond}
 use mathlib.Core.List.{List, [], _∷_, map}
 use lib.Ieee.{Float}
@@ -15,13 +15,13 @@ use Rattle.block.specs.declared.Sized.{Sized}
 use Rattle.block.specs.declared.Sized.the-variants as sized
 use Rattle.block.specs.declared.Checked.{Checked}
 use Rattle.block.specs.declared.Checked.the-variants.{Passes, Refuses}
-use Rattle.block.specs.Answer.{Answer, accepted, refused, decided, inOrder, judged}
+use Rattle.block.specs.Answer.{Answer, accepted, refused, decided, inOrder, judged, written}
 use Rattle.block.specs.Ceilings.{ceilingsIn}
 use Rattle.block.specs.Grey.{cutOf, apart}
 use Rattle.block.specs.Rows.{outOfLimits, thresholdRow}
-use Rattle.block.specs.Size.{SizeMade}
+use Rattle.block.specs.Size.{sizeOf, SizeMade}
 use Rattle.block.proofs.Sizes.{first-bad, second-bad, third-bad, none-bad}
-use Rattle.block.proofs.Order.{accepted-exactly}
+use Rattle.block.proofs.Order.{accepted-exactly, judged-passed, written-passed}
 use Rattle.cube_rule.specs.Decider.{loopsOf}
 use Rattle.place.specs.declared.Crossing.{Crossing}
 use Rattle.place.specs.declared.Crossing.the-variants as crossing-is
@@ -35,13 +35,20 @@ use Rattle.mesh_rule.specs.Buffers.{triples, meshWords, meshOffsets, meshQuads}
 use Rattle.mesh.specs.declared.Totals.{Totals}
 use Rattle.mesh.specs.declared.Counted.{Counted}
 use Rattle.mesh.specs.declared.Counted.the-variants as counted
-use Rattle.mesh.specs.Answer.{sizeOf, countsOf, countsVerdict, saidCounts, CountsAnswered, meshVerdict, written, Meshed}
+use Rattle.mesh.specs.Answer.{countsOf, countsVerdict, saidCounts, CountsAnswered, meshVerdict, Meshed}
 use Rattle.closed.specs.declared.Closure.{Closure}
 use Rattle.closed.specs.declared.Closure.the-variants as closure-is
-use Rattle.closed.specs.Closed.{Finding, allSound, openAt, findingOf, lengthRow, saidClosure, ClosedAnswered}
+use Rattle.closed.specs.Closed.{Finding, allSound, openAt, findingOf, saidClosure, ClosedAnswered}
+use Rattle.lists.specs.Rows.{lengthRow}
+use Rattle.ply.specs.declared.Spacing.{Spacing}
+use Rattle.ply.specs.declared.Filed.{Filed}
+use Rattle.ply.specs.declared.Filed.the-variants as filed
+use Rattle.ply.specs.File.{plyFile}
+use Rattle.ply.specs.Answer.{saidFile, plyVerdict, PlyWritten}
+use Rattle.ply.proofs.Written.{file-refused, file-fits}
 use Rattle.lines.specs.Output.{outputOf, Ran}
 use Rattle.lines.proofs.Outputs.{output-fits}
-use Rattle.parsniprow_c.specs.Told.{tellOver, toldCeilings, toldEdge, toldFraction, toldCube, toldCounts, toldClosed, CeilingsTold, EdgeTold, CubeTold, CountsTold, MeshTold, ClosedTold}
+use Rattle.parsniprow_c.specs.Told.{tellOver, toldCeilings, toldEdge, toldFraction, toldCube, toldCounts, toldClosed, toldLength, toldFile, CeilingsTold, EdgeTold, CubeTold, CountsTold, MeshTold, ClosedTold, PlyTold}
 use Rattle.demands.specs.Answers.{MeshCall}
 
 -- ---- the size: a refusal is row 1's, so it has the number that is told
@@ -135,6 +142,20 @@ closed-allows quads = go (judged (inOrder (lengthRow quads ∷ [])) (findingOf q
     go (accepted (openAt q s)) = (closure-is.Open q s, refl)
     go (refused x) = (closure-is.Refused x, refl)
 
+-- ---- a PLY file: the buffer keeps its length
+
+pub ply-allows : (nx ny nz : ℕ) (words : List ℕ) (offsets : List Float) (quads : List ℕ) (s : Spacing) (file : List ℕ)
+    → (r : Filed) × (file′ : List ℕ) × PlyWritten nx ny nz words offsets quads s file r file′ × (length file′ ≡ length file)
+ply-allows nx ny nz words offsets quads s file = go (plyVerdict nx ny nz words offsets quads s (length file)) refl
+  where
+    go : (k : Checked) → plyVerdict nx ny nz words offsets quads s (length file) ≡ k
+        → (r : Filed) × (file′ : List ℕ) × PlyWritten nx ny nz words offsets quads s file r file′ × (length file′ ≡ length file)
+    go (Refuses x) e = (filed.Refused x, file, file-refused nx ny nz words offsets quads s file x e, refl)
+    go Passes e =
+        let whole = plyFile (sizeOf nx ny nz) words offsets quads s in
+        let fits = file-fits nx ny nz words offsets quads s file e in
+        (filed.Bytes (length whole), over whole file, record { answer = judged-passed _ _ _ e refl; bytes = sym (written-passed _ whole file e) }, over-length whole file fits)
+
 -- ---- the program: its buffer has room for every output, and keeps its length
 
 pub run-allows : (bytes out : List ℕ) → 112917 ≤ length out → (r : ℕ) × (out′ : List ℕ) × Ran bytes out r out′ × (length out′ ≡ length out)
@@ -174,3 +195,13 @@ mesh-told-allows nx ny nz s t w o q place =
 pub closed-told-allows : (quads place : List ℕ) → (place′ : List ℕ) × ClosedTold quads place place′
 closed-told-allows quads place =
     let r = closed-allows quads in (tellOver (toldClosed (saidClosure (r .0))) place, record { answer = r .0; answered = r .1; is-told = refl })
+
+pub ply-told-allows : (nx ny nz : ℕ) (words : List ℕ) (offsets : List Float) (quads : List ℕ) (s : Spacing) (file bytes place : List ℕ)
+    → (file′ : List ℕ) × (bytes′ : List ℕ) × (place′ : List ℕ) × PlyTold nx ny nz words offsets quads s file bytes place file′ bytes′ place′
+ply-told-allows nx ny nz words offsets quads s file bytes place =
+    let r = ply-allows nx ny nz words offsets quads s file in (
+      r .1,
+      tellOver (toldLength (saidFile (r .0))) bytes,
+      tellOver (toldFile (saidFile (r .0))) place,
+      record { answer = r .0; written = r .2; length-told = refl; is-told = refl },
+    )

@@ -15,8 +15,10 @@ use Rattle.place.specs.Crossing.{saidEdge, edgeAnswer, EdgeAnswered}
 use Rattle.cell.specs.Answer.{saidCube}
 use Rattle.mesh.specs.Answer.{saidCounts}
 use Rattle.closed.specs.Closed.{saidClosure}
+use Rattle.ply.specs.Answer.{saidFile}
 use Rattle.reading.proofs.Verdicts.{run-numbers}
 use Rattle.demands.specs.Marks.{NotFour, FourNever}
+use Rattle.demands.proofs.Files.{PlyNumber, ply-numbers}
 use Rattle.demands.proofs.Numbers.{size-numbers, edge-numbers, cube-numbers, counts-numbers, mesh-numbers, closed-numbers}
 use Rattle.demands.proofs.Places.{four-untold}
 use Rattle.demands.proofs.Refusals.{run-refuses}
@@ -34,6 +36,12 @@ of-run n (inl h) e = omega (arith, h, e)
 of-run n (inr (inl h)) e = omega (arith, h, e)
 of-run n (inr (inr h)) e = omega (arith, h .0, e)
 
+of-ply : (n : ℕ) → PlyNumber n → n ≡ 4 → ⊥
+of-ply n (inl h) e = omega (arith, h, e)
+of-ply n (inr (inl h)) e = omega (arith, h, e)
+of-ply n (inr (inr (inl h))) e = omega (arith, h .0, e)
+of-ply n (inr (inr (inr h))) e = omega (arith, h .0, e)
+
 pub four-never : FourNever
 four-never = record {
   size = λ nx ny nz r m x e f. omega (arith, f, size-numbers nx ny nz x (refused-exactly _ _ _ m x .0 e));
@@ -42,6 +50,7 @@ four-never = record {
   counts = λ nx ny nz s cut r m x e f. omega (arith, f, counts-numbers nx ny nz s cut x (refused-exactly _ _ _ m x .0 e) .1);
   mesh = λ nx ny nz s cut w o q r w′ o′ q′ m x e. of-mesh (x .number) (mesh-numbers nx ny nz s cut (length w) (length o) (length q) x (refused-exactly _ _ _ (m .answer) x .0 e));
   closed = λ quads r m x e f. omega (arith, f, closed-numbers quads x (refused-exactly _ _ _ m x .0 e));
+  ply = λ nx ny nz words offsets quads s file r file′ m x e. of-ply (x .number) (ply-numbers nx ny nz words offsets quads s (length file) x (refused-exactly _ _ _ (m .answer) x .0 e));
   run = λ bytes out r out′ m v h p. of-run 4 (run-numbers bytes _ (run-refuses bytes out r out′ m (record { number = 4; value = v }) (omega arith) h .0 p)) refl;
   ceilings-told = λ s place place′ m. four-untold 3 (λ (c : CeilingCount). c .count ∷ c .lowest ∷ []) (accepted (ceilingsIn s)) place place′ m (λ x e f. let z : _≡_ {A = ℕ} 0 1 = cc in omega arith);
   edge-told = λ p q t f place f′ place′ m. four-untold 3 _ (saidEdge (m .answer)) place place′ (m .is-told) (edge-other p q t (m .answer) (m .answered));
@@ -49,4 +58,5 @@ four-never = record {
   counts-told = λ nx ny nz s t place place′ m. four-untold 3 _ (saidCounts (m .answer)) place place′ (m .is-told) (λ x e f. omega (arith, f, counts-numbers nx ny nz s (cutOf t) x (refused-exactly _ _ _ (m .answered) x .0 e) .1));
   mesh-told = λ nx ny nz s t w o q place w′ o′ q′ place′ m. four-untold 3 _ (saidCounts (m .answer)) place place′ (m .is-told) (λ x e. of-mesh (x .number) (mesh-numbers nx ny nz s (cutOf t) (length w) (length o) (length q) x (refused-exactly _ _ _ (m .meshed .answer) x .0 e)));
   closed-told = λ quads place place′ m. four-untold 4 _ (saidClosure (m .answer)) place place′ (m .is-told) (λ x e f. omega (arith, f, closed-numbers quads x (refused-exactly _ _ _ (m .answered) x .0 e)));
+  ply-told = λ nx ny nz words offsets quads s file bytes place file′ bytes′ place′ m. four-untold 3 _ (saidFile (m .answer)) place place′ (m .is-told) (λ x e. of-ply (x .number) (ply-numbers nx ny nz words offsets quads s (length file) x (refused-exactly _ _ _ (m .written .answer) x .0 e)));
 }

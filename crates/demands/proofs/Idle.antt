@@ -16,7 +16,7 @@ use Rattle.block.specs.declared.Checked.the-variants.{Passes}
 use Rattle.block.specs.Grey.{cutOf}
 use Rattle.block.specs.Numbering.{cubeCount}
 use Rattle.block.specs.Rows.{axisRow, countRow, thresholdRow}
-use Rattle.block.specs.Size.{Limits}
+use Rattle.block.specs.Size.{sizeOf, Limits}
 use Rattle.block.proofs.Order.{passes-refuses, order-passes, order-last, orders-pass, refused-exactly}
 use Rattle.block.proofs.Rows.{count-passes}
 use Rattle.block.proofs.Sizes.{within-axes}
@@ -28,7 +28,7 @@ use Rattle.mesh_rule.specs.Boards.{board, hollow}
 use Rattle.mesh_rule.proofs.Checkerboard.{hollow-vertices, hollow-length, board-vertices, board-length}
 use Rattle.mesh.specs.declared.Totals.{Totals}
 use Rattle.mesh.specs.declared.Counted.{Counted}
-use Rattle.mesh.specs.Answer.{sizeOf, vertexCount, quadCount, blockRows, vertexRow, quadRow, saidCounts, countsVerdict, CountsAnswered, meshVerdict, Meshed}
+use Rattle.mesh.specs.Answer.{vertexCount, quadCount, blockRows, vertexRow, quadRow, saidCounts, countsVerdict, CountsAnswered, meshVerdict, Meshed}
 use Rattle.demands.specs.Answers.{NotRefused, MeshCall, SameMesh}
 use Rattle.demands.proofs.Allowed.{mesh-call}
 use Rattle.demands.proofs.TheMesh.{mesh-given, quads-are, word-at, offset-at, number-at}

@@ -7,6 +7,7 @@ pub mod TheMesh
 pub mod Marks
 pub mod TextMarks
 pub mod Places
+pub mod Files
 pub mod Told
 pub mod Four
 pub mod StandIn

@@ -21,6 +21,7 @@ use Rattle.block.specs.Answer.{accepted}
 use Rattle.block.specs.Ceilings.{AtCeiling}
 use Rattle.block.specs.Grey.{ceiling, hasCeiling, positive, apart, SixteenBit}
 use Rattle.block.specs.Numbering.{Axis, X, Y, Z, cubeCount, cubeNumber}
+use Rattle.block.specs.Size.{sizeOf}
 use Rattle.block.proofs.Order.{accepted-exactly}
 use Rattle.block.proofs.Saturated.{ceiling-exactly}
 use Rattle.cube_rule.specs.Decider.{joined, loopsOf}
@@ -36,7 +37,6 @@ use Rattle.mesh_rule.specs.Grid.{sampleAt, cornersAt, cornersOf, ahead, crossed
 use Rattle.mesh_rule.specs.Mesh.{Vertex, cubeLoops, verticesBefore, vertices, vertexOf}
 use Rattle.mesh_rule.proofs.Numbers.{corners-of-number, loop-lt, loop-stands, vertex-is-loop}
 use Rattle.mesh_rule.proofs.Words.{words-at}
-use Rattle.mesh.specs.Answer.{sizeOf}
 use Rattle.demands.specs.Answers.{MeshCall}
 use Rattle.demands.specs.Marks.{hasMark, wordAfter, cornersAfter, Unmarked, BothSigns, InBox}
 use Rattle.demands.proofs.TheMesh.{limits, mesh-given, word-at}

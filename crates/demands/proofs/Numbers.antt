@@ -2,7 +2,7 @@
 -- only 7. And that no value is cut where the axes are accepted.
 use Prim.Native.Nat.{ℕ, _*_, _%_, _≤_, _<_}
 use mathlib.Core.Path.{_≡_, sym, ap, _∙_}
-use mathlib.Core.Bool.{Bool, _&&_}
+use mathlib.Core.Bool.{Bool, cond, _&&_}
 use mathlib.Core.Logic.{_⊎_, inl, inr, ⊎-elim}
 use mathlib.Core.List.{List, [], _∷_, _++_}
 use native.Mathlib.Omega.{arith}
@@ -13,11 +13,11 @@ use Rattle.block.specs.declared.Refusal.{Refusal}
 use Rattle.block.specs.declared.Size.{Size}
 use Rattle.block.specs.declared.Checked.{Checked}
 use Rattle.block.specs.declared.Checked.the-variants.{Passes, Refuses}
-use Rattle.block.specs.Answer.{given, inOrder}
+use Rattle.block.specs.Answer.{given, refuses, inOrder}
 use Rattle.block.specs.Grey.{cutOf, noThreshold}
 use Rattle.block.specs.Numbering.{sampleCount}
 use Rattle.block.specs.Rows.{lowest, lowestRow, outOfLimits, axisRow, countRow, thresholdRow}
-use Rattle.block.specs.Size.{Limits}
+use Rattle.block.specs.Size.{sizeOf, Limits}
 use Rattle.block.proofs.Order.{order-splits, order-last, first-has}
 use Rattle.block.proofs.Products.{product-le}
 use Rattle.block.proofs.Rows.{holds-where, holds-unless, lowest-refusal}
@@ -26,28 +26,32 @@ use Rattle.cube_rule.specs.Decider.{joined, loopsOf}
 use Rattle.cube_rule.proofs.Laws.{cube-laws}
 use Rattle.cell.specs.Answer.{cubeVerdict}
 use Rattle.mesh_rule.proofs.Counts.{most-vertices, most-quads}
-use Rattle.mesh.specs.Answer.{sizeOf, vertexCount, quadCount, countsOf, blockRows, roomRows, vertexRow, quadRow, countsVerdict, meshVerdict}
-use Rattle.closed.specs.Closed.{lengthRow}
+use Rattle.mesh.specs.Answer.{vertexCount, quadCount, countsOf, blockRows, roomRows, vertexRow, quadRow, countsVerdict, meshVerdict}
+use Rattle.lists.specs.Rows.{lengthRow}
 
 -- ---- numbers
 
-lowest-number : (n : ℕ) (bad : ℕ → Bool) (xs : List ℕ) (x : Refusal) → lowestRow n bad xs ≡ Refuses x → x .number ≡ n
+pub lowest-number : {A : Type 0} (n : ℕ) (bad : A → Bool) (xs : List A) (x : Refusal) → lowestRow n bad xs ≡ Refuses x → x .number ≡ n
 lowest-number n bad xs x e = ap (λ (r : Refusal). r .number) (lowest-refusal n bad xs x e .1)
 
-axis-number : (nx ny nz : ℕ) (x : Refusal) → axisRow nx ny nz ≡ Refuses x → x .number ≡ 1
+-- a row that holds where a test does not
+pub unless-number : (b : Bool) (n v : ℕ) (x : Refusal) → cond b Passes (refuses n v) ≡ Refuses x → x .number ≡ n
+unless-number b n v x e = ap (λ (r : Refusal). r .number) (holds-unless b n v x e)
+
+pub axis-number : (nx ny nz : ℕ) (x : Refusal) → axisRow nx ny nz ≡ Refuses x → x .number ≡ 1
 axis-number nx ny nz = lowest-number 1 outOfLimits (nx ∷ ny ∷ nz ∷ [])
 
 count-number : (n : Size) (c : ℕ) (x : Refusal) → countRow n c ≡ Refuses x → x .number ≡ 2
-count-number n c x e = ap (λ (r : Refusal). r .number) (holds-unless (eqb c (sampleCount n)) 2 (sampleCount n) x e)
+count-number n c = unless-number (eqb c (sampleCount n)) 2 (sampleCount n)
 
 threshold-number : (cut : Cut) (x : Refusal) → thresholdRow cut ≡ Refuses x → x .number ≡ 3
 threshold-number cut x e = ap (λ (r : Refusal). r .number) (holds-where (noThreshold cut) 3 (cut .t) x e)
 
 vertex-number : (v words offsets : ℕ) (x : Refusal) → vertexRow v words offsets ≡ Refuses x → x .number ≡ 5
-vertex-number v words offsets x e = ap (λ (r : Refusal). r .number) (holds-unless (leb (2 * v) words && leb (3 * v) offsets) 5 v x e)
+vertex-number v words offsets = unless-number (leb (2 * v) words && leb (3 * v) offsets) 5 v
 
 quad-number : (q room : ℕ) (x : Refusal) → quadRow q room ≡ Refuses x → x .number ≡ 6
-quad-number q room x e = ap (λ (r : Refusal). r .number) (holds-unless (leb (4 * q) room) 6 q x e)
+quad-number q room = unless-number (leb (4 * q) room) 6 q
 
 pub size-numbers : (nx ny nz : ℕ) (x : Refusal) → inOrder (axisRow nx ny nz ∷ []) ≡ Refuses x → x .number ≡ 1
 size-numbers nx ny nz = first-has (λ (x : Refusal). x .number ≡ 1) _ (axis-number nx ny nz, tt)
@@ -91,7 +95,7 @@ mesh-numbers nx ny nz s cut words offsets room =
 
 pub closed-numbers : (quads : List ℕ) (x : Refusal) → inOrder (lengthRow quads ∷ []) ≡ Refuses x → x .number ≡ 7
 closed-numbers quads =
-    first-has (λ (x : Refusal). x .number ≡ 7) _ (λ x e. ap (λ (r : Refusal). r .number) (holds-unless (eqb (length quads % 4) 0) 7 (length quads % 4) x e), tt)
+    first-has (λ (x : Refusal). x .number ≡ 7) _ (unless-number (eqb (length quads % 4) 0) 7 (length quads % 4), tt)
 
 -- ---- values
 

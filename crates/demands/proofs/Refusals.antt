@@ -14,11 +14,11 @@ use Rattle.block.specs.declared.Size.{Size}
 use Rattle.block.specs.declared.Sized.{Sized}
 use Rattle.block.specs.declared.Checked.{Checked}
 use Rattle.block.specs.declared.Checked.the-variants.{Passes, Refuses}
-use Rattle.block.specs.Answer.{Answer, accepted, refused, inOrder, First, decided, judged}
+use Rattle.block.specs.Answer.{Answer, accepted, refused, inOrder, First, decided, judged, written}
 use Rattle.block.specs.Grey.{cutOf}
 use Rattle.block.specs.Rows.{axisRow, thresholdRow}
-use Rattle.block.specs.Size.{saidSize, SizeMade}
-use Rattle.block.proofs.Order.{order-last, first-exactly, refused-exactly, accepted-exactly}
+use Rattle.block.specs.Size.{sizeOf, saidSize, SizeMade}
+use Rattle.block.proofs.Order.{order-last, first-exactly, refused-exactly, accepted-exactly, written-refused}
 use Rattle.cube_rule.specs.Decider.{loopsOf}
 use Rattle.place.specs.declared.Crossing.{Crossing}
 use Rattle.place.specs.Crossing.{crossing, saidEdge, edgeAnswer, EdgeAnswered}
@@ -26,9 +26,10 @@ use Rattle.cell.specs.declared.CubeAnswer.{CubeAnswer}
 use Rattle.cell.specs.Answer.{saidCube, CubeAnswered}
 use Rattle.mesh.specs.declared.Totals.{Totals}
 use Rattle.mesh.specs.declared.Counted.{Counted}
-use Rattle.mesh.specs.Answer.{sizeOf, countsOf, saidCounts, blockRows, countsVerdict, CountsAnswered, roomRows, meshVerdict, written, Meshed}
+use Rattle.mesh.specs.Answer.{countsOf, saidCounts, blockRows, countsVerdict, CountsAnswered, roomRows, meshVerdict, Meshed}
 use Rattle.closed.specs.declared.Closure.{Closure}
-use Rattle.closed.specs.Closed.{Finding, findingOf, lengthRow, saidClosure, ClosedAnswered}
+use Rattle.closed.specs.Closed.{Finding, findingOf, saidClosure, ClosedAnswered}
+use Rattle.lists.specs.Rows.{lengthRow}
 use Rattle.reading.specs.Input.{sizeRead, cutRead, samplesRead, inputVerdict}
 use Rattle.reading.proofs.Verdicts.{run-numbers, run-values}
 use Rattle.lines.specs.Output.{refusalLine, blockText, outputOf, Prints, Ran}
@@ -37,7 +38,7 @@ use Rattle.demands.proofs.RefusalText.{mesh-no-refusal, refusal-same, p
 -- ---- an answer that is judged by rows in order
 
 module _ {A : Type 0} (ks : List Checked) (a : A) (said : Answer A) (promise : said ≡ judged (inOrder ks) a) where
-  refuses-by : (x : Refusal) → (said ≡ refused x) ↔ First ks x
+  pub refuses-by : (x : Refusal) → (said ≡ refused x) ↔ First ks x
   refuses-by x = (
     λ e. first-exactly ks x .0 (refused-exactly (inOrder ks) a said promise x .0 e),
     λ f. refused-exactly (inOrder ks) a said promise x .1 (first-exactly ks x .1 f),
@@ -104,17 +105,12 @@ module _ (nx ny nz : ℕ) (s : List ℕ) (cut : Cut) (w : List ℕ) (o : List Fl
       → (saidCounts r ≡ accepted c) ↔ ((meshVerdict nx ny nz s cut (length w) (length o) (length q) ≡ Passes) × (c ≡ countsOf (sizeOf nx ny nz) s cut))
   mesh-accepts = accepted-exactly _ _ _ (promise .answer)
 
--- a buffer that is not written keeps its contents
-kept : {A : Type 0} (k : Checked) (x : Refusal) (xs buffer : List A) → k ≡ Refuses x → written k xs buffer ≡ buffer
-unfolding decided
-kept k x xs buffer e = rw e
-
 -- "All lent buffers keep their contents."
 pub mesh-keeps : (nx ny nz : ℕ) (s : List ℕ) (cut : Cut) (w : List ℕ) (o : List Float) (q : List ℕ) (r : Counted) (w′ : List ℕ) (o′ : List Float) (q′ : List ℕ)
     → Meshed nx ny nz s cut w o q r w′ o′ q′ → (x : Refusal) → saidCounts r ≡ refused x → (w′ ≡ w) × (o′ ≡ o) × (q′ ≡ q)
 mesh-keeps nx ny nz s cut w o q r w′ o′ q′ promise x e =
     let k : meshVerdict nx ny nz s cut (length w) (length o) (length q) ≡ Refuses x = refused-exactly _ _ _ (promise .answer) x .0 e in
-    (promise .words ∙ kept _ x _ w k, promise .offsets ∙ kept _ x _ o k, promise .quads ∙ kept _ x _ q k)
+    (promise .words ∙ written-refused _ _ w x k, promise .offsets ∙ written-refused _ _ o x k, promise .quads ∙ written-refused _ _ q x k)
 
 -- ---- the program
 

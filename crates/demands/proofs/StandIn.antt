@@ -10,13 +10,13 @@ use lib.Seq.{ext-getD}
 use Rattle.laws.proofs.Tests.{lt-or-ge}
 use Rattle.block.specs.declared.Cut.{Cut}
 use Rattle.block.specs.declared.Size.{Size}
+use Rattle.block.specs.Size.{sizeOf}
 use Rattle.cube_rule.specs.Decider.{joined, loopsOf}
 use Rattle.cube_rule.proofs.Laws.{cube-laws}
 use Rattle.mesh_rule.specs.Grid.{metal, OffEdges, AtLeastThree}
 use Rattle.mesh_rule.specs.Mesh.{Vertex, Quad, flat, vertices, vertexOf, quads}
 use Rattle.mesh_rule.proofs.StandIn.{demand3, demand3-alike}
 use Rattle.mesh_rule.proofs.Words.{words-at}
-use Rattle.mesh.specs.Answer.{sizeOf}
 use Rattle.mesh.proofs.PlaneQuads.{flat-length}
 use Rattle.demands.specs.Answers.{MeshCall, SameMesh}
 use Rattle.demands.proofs.TheMesh.{mesh-given, quads-are, word-at, number-at}

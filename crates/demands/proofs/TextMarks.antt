@@ -10,7 +10,7 @@ use lib.Ieee.{Float, nan, toBits, binary64}
 use lib.ListN.{length, getD, length-append, List·getD-append}
 use lib.Seq.{getD-append-add}
 use Rattle.laws.specs.Below.{below, over}
-use Rattle.laws.proofs.Below.{getD-below}
+use Rattle.laws.proofs.Below.{getD-below, length-constant}
 use Rattle.block.specs.declared.Checked.{Checked}
 use Rattle.block.specs.declared.Checked.the-variants.{Passes, Refuses}
 use Rattle.block.specs.declared.Cut.{Cut}
@@ -33,7 +33,7 @@ use Rattle.reading.specs.Input.{firstLineRow, sizeRead, cutRead, samplesRead, i
 use Rattle.reading.proofs.Axes.{AtMostEight, at-most-eight}
 use Rattle.reading.proofs.Rules.{hex-length, number-back}
 use Rattle.lines.specs.Output.{refusalLine, closedField, headLine, vertexLine, quadLine, meshText, blockText, outputOf, Ran}
-use Rattle.lines.proofs.Texts.{refusal-length, head-length, vertex-line-length, lines-length, mesh-length}
+use Rattle.lines.proofs.Texts.{refusal-length, head-length, vertex-line-length, mesh-length}
 use Rattle.demands.specs.Marks.{hasMark, vertexPlace, BothSigns}
 use Rattle.demands.proofs.RefusalText.{refusal-first}
 use Rattle.demands.proofs.TheMesh.{over-front}
@@ -131,13 +131,13 @@ module _ (vs qs : ℕ) (words : List ℕ) (offsets : List Float) (quads : List �
   unfolding meshText
   text-field v p k l h =
       number-before (head ++ lines) (below (quadLine quads) qs) (vertexPlace v + p) k
-      (omega (arith, h, l, head-length vs qs (closedField (findingOf quads)), length-append head lines, lines-length (vertexLine words offsets) 63 (vertex-line-length words offsets) vs))
+      (omega (arith, h, l, head-length vs qs (closedField (findingOf quads)), length-append head lines, length-constant (vertexLine words offsets) 63 vs (λ i l. vertex-line-length words offsets i)))
       ∙ ap (λ (m : ℕ). numberAt (head ++ lines) m k) (place v)
       ∙ number-behind head lines 21 (length (below (vertexLine words offsets) v) + p) k (head-length vs qs (closedField (findingOf quads)))
       ∙ number-line (vertexLine words offsets) vs v p k l (omega (arith, h, vertex-line-length words offsets v))
     where
       place : (v : ℕ) → 21 + 63 * v + p ≡ 21 + (length (below (vertexLine words offsets) v) + p)
-      place v = omega (arith, lines-length (vertexLine words offsets) 63 (vertex-line-length words offsets) v)
+      place v = omega (arith, length-constant (vertexLine words offsets) 63 v (λ i l. vertex-line-length words offsets i))
 
 -- ---- what the program wrote: a text that does not begin with F is no refusal's line, so no row refused
 

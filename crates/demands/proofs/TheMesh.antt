@@ -5,17 +5,17 @@ use mathlib.Core.Path.{_≡_, refl, ap, _∙_, subst}
 use mathlib.Core.List.{List, List·Memᴰ}
 use native.Mathlib.Omega.{arith}
 use lib.Ieee.{nan}
-use lib.ListN.{length, getD, List·getD-append}
+use lib.ListN.{length, getD, take, List·getD-append}
+use lib.Seq.{take-at}
 use Rattle.laws.specs.Below.{over}
 use Rattle.block.specs.declared.Cut.{Cut}
 use Rattle.block.specs.declared.Size.{Size}
 use Rattle.block.specs.declared.Checked.{Checked}
 use Rattle.block.specs.declared.Checked.the-variants.{Passes}
-use Rattle.block.specs.Answer.{decided}
 use Rattle.block.specs.Numbering.{cubeCount}
 use Rattle.block.specs.Rows.{axisRow}
-use Rattle.block.specs.Size.{Limits}
-use Rattle.block.proofs.Order.{order-first, accepted-exactly}
+use Rattle.block.specs.Size.{sizeOf, Limits}
+use Rattle.block.proofs.Order.{order-first, accepted-exactly, written-passed}
 use Rattle.block.proofs.Sizes.{axes-within}
 use Rattle.cube_rule.specs.Decider.{joined, loopsOf}
 use Rattle.cube_rule.proofs.Doubtful.{doubtful-saddle}
@@ -32,21 +32,21 @@ use Rattle.mesh_rule.proofs.Quads.{quad-count}
 use Rattle.mesh_rule.proofs.Numbers.{vertex-is-loop}
 use Rattle.mesh_rule.proofs.Words.{mesh-words-length, words-at}
 use Rattle.mesh.specs.declared.Totals.{Totals}
-use Rattle.mesh.specs.Answer.{sizeOf, countsOf, meshVerdict, written}
+use Rattle.mesh.specs.Answer.{countsOf, meshVerdict}
 use Rattle.mesh.proofs.PlaneQuads.{flat-length}
 use Rattle.demands.specs.Answers.{MeshCall}
 use Rattle.demands.specs.Given.{MeshGiven}
 
 -- ---- an answer that is no refusal
 
-pub written-by : {A : Type 0} (k : Checked) (xs b c : List A) → k ≡ Passes → c ≡ written k xs b → c ≡ over xs b
-unfolding decided
-written-by k xs b c e d = rw e at d
-
 -- a place at the front
 pub over-front : {A : Type 0} (xs b : List A) (k : ℕ) (d : A) → k < length xs → getD (over xs b) k d ≡ getD xs k d
 unfolding over
 over-front xs b k d h = List·getD-append xs _ d k h
+
+over-take : {A : Type 0} (xs b : List A) (k : ℕ) → length xs ≡ k → take k (over xs b) ≡ xs
+unfolding over
+over-take xs b k e = take-at xs _ k e
 
 module _ {nx ny nz : ℕ} {s : List ℕ} {cut : Cut} (a : MeshCall nx ny nz s cut) where
   abbrev size : Size
@@ -68,24 +68,33 @@ module _ {nx ny nz : ℕ} {s : List ℕ} {cut : Cut} (a : MeshCall nx ny nz s cu
   limits = axes-within nx ny nz (order-first (axisRow nx ny nz) _ (both .0))
 
   quads-in : a .quads-after ≡ over (meshQuads loopsOf size s cut) (a .quads)
-  quads-in = written-by verdict (meshQuads loopsOf size s cut) (a .quads) (a .quads-after) (both .0) (a .promise .quads)
+  quads-in = a .promise .quads ∙ written-passed verdict (meshQuads loopsOf size s cut) (a .quads) (both .0)
 
   flat-long : length (meshQuads loopsOf size s cut) ≡ 4 * a .counts .quads
   unfolding meshQuads
   flat-long = flat-length (quads loopsOf size s cut) ∙ omega (arith, quads-are)
 
   offsets-in : a .offsets-after ≡ over (meshOffsets loopsOf size s cut) (a .offsets)
-  offsets-in = written-by verdict (meshOffsets loopsOf size s cut) (a .offsets) (a .offsets-after) (both .0) (a .promise .offsets)
+  offsets-in = a .promise .offsets ∙ written-passed verdict (meshOffsets loopsOf size s cut) (a .offsets) (both .0)
 
   offsets-long : length (meshOffsets loopsOf size s cut) ≡ 3 * a .counts .vertices
   offsets-long = mesh-offsets-length size s cut ∙ omega (arith, vertices-are)
 
   words-in : a .words-after ≡ over (meshWords loopsOf size s cut) (a .words)
-  words-in =
-      written-by verdict (meshWords loopsOf size s cut) (a .words) (a .words-after) (both .0) (a .promise .words)
+  words-in = a .promise .words ∙ written-passed verdict (meshWords loopsOf size s cut) (a .words) (both .0)
 
   words-long : length (meshWords loopsOf size s cut) ≡ 2 * a .counts .vertices
   words-long = mesh-words-length size s cut ∙ omega (arith, vertices-are)
+
+  -- the fronts of the three buffers are the mesh
+  pub words-front : take (2 * a .counts .vertices) (a .words-after) ≡ meshWords loopsOf size s cut
+  words-front = rw words-in (over-take (meshWords loopsOf size s cut) (a .words) (2 * a .counts .vertices) words-long)
+
+  pub offsets-front : take (3 * a .counts .vertices) (a .offsets-after) ≡ meshOffsets loopsOf size s cut
+  offsets-front = rw offsets-in (over-take (meshOffsets loopsOf size s cut) (a .offsets) (3 * a .counts .vertices) offsets-long)
+
+  pub quads-front : take (4 * a .counts .quads) (a .quads-after) ≡ meshQuads loopsOf size s cut
+  quads-front = rw quads-in (over-take (meshQuads loopsOf size s cut) (a .quads) (4 * a .counts .quads) flat-long)
 
   -- what stands in a place of the words, the offsets and the quads
   pub word-at : (k : ℕ) → k < 2 * a .counts .vertices → getD (a .words-after) k 0 ≡ getD (meshWords loopsOf size s cut) k 0

@@ -13,6 +13,7 @@ use Rattle.block.specs.Answer.{Answer, accepted}
 use Rattle.block.specs.Ceilings.{AtCeiling, LowestCeiling, ceilingsIn}
 use Rattle.block.specs.Grey.{ceiling, cutOf, SixteenBit}
 use Rattle.block.specs.Numbering.{Axis, cubeCount}
+use Rattle.block.specs.Size.{sizeOf}
 use Rattle.block.proofs.Order.{refused-exactly}
 use Rattle.block.proofs.Saturated.{ceilings-none, ceilings-lowest}
 use Rattle.cell.specs.declared.Found.the-variants as found-is
@@ -23,7 +24,7 @@ use Rattle.mesh_rule.specs.Grid.{sampleAt, cornersOf, ahead, crossedFrom}
 use Rattle.mesh.specs.declared.Counted.{Counted}
 use Rattle.mesh.specs.declared.Counted.the-variants as counted
 use Rattle.mesh.specs.declared.Totals.{Totals}
-use Rattle.mesh.specs.Answer.{sizeOf, saidCounts}
+use Rattle.mesh.specs.Answer.{saidCounts}
 use Rattle.parsniprow_c.specs.Told.{tellOver, toldCeilings, toldCube, toldCounts, CeilingsTold, CubeTold, MeshTold}
 use Rattle.demands.specs.Answers.{NotRefused, MeshCall}
 use Rattle.demands.specs.Marks.{hasMark, BothSigns, InBox}

@@ -12,6 +12,7 @@ use Rattle.block.specs.declared.Cut.{Cut}
 use Rattle.block.specs.declared.Size.{Size}
 use Rattle.block.specs.Grey.{positive, SixteenBit}
 use Rattle.block.specs.Numbering.{X, Y, Z, sampleCount, cubeCount}
+use Rattle.block.specs.Size.{sizeOf}
 use Rattle.cube_rule.specs.Decider.{joined, loopsOf}
 use Rattle.cube_rule.specs.Edges.{cornerSample, patternOf}
 use Rattle.cube_rule.specs.Faces.{ringCorner}
@@ -24,7 +25,6 @@ use Rattle.mesh_rule.specs.Buffers.{meshWords, meshOffsets, meshQuads}
 use Rattle.mesh_rule.specs.Grid.{cornersOf, crossedInner}
 use Rattle.mesh_rule.specs.Mesh.{quad, cubeLoops, vertices, vertexOf}
 use Rattle.mesh_rule.specs.Orientation.{QuadOf}
-use Rattle.mesh.specs.Answer.{sizeOf}
 use Rattle.demands.specs.Answers.{MeshCall}
 
 module _ {nx ny nz : ℕ} {s : List ℕ} {cut : Cut} (a : MeshCall nx ny nz s cut) where

@@ -1,8 +1,8 @@
 -- The index of (i,j,k) in a box: it is below the box's size, and its coordinates are read back by / and %.
 -- Assumes nothing.
-use Prim.Native.Nat.{ℕ, _+_, _*_, _/_, _%_, _≤_, _<_}
+use Prim.Native.Nat.{ℕ, zero, suc, _+_, _*_, _/_, _%_, _≤_, _<_}
 use mathlib.Core.Path.{_≡_, _∙_}
-use native.Mathlib.Nat.{add-mul-mod-self-left, mod-eq-of-lt, add-mul-div-left, div-eq-of-lt, zero-add, mul-le-mul-left, mul-add, mul-one, mod-add-div}
+use native.Mathlib.Nat.{add-mul-mod-self-left, mod-eq-of-lt, add-mul-div-left, div-eq-of-lt, zero-add, mul-le-mul-left, mul-add, mul-one, mod-add-div, mod-lt, div-lt-iff-lt-mul, mul-comm, zero-mul}
 use native.Mathlib.Omega.{arith}
 use Rattle.laws.specs.Index.{indexIn}
 
@@ -35,3 +35,18 @@ module _ (w h i j k : ℕ) (hi : i < w) (hj : j < h) where
 -- and back: a number is the index of what / and % read from it
 pub index-of : (w h p : ℕ) → indexIn w h (p % w) (p / w % h) (p / w / h) ≡ p
 index-of w h p = rw (mod-add-div (p / w) h) (mod-add-div p w)
+
+-- rows of the width w hold the place p, so w is not 0
+wide : (w m p : ℕ) → p < w * m → 0 < w
+wide zero m p h = absurd (omega (arith, h, zero-mul m))
+wide (suc w) m p h = omega arith
+
+pair-x : (w m p : ℕ) → p < w * m → p % w < w
+pair-x w m p h = mod-lt p (wide w m p h)
+
+pair-y : (w m p : ℕ) → p < w * m → p / w < m
+pair-y w m p h = div-lt-iff-lt-mul (wide w m p h) .1 (rw (mul-comm w m) at h)
+
+-- what / and % read from a number below w * (h * d) are the coordinates of a place in the box
+pub index-box : (w h d p : ℕ) → p < w * (h * d) → (p % w < w) × (p / w % h < h) × (p / w / h < d)
+index-box w h d p l = let y = pair-y w (h * d) p l in (pair-x w (h * d) p l, pair-x h d (p / w) y, pair-y h d (p / w) y)

@@ -3,10 +3,11 @@ use Prim.Native.Nat.{ℕ, _+_, _≤_}
 use mathlib.Core.Path.{_≡_, refl, sym, _∙_, subst}
 use mathlib.Core.List.{List, [], _++_}
 use native.Mathlib.Nat.{add-zero}
+use native.Mathlib.Numerals.{add-one}
 use native.Mathlib.Omega.{arith}
 use lib.ListN.{length, length-append}
 use lib.Seq.{sets}
-use Rattle.laws.specs.Below.{over}
+use Rattle.laws.specs.Below.{below, over}
 use Rattle.laws.specs.Put.{Put}
 use Rattle.laws.proofs.Stores.{sets-join, sets-length, sets-over}
 
@@ -36,3 +37,13 @@ put-over {b} {xs} {after} {next} p h = p .stored ∙ sets-over b xs h
 -- the same list, told in another way
 pub put-as : {A : Type 0} {b xs ys after : List A} {at next : ℕ} → xs ≡ ys → Put b at xs after next → Put b at ys after next
 put-as {A} {b} {xs} {ys} {after} {at} {next} e h = subst (λ (zs : List A). Put b at zs after next) e h
+
+-- ---- lists over an index, one behind the other
+
+pub puts-none : {A : Type 0} (f : ℕ → List A) (out : List A) (at : ℕ) → Put out at (below f 0) out at
+unfolding below
+puts-none f out at = put-none out at
+
+pub puts-more : {A : Type 0} (f : ℕ → List A) (n : ℕ) {o₀ o₁ o₂ : List A} {p₀ p₁ p₂ : ℕ} → Put o₀ p₀ (below f n) o₁ p₁ → Put o₁ p₁ (f n) o₂ p₂ → Put o₀ p₀ (below f (n + 1)) o₂ p₂
+unfolding below
+puts-more f n a b = rw (add-one n) (put-then (f n) a b)

@@ -37,7 +37,7 @@ module _ {A : Type 0} where
       ∙ take-at ys (zs ++ drop (length (xs ++ ys ++ zs)) l) (length ys) refl)
 
   -- a store before a run of stores, or after it
-  set-sets : (l : List A) (i j : ℕ) (a : A) (ys : List A) → i < j → set (sets l j ys) i a ≡ sets (set l i a) j ys
+  pub set-sets : (l : List A) (i j : ℕ) (a : A) (ys : List A) → i < j → set (sets l j ys) i a ≡ sets (set l i a) j ys
   set-sets l i j a [] h = refl
   set-sets l i j a (y ∷ ys) h =
       set-sets (set l j y) i (suc j) a ys (omega arith)

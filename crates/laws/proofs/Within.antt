@@ -3,15 +3,16 @@
 -- Assumes nothing.
 use mathlib.Core.Path.{_≡_, refl, sym, ap, _∙_, subst}
 use mathlib.Core.Bool.{Bool, true, false, not, _&&_, _||_, cond, true≢false}
-use Prim.Native.Nat.{ℕ, zero, suc, _+_, _*_, _^_, _≤_, _<_}
-use native.Mathlib.Nat.{le-trans, le-of-eq, le-of-lt, lt-irrefl, mul-one, one-mul, mul-comm, mul-assoc, mul-right-comm, add-mul, mul-le-mul-right, mul-pos, add-le-add}
-use lib.IntN.{pos}
+use Prim.Native.Nat.{ℕ, zero, suc, _+_, _*_, _^_, _≤_, _<_, zero-le}
+use borrow.Author.Tests.{le-ltb}
+use native.Mathlib.Nat.{zero-mul, sub-zero, mul-le-mul, mul-mul-mul-comm, le-trans, le-of-eq, le-of-lt, lt-irrefl, mul-one, one-mul, mul-comm, mul-assoc, mul-right-comm, add-mul, mul-le-mul-right, mul-pos, add-le-add}
+use lib.IntN.{ℤ, pos}
 use lib.Dec.{T, ltb, eqb, eqb→eq, ltb→lt, lit<, lit≤, eqb·suc-zero}
-use lib.Ieee.{Float, nan, inf, fin, Format, binary32, binary64, prec, emax, low, up, down, odd, units, round, add, div, le, ofInt}
+use lib.Ieee.{Float, nan, inf, fin, Format, binary32, binary64, prec, emax, low, up, down, odd, units, round, sum, add, mul, div, le, ofInt, isNan}
 use lib.Ieee.Fits.{round-is, and-l}
 use lib.Ieee.Exact.{HasValue}
 use lib.Ieee.Back.{round-whole}
-use lib.Ieee.Order.{round-mono, drop, kept}
+use lib.Ieee.Order.{round-mono, le-of-values, drop, kept}
 use lib.Ieee.Positive.{num, den, den-pos, through, value→cross, first-pos}
 
 -- finite, with the sign plus
@@ -31,7 +32,7 @@ either true n x y v w = v
 either false n x y v w = w
 
 -- ---- what `round` gives has the sign plus
-abbrev plus : Float → Bool
+abbrev pub plus : Float → Bool
 plus nan = false
 plus (inf s) = not s
 plus (fin s m e) = not s
@@ -60,24 +61,24 @@ lt-or-eq a b t = go (ltb a b) (ltb→lt a b) t
     go true h u = le-of-lt (h tt)
     go false h u = le-of-eq (eqb→eq a b (and-l (eqb a b) true u))
 
-below : (x y : Float) (n : ℕ) → T (plus x) → HasValue y false n 1 → T (le x y) → Within n x
+pub at-most : (x y : Float) (n : ℕ) → T (plus x) → HasValue y false n 1 → T (le x y) → Within n x
 unfolding le
-below nan y n p h l = absurd p
-below (inf s) nan n p h l = absurd h
-below (inf s) (inf t) n p h l = absurd h
-below (inf true) (fin t k d) n p h l = absurd p
-below (inf false) (fin t k d) n p h l = absurd l
-below (fin true m e) y n p h l = absurd p
-below (fin false m e) nan n p h l = absurd h
-below (fin false m e) (inf t) n p h l = absurd h
-below (fin false m e) (fin true k d) n p h l = absurd (true≢false (h .0))
-below (fin false m e) (fin false k d) n p h l =
+at-most nan y n p h l = absurd p
+at-most (inf s) nan n p h l = absurd h
+at-most (inf s) (inf t) n p h l = absurd h
+at-most (inf true) (fin t k d) n p h l = absurd p
+at-most (inf false) (fin t k d) n p h l = absurd l
+at-most (fin true m e) y n p h l = absurd p
+at-most (fin false m e) nan n p h l = absurd h
+at-most (fin false m e) (inf t) n p h l = absurd h
+at-most (fin false m e) (fin true k d) n p h l = absurd (true≢false (h .0))
+at-most (fin false m e) (fin false k d) n p h l =
     (tt, le-trans (le-of-eq (sym (mul-one (m * up e)))) (through (m * up e) (k * up d) n (down e) (down d) 1 (den-pos (fin false k d)) (lt-or-eq (m * up e * down d) (k * up d * down e) l) (le-of-eq (h .1))))
 
 -- a fraction that is at most n rounds to a float that is at most n
 pub round-within : (f : Format) (a b n : ℕ) → 0 < b → n ≤ 2 ^ prec f → a ≤ n * b → Within n (round f false a b)
 round-within f a b n B N h =
-    below (round f false a b) (round f false n 1) n (round-plus f a b) (round-whole f false n N) (round-mono f a b n 1 B (lit< tt) (le-trans (le-of-eq (mul-one a)) h))
+    at-most (round f false a b) (round f false n 1) n (round-plus f a b) (round-whole f false n N) (round-mono f a b n 1 B (lit< tt) (le-trans (le-of-eq (mul-one a)) h))
 
 -- ---- sums and quotients, as fractions that are rounded
 pub add-is : (f : Format) (x y : Float) → T (plain x) → T (plain y) → add f x y ≡ round f false (num x * den y + num y * den x) (den x * den y)
@@ -131,3 +132,59 @@ div-within f x n P N w =
     one-fits : (f : Format) → 1 ≤ 2 ^ prec f
     one-fits binary32 = lit≤ tt
     one-fits binary64 = lit≤ tt
+
+-- ---- products
+
+mul-is : (f : Format) (x y : Float) → T (plain x) → T (plain y) → mul f x y ≡ round f false (num x * num y) (den x * den y)
+unfolding mul
+mul-is f nan y p q = absurd p
+mul-is f (inf s) y p q = absurd p
+mul-is f (fin true m e) y p q = absurd p
+mul-is f (fin false m e) nan p q = absurd q
+mul-is f (fin false m e) (inf t) p q = absurd q
+mul-is f (fin false m e) (fin true n d) p q = absurd q
+mul-is f (fin false m e) (fin false n d) p q = refl
+
+pub mul-within : (f : Format) (x y : Float) (m n : ℕ) → m * n ≤ 2 ^ prec f → Within m x → Within n y → Within (m * n) (mul f x y)
+mul-within f x y m n N v w =
+    subst (Within (m * n)) (sym (mul-is f x y (v .0) (w .0)))
+    (round-within f (num x * num y) (den x * den y) (m * n) (mul-pos (den-pos x) (den-pos y)) N
+    (le-trans (mul-le-mul (v .1) (w .1)) (le-of-eq (mul-mul-mul-comm m (den x) n (den y)))))
+
+-- a factor that is at most n gives at most what n gives
+pub mul-most : (f : Format) (x y : Float) (n : ℕ) → n ≤ 2 ^ prec f → Within n x → T (plain y) → T (le (mul f x y) (mul f (ofInt f (pos n)) y))
+mul-most f x y n N v q =
+    let w = ofInt f (pos n) in
+    let is : num w ≡ n * den w = sym (mul-one (num w)) ∙ value→cross w n 1 (whole-value f n N) in
+    let cross : num x * den w ≤ num w * den x = le-trans (mul-le-mul-right (den w) (v .1)) (le-of-eq (mul-right-comm n (den x) (den w) ∙ ap (λ (k : ℕ). k * den x) (sym is))) in
+    subst (λ (z : Float). T (le z (mul f w y))) (sym (mul-is f x y (v .0) q))
+    (subst (λ (z : Float). T (le (round f false (num x * num y) (den x * den y)) z)) (sym (mul-is f w y (whole-within f n n N (le-of-eq refl) .0) q))
+    (round-mono f (num x * num y) (den x * den y) (num w * num y) (den w * den y) (mul-pos (den-pos x) (den-pos y)) (mul-pos (den-pos w) (den-pos y))
+    (le-trans (le-of-eq (mul-mul-mul-comm (num x) (num y) (den w) (den y)))
+    (le-trans (mul-le-mul-right (num y * den y) cross) (le-of-eq (mul-mul-mul-comm (num w) (den x) (num y) (den y)))))))
+
+-- a sum with minus zero
+pub add-minus-zero : (f : Format) (x : Float) (m : ℕ) (e : ℤ) (n : ℕ) → n ≤ 2 ^ prec f → m * up e ≡ 0 → Within n x → Within n (add f x (fin true m e))
+unfolding add sum
+add-minus-zero f nan m e n N z v = absurd (v .0)
+add-minus-zero f (inf s) m e n N z v = absurd (v .0)
+add-minus-zero f (fin true k d) m e n N z v = absurd (v .0)
+add-minus-zero f (fin false k d) m e n N z v =
+    let none : m * up e * down d ≡ 0 = ap (λ (y : ℕ). y * down d) z ∙ zero-mul (down d) in
+    rw (none, le-ltb (k * up d * down e) 0 zero-le, sub-zero)
+    (round-within f (k * up d * down e) (down d * down e) n (mul-pos (den-pos (fin false k d)) (den-pos (fin true m e))) N
+    (le-trans (mul-le-mul-right (down e) (v .1)) (le-of-eq (mul-assoc n (down d) (down e)))))
+
+-- such a float is a number, and at least 0
+pub plain-number : (x : Float) → T (plain x) → T (not (isNan x))
+unfolding isNan
+plain-number nan p = absurd p
+plain-number (inf s) p = absurd p
+plain-number (fin s m e) p = tt
+
+pub plain-least : (x : Float) → T (plain x) → T (le (fin false 0 (pos 0)) x)
+plain-least nan p = absurd p
+plain-least (inf s) p = absurd p
+plain-least (fin true m e) p = absurd p
+plain-least (fin false m e) p =
+    le-of-values (fin false 0 (pos 0)) (fin false m e) 0 1 (m * up e) (down e) (lit< tt) (den-pos (fin false m e)) (refl, refl) (refl, refl) (le-trans (le-of-eq (zero-mul (down e))) zero-le)

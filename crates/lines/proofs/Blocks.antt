@@ -11,8 +11,9 @@ use Rattle.block.specs.declared.Size.{Size}
 use Rattle.block.specs.declared.Refusal.{Refusal}
 use Rattle.block.specs.declared.Checked.{Checked}
 use Rattle.block.specs.declared.Checked.the-variants.{Passes}
-use Rattle.block.specs.Answer.{decided}
+use Rattle.block.specs.Answer.{decided, written}
 use Rattle.block.specs.Rows.{axisRow, countRow, thresholdRow}
+use Rattle.block.specs.Size.{sizeOf}
 use Rattle.block.proofs.Order.{passes-refuses, order-passes, refused-says, accepted-says}
 use Rattle.block.proofs.Rows.{count-passes}
 use Rattle.cube_rule.specs.Decider.{loopsOf}
@@ -24,7 +25,7 @@ use Rattle.mesh_rule.proofs.Small.{few-vertices, few-quads}
 use Rattle.mesh.specs.declared.Totals.{Totals}
 use Rattle.mesh.specs.declared.Counted.{Counted}
 use Rattle.mesh.specs.declared.Counted.the-variants as counted
-use Rattle.mesh.specs.Answer.{sizeOf, vertexCount, quadCount, countsOf, meshVerdict, written, Meshed}
+use Rattle.mesh.specs.Answer.{vertexCount, quadCount, countsOf, meshVerdict, Meshed}
 use Rattle.mesh.proofs.RoomRows.{roomy}
 use Rattle.mesh.proofs.Tallies.{quads-all-length}
 use Rattle.lines.specs.Output.{meshText, blockText}

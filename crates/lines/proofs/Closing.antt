@@ -12,7 +12,8 @@ use Rattle.block.specs.declared.Checked.the-variants.{Passes}
 use Rattle.block.specs.Answer.{Answer, accepted, refused, inOrder, judged, decided}
 use Rattle.closed.specs.declared.Closure.{Closure}
 use Rattle.closed.specs.declared.Closure.the-variants.{Closed, Open, Refused}
-use Rattle.closed.specs.Closed.{Finding, allSound, openAt, findingOf, lengthRow, saidClosure, ClosedAnswered}
+use Rattle.closed.specs.Closed.{Finding, allSound, openAt, findingOf, saidClosure, ClosedAnswered}
+use Rattle.lists.specs.Rows.{lengthRow}
 use Rattle.lines.specs.Output.{closedField}
 
 module _ (quads : List ℕ) (four : length quads % 4 ≡ 0) where

@@ -16,11 +16,12 @@ use Rattle.block.specs.declared.Checked.{Checked}
 use Rattle.block.specs.declared.Checked.the-variants.{Passes, Refuses}
 use Rattle.block.specs.Answer.{inOrder, decided}
 use Rattle.block.specs.Rows.{lowest, axisRow}
+use Rattle.block.specs.Size.{sizeOf}
 use Rattle.block.proofs.Order.{order-first, order-rest}
 use Rattle.cube_rule.specs.Decider.{loopsOf}
 use Rattle.mesh_rule.proofs.Small.{few-vertices, few-quads}
 use Rattle.mesh_rule.specs.Buffers.{meshWords, meshOffsets, meshQuads}
-use Rattle.mesh.specs.Answer.{sizeOf, vertexCount, quadCount}
+use Rattle.mesh.specs.Answer.{vertexCount, quadCount}
 use Rattle.reading.specs.Text.{digits, numberAt, rightBytes}
 use Rattle.reading.specs.Faults.{faultAt}
 use Rattle.reading.specs.Input.{firstLineRow, largeRow, sizeRead, cutRead, samplesRead, inputRows, inputVerdict}

@@ -1,10 +1,9 @@
 -- Each kind of line, from the puts that write it, and its length; the lines of a whole mesh.
 -- Assumes nothing.
-use Prim.Native.Nat.{ℕ, zero, suc, _+_, _*_}
+use Prim.Native.Nat.{ℕ, _+_, _*_}
 use mathlib.Core.Path.{_≡_, sym, ap, _∙_}
 use mathlib.Core.List.{List, [], _∷_, _++_, append-assoc}
-use native.Mathlib.Nat.{add-zero, mul-zero, mul-suc}
-use native.Mathlib.Numerals.{add-one}
+use native.Mathlib.Nat.{add-zero}
 use lib.ListN.{length, getD, length-append}
 use lib.Ieee.{Float, nan, toBits, binary64}
 use Rattle.laws.specs.Below.{below}
@@ -14,7 +13,8 @@ use Rattle.reading.specs.Text.{LF, hexOf}
 use Rattle.lines.specs.Output.{refusalLine, closedField, headLine, vertexLine, quadLine, meshText}
 use Rattle.laws.specs.Put.{Put}
 use Rattle.lines.specs.Steps.{vertexFields, quadFields}
-use Rattle.laws.proofs.Puts.{put-none, put-then}
+use Rattle.laws.proofs.Below.{length-constant}
+use Rattle.laws.proofs.Puts.{put-then, puts-more}
 use Rattle.reading.proofs.Rules.{hex-length}
 
 -- ---- lengths
@@ -51,11 +51,6 @@ vertex-line-length words offsets v = ap length (sym (vertex-line words offsets v
 quad-line-length : (quads : List ℕ) (q : ℕ) → length (quadLine quads q) ≡ 35
 quad-line-length quads q = ap length (sym (quad-line quads q)) ∙ quad-length _ _ _ _
 
-pub lines-length : (f : ℕ → List ℕ) (w : ℕ) → ((i : ℕ) → length (f i) ≡ w) → (n : ℕ) → length (below f n) ≡ w * n
-unfolding below
-lines-length f w e zero = rw (mul-zero w)
-lines-length f w e (suc n) = length-append (below f n) (f n) ∙ rw (lines-length f w e n, e n, mul-suc w n)
-
 pub mesh-length : (v q : ℕ) (words : List ℕ) (offsets : List Float) (quads : List ℕ) → length (meshText v q words offsets quads) ≡ 21 + 63 * v + 35 * q
 unfolding meshText
 mesh-length v q words offsets quads =
@@ -63,8 +58,8 @@ mesh-length v q words offsets quads =
     ∙ rw (
       length-append (headLine v q (closedField (findingOf quads))) (below (vertexLine words offsets) v),
       head-length,
-      lines-length (vertexLine words offsets) 63 (vertex-line-length words offsets) v,
-      lines-length (quadLine quads) 35 (quad-line-length quads) q,
+      length-constant (vertexLine words offsets) 63 v (λ i l. vertex-line-length words offsets i),
+      length-constant (quadLine quads) 35 q (λ i l. quad-line-length quads i),
     )
 
 -- ---- a line from its fields
@@ -96,24 +91,16 @@ module _ {o₀ o₁ o₂ o₃ o₄ : List ℕ} {p₀ p₁ p₂ p₃ p₄ : ℕ} 
 
 -- ---- many lines, and a mesh
 
-pub no-lines : (f : ℕ → List ℕ) (out : List ℕ) (at : ℕ) → Put out at (below f 0) out at
-unfolding below
-no-lines f out at = put-none out at
-
-line-more : (f : ℕ → List ℕ) (n : ℕ) {o₀ o₁ o₂ : List ℕ} {p₀ p₁ p₂ : ℕ} → Put o₀ p₀ (below f n) o₁ p₁ → Put o₁ p₁ (f n) o₂ p₂ → Put o₀ p₀ (below f (n + 1)) o₂ p₂
-unfolding below
-line-more f n a b = rw (add-one n) (put-then (f n) a b)
-
 module _ {o₀ o₁ o₂ : List ℕ} {p₀ p₁ p₂ : ℕ} where
   pub vertex-more : (words : List ℕ) (offsets : List Float) (v : ℕ) → Put o₀ p₀ (below (vertexLine words offsets) v) o₁ p₁
       → Put o₁ p₁ (vertexFields (getD words (2 * v) 0) (getD words (2 * v + 1) 0) (getD offsets (3 * v) nan) (getD offsets (3 * v + 1) nan) (getD offsets (3 * v + 2) nan)) o₂ p₂
       → Put o₀ p₀ (below (vertexLine words offsets) (v + 1)) o₂ p₂
-  vertex-more words offsets v a b = line-more (vertexLine words offsets) v a (rw (vertex-line words offsets v) at b)
+  vertex-more words offsets v a b = puts-more (vertexLine words offsets) v a (rw (vertex-line words offsets v) at b)
 
   pub quad-more : (quads : List ℕ) (q : ℕ) → Put o₀ p₀ (below (quadLine quads) q) o₁ p₁
       → Put o₁ p₁ (quadFields (getD quads (4 * q) 0) (getD quads (4 * q + 1) 0) (getD quads (4 * q + 2) 0) (getD quads (4 * q + 3) 0)) o₂ p₂
       → Put o₀ p₀ (below (quadLine quads) (q + 1)) o₂ p₂
-  quad-more quads q a b = line-more (quadLine quads) q a (rw (quad-line quads q) at b)
+  quad-more quads q a b = puts-more (quadLine quads) q a (rw (quad-line quads q) at b)
 
 pub mesh-put : (v q c : ℕ) (words : List ℕ) (offsets : List Float) (quads : List ℕ) {o₀ o₁ o₂ o₃ : List ℕ} {p₀ p₁ p₂ p₃ : ℕ} → c ≡ closedField (findingOf quads)
     → Put o₀ p₀ (headLine v q c) o₁ p₁ → Put o₁ p₁ (below (vertexLine words offsets) v) o₂ p₂ → Put o₂ p₂ (below (quadLine quads) q) o₃ p₃

@@ -12,14 +12,14 @@ use Rattle.block.specs.declared.Size.{Size}
 use Rattle.block.specs.declared.Refusal.{Refusal}
 use Rattle.block.specs.declared.Checked.{Checked}
 use Rattle.block.specs.declared.Checked.the-variants.{Passes, Refuses}
-use Rattle.block.specs.Answer.{inOrder, decided}
-use Rattle.block.proofs.Order.{orders-refuse, orders-pass}
+use Rattle.block.specs.Answer.{inOrder, decided, written}
+use Rattle.block.proofs.Order.{orders-refuse, orders-pass, judged-passed}
 use Rattle.mesh.specs.declared.Totals.{Totals}
 use Rattle.mesh.specs.declared.Counted.the-variants as counted
-use Rattle.mesh.specs.Answer.{blockRows, roomRows, countsOf, vertexCount, quadCount, written, MeshedBy}
+use Rattle.mesh.specs.Answer.{blockRows, roomRows, countsOf, vertexCount, quadCount, MeshedBy}
 use Rattle.mesh.specs.Writes.{Roomy, BlockWritten}
 use Rattle.mesh.proofs.RoomRows.{room-passes}
-use Rattle.mesh.proofs.Verdicts.{refused-by, judged-passed}
+use Rattle.mesh.proofs.Verdicts.{refused-by}
 
 written-passed : {A : Type 0} (k : Checked) (xs b b′ : List A) → k ≡ Passes → b′ ≡ over xs b → b′ ≡ written k xs b
 unfolding decided

@@ -17,34 +17,26 @@ use Rattle.block.specs.declared.Refusal.{Refusal}
 use Rattle.block.specs.declared.Sized.the-variants.{Made, BadAxis}
 use Rattle.block.specs.declared.Checked.{Checked}
 use Rattle.block.specs.declared.Checked.the-variants.{Passes, Refuses}
-use Rattle.block.specs.Answer.{accepted, refused, inOrder, judged, refuses, decided}
+use Rattle.block.specs.Answer.{accepted, refused, inOrder, judged, refuses, decided, written}
 use Rattle.block.specs.Numbering.{sampleCount}
 use Rattle.block.specs.Rows.{axisRow, countRow, thresholdRow}
-use Rattle.block.specs.Size.{SizeMade, Limits}
-use Rattle.block.proofs.Order.{passes-refuses, order-refuses, order-passes, order-first, order-rest}
+use Rattle.block.specs.Size.{sizeOf, SizeMade, Limits}
+use Rattle.block.proofs.Order.{passes-refuses, order-refuses, order-passes, order-first, order-rest, judged-refused, written-refused}
 use Rattle.block.proofs.Sizes.{axis-refused, axis-passed, size-made}
 use Rattle.mesh.specs.declared.Counted.{Counted}
 use Rattle.mesh.specs.declared.Counted.the-variants as counted
-use Rattle.mesh.specs.Answer.{countsOf, saidCounts, sizeOf, blockRows, roomRows, CountsAnswered, written, MeshedBy, Meshed}
+use Rattle.mesh.specs.Answer.{countsOf, saidCounts, blockRows, roomRows, CountsAnswered, MeshedBy, Meshed}
 use Rattle.mesh.specs.Steps.{Block, Meshable}
 
 -- ---- a refused axis refuses the call, and leaves every buffer
-
-pub judged-refused : {A : Type 0} (k : Checked) (a : A) (r : Refusal) → k ≡ Refuses r → refused r ≡ judged k a
-unfolding decided
-judged-refused k a r e = rw e
-
-pub written-refused : {A : Type 0} (k : Checked) (xs b : List A) (r : Refusal) → k ≡ Refuses r → b ≡ written k xs b
-unfolding decided
-written-refused k xs b r e = rw e
 
 pub refused-by : (k : Checked) (n : Size) (s : List ℕ) (cut : Cut) (w : List ℕ) (o : List Float) (q : List ℕ) (r : Refusal) → k ≡ Refuses r
     → MeshedBy k n s cut w o q (counted.Refused r) w o q
 refused-by k n s cut w o q r e = record {
   answer = judged-refused k (countsOf n s cut) r e;
-  words = written-refused k _ w r e;
-  offsets = written-refused k _ o r e;
-  quads = written-refused k _ q r e;
+  words = sym (written-refused k _ w r e);
+  offsets = sym (written-refused k _ o r e);
+  quads = sym (written-refused k _ q r e);
 }
 
 module _ (nx ny nz : ℕ) (s : List ℕ) (cut : Cut) where
@@ -93,10 +85,6 @@ mesh-fixed nx ny nz s cut w o q a b p r =
     ∙ ap₂ (λ (x : List Float) (y : List ℕ). (b .0, b .1, x, y)) (p .offsets ∙ sym (r .offsets)) (p .quads ∙ sym (r .quads))
 
 -- ---- what follows where rows 2 and 3 pass
-
-pub judged-passed : {A : Type 0} (k : Checked) (a b : A) → k ≡ Passes → a ≡ b → accepted a ≡ judged k b
-unfolding decided
-judged-passed k a b e f = rw (e, f)
 
 pub count-passed : (n : Size) (count : ℕ) → countRow n count ≡ Passes → count ≡ sampleCount n
 count-passed n count e = go (eqb count (sampleCount n)) refl e

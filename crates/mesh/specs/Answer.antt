@@ -7,13 +7,13 @@ use mathlib.Core.List.{List, [], _∷_, _++_}
 use lib.Dec.{leb}
 use lib.ListN.{length}
 use lib.Ieee.{Float}
-use Rattle.laws.specs.Below.{over}
 use Rattle.block.specs.declared.Cut.{Cut}
 use Rattle.block.specs.declared.Size.{Size}
 use Rattle.block.specs.declared.Checked.{Checked}
 use Rattle.block.specs.declared.Checked.the-variants.{Passes}
-use Rattle.block.specs.Answer.{Answer, accepted, refused, refuses, inOrder, decided, judged}
+use Rattle.block.specs.Answer.{Answer, accepted, refused, refuses, inOrder, judged, written}
 use Rattle.block.specs.Rows.{axisRow, countRow, thresholdRow}
+use Rattle.block.specs.Size.{sizeOf}
 use Rattle.cube_rule.specs.Decider.{loopsOf}
 use Rattle.mesh_rule.specs.Mesh.{vertices, quads}
 use Rattle.mesh_rule.specs.Buffers.{meshWords, meshOffsets, meshQuads}
@@ -35,10 +35,6 @@ countsOf n s cut = record { vertices = vertexCount n s cut; quads = quadCount n 
 abbrev pub saidCounts : Counted → Answer Totals
 saidCounts (counted.Counts c) = accepted c
 saidCounts (counted.Refused r) = refused r
-
--- three axis lengths as a size, accepted or not
-abbrev pub sizeOf : ℕ → ℕ → ℕ → Size
-sizeOf nx ny nz = record { nx = nx; ny = ny; nz = nz }
 
 -- counting a mesh gives 1 to 3 only: row 1, and the rows of a block whose size is made
 abbrev pub blockRows : Size → List ℕ → Cut → List Checked
@@ -66,10 +62,6 @@ roomRows c words offsets room = vertexRow (c .vertices) words offsets ∷ quadRo
 abbrev pub meshVerdict : ℕ → ℕ → ℕ → List ℕ → Cut → ℕ → ℕ → ℕ → Checked
 meshVerdict nx ny nz s cut words offsets room =
     inOrder (axisRow nx ny nz ∷ blockRows (sizeOf nx ny nz) s cut ++ roomRows (countsOf (sizeOf nx ny nz) s cut) words offsets room)
-
--- a buffer afterwards: the mesh over its front, with the rest kept, or all as it was
-abbrev pub written : {A : Type 0} → Checked → List A → List A → List A
-written k xs buffer = decided k (over xs buffer) (λ r. buffer)
 
 -- the answer, and the three buffers w, o, q at entry and w′, o′, q′ at exit, where the checks say k
 pub record MeshedBy (k : Checked) (n : Size) (s : List ℕ) (cut : Cut) (w : List ℕ) (o : List Float) (q : List ℕ) (r : Counted) (w′ : List ℕ) (o′ : List Float) (q′ : List ℕ) : Type 0 where

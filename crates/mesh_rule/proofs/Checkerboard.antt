@@ -7,7 +7,7 @@ use mathlib.Core.Path.{_≡_, refl, ap, _∙_}
 use mathlib.Core.Logic.{_⊎_, inl, inr}
 use mathlib.Core.Bool.{Bool, true, false, cond, _&&_}
 use mathlib.Core.List.{List, [], _∷_}
-use native.Mathlib.Nat.{mod-lt, div-lt-iff-lt-mul, mul-comm, mul-zero, zero-mul, mul-suc}
+use native.Mathlib.Nat.{mod-lt, zero-mul}
 use native.Mathlib.Omega.{arith}
 use lib.Count.{trailingZeros}
 use lib.Dec.{eqb, leb}
@@ -17,7 +17,8 @@ use Rattle.laws.specs.Below.{below}
 use Rattle.laws.specs.Bits.{differ, maskOf}
 use Rattle.laws.specs.Counting.{count}
 use Rattle.laws.proofs.Counting.{count-same}
-use Rattle.laws.proofs.Index.{index-lt, index-x, index-y, index-z}
+use Rattle.laws.proofs.Below.{length-constant}
+use Rattle.laws.proofs.Index.{index-lt, index-x, index-y, index-z, index-box}
 use Rattle.laws.proofs.Over.{each-length, each-at}
 use Rattle.block.specs.declared.Checked.the-variants.{Passes}
 use Rattle.block.specs.declared.Size.{Size}
@@ -123,34 +124,12 @@ module _ (n : Size) where
 
 -- ---- how many vertices
 
--- rows of the width w hold the place p, so w is not 0
-wide : (w m p : ℕ) → p < w * m → 0 < w
-wide zero m p h = absurd (omega (arith, zero-mul m))
-wide (suc w) m p h = omega arith
-
-pair-x : (w m p : ℕ) → p < w * m → p % w < w
-pair-x w m p h = mod-lt p (wide w m p h)
-
-pair-y : (w m p : ℕ) → p < w * m → p / w < m
-pair-y w m p h = div-lt-iff-lt-mul (wide w m p h) .1 (rw (mul-comm w m) at h)
-
--- what / and % read from a number below w * (h * d) are the coordinates of a place in the box
-box : (w h d p : ℕ) → p < w * (h * d) → (p % w < w) × (p / w % h < h) × (p / w / h < d)
-box w h d p l = let y = pair-y w (h * d) p l in (pair-x w (h * d) p l, pair-x h d (p / w) y, pair-y h d (p / w) y)
-
--- n lists of b
-pub length-constant : {A : Type 0} (f : ℕ → List A) (b n : ℕ) → ((m : ℕ) → m < n → length (f m) ≡ b) → length (below f n) ≡ b * n
-unfolding below
-length-constant f b zero h = rw mul-zero
-length-constant f b (suc n) h =
-    rw (mul-suc, length-append) (omega (arith, length-constant f b n (λ m l. h m (omega arith)), h n (omega arith)))
-
 module _ (n : Size) where
   -- four loops in each cube
   pub cube-loops : (c : ℕ) → c < cubeCount n → length (loopsOf cut (cornersOf n (board n) c)) ≡ 4
   unfolding cornersOf
   cube-loops c h =
-      let b = box (n .nx - 1) (n .ny - 1) (n .nz - 1) c h in
+      let b = index-box (n .nx - 1) (n .ny - 1) (n .nz - 1) c h in
       ap (λ (cs : List ℕ). length (loopsOf cut cs))
       (corners-check n (c % (n .nx - 1)) (c / (n .nx - 1) % (n .ny - 1)) (c / (n .nx - 1) / (n .ny - 1)) (omega arith) (omega arith) (omega arith))
       ∙ four-loops (c % (n .nx - 1) + c / (n .nx - 1) % (n .ny - 1) + c / (n .nx - 1) / (n .ny - 1))

@@ -14,12 +14,12 @@ use Rattle.laws.specs.Counting.{count}
 use Rattle.laws.proofs.Counting.{count-le, count-all, count-but-first, count-box}
 use Rattle.block.specs.declared.Cut.{Cut}
 use Rattle.block.specs.declared.Size.{Size}
-use Rattle.block.specs.Numbering.{Axis, X, Y, Z, sampleCount, cubeCount}
+use Rattle.block.specs.Numbering.{Axis, X, Y, Z, sampleCount, cubeCount, atSample}
 use Rattle.block.specs.Size.{Limits}
 use Rattle.block.proofs.Products.{product-le}
 use Rattle.cube_rule.specs.Laws.{CubeLaws}
 use Rattle.cube_rule.specs.Links.{Decider}
-use Rattle.mesh_rule.specs.Grid.{atSample, cornersOf, between, inner, crossedInner}
+use Rattle.mesh_rule.specs.Grid.{cornersOf, between, inner, crossedInner}
 use Rattle.mesh_rule.specs.Mesh.{verticesOf, verticesBefore, vertices, quads}
 use Rattle.mesh_rule.proofs.Inner.{mid-between}
 use Rattle.mesh_rule.proofs.Numbers.{one-for-each-loop}

@@ -8,8 +8,7 @@ use Rattle.laws.specs.Below.{below}
 use Rattle.block.specs.declared.Cut.{Cut}
 use Rattle.block.specs.declared.Size.{Size}
 use Rattle.block.specs.Grey.{cutOf}
-use Rattle.block.specs.Numbering.{sampleCount}
-use Rattle.mesh_rule.specs.Grid.{atSample}
+use Rattle.block.specs.Numbering.{sampleCount, atSample}
 
 abbrev pub cut : Cut
 cut = cutOf 100

@@ -1,6 +1,6 @@
 -- A block of samples: signs, the corners of its cubes, its edges and which of them are inner and crossed (document 01, "The block and
 -- its numbering" and "The mesh"). `n` is the size, `s` the samples.
-use Prim.Native.Nat.{ℕ, _+_, _-_, _/_, _%_, _≤_, _<_}
+use Prim.Native.Nat.{ℕ, _+_, _≤_, _<_}
 use mathlib.Core.Path.{_≡_}
 use mathlib.Core.Bool.{Bool, false, _&&_, _||_}
 use mathlib.Core.List.{List, [], _∷_}
@@ -10,7 +10,7 @@ use Rattle.laws.specs.Bits.{differ}
 use Rattle.block.specs.declared.Cut.{Cut}
 use Rattle.block.specs.declared.Size.{Size}
 use Rattle.block.specs.Grey.{positive}
-use Rattle.block.specs.Numbering.{Axis, X, Y, Z, sampleIndex}
+use Rattle.block.specs.Numbering.{Axis, X, Y, Z, sampleIndex, atSample, atCube}
 
 -- the sample (i,j,k), and whether it is positive (metal)
 abbrev pub sampleAt : Size → List ℕ → ℕ → ℕ → ℕ → ℕ
@@ -24,13 +24,6 @@ abbrev pub cornersAt : Size → List ℕ → ℕ → ℕ → ℕ → List ℕ
 cornersAt n s i j k =
     sampleAt n s i j k ∷ sampleAt n s (i + 1) j k ∷ sampleAt n s i (j + 1) k ∷ sampleAt n s (i + 1) (j + 1) k
     ∷ sampleAt n s i j (k + 1) ∷ sampleAt n s (i + 1) j (k + 1) ∷ sampleAt n s i (j + 1) (k + 1) ∷ sampleAt n s (i + 1) (j + 1) (k + 1) ∷ []
-
--- f of the coordinates of the sample with index p, and of the cube with number c
-abbrev pub atSample : {A : Type 0} → Size → (ℕ → ℕ → ℕ → A) → ℕ → A
-atSample n f p = f (p % n .nx) (p / n .nx % n .ny) (p / n .nx / n .ny)
-
-abbrev pub atCube : {A : Type 0} → Size → (ℕ → ℕ → ℕ → A) → ℕ → A
-atCube n f c = f (c % (n .nx - 1)) (c / (n .nx - 1) % (n .ny - 1)) (c / (n .nx - 1) / (n .ny - 1))
 
 -- the corners of the cube with number c
 unfoldable pub cornersOf : Size → List ℕ → ℕ → List ℕ

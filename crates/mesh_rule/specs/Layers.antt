@@ -7,10 +7,10 @@ use lib.Ieee.{Float}
 use Rattle.laws.specs.Below.{below}
 use Rattle.block.specs.declared.Cut.{Cut}
 use Rattle.block.specs.declared.Size.{Size}
-use Rattle.block.specs.Numbering.{Axis, cubeNumber}
+use Rattle.block.specs.Numbering.{Axis, cubeNumber, atSample}
 use Rattle.place.specs.Place.{placeOf}
 use Rattle.cell.specs.Answer.{wordOf}
-use Rattle.mesh_rule.specs.Grid.{atSample, cornersOf}
+use Rattle.mesh_rule.specs.Grid.{cornersOf}
 use Rattle.mesh_rule.specs.Mesh.{cubeLoops, verticesBefore, vertexNumber, quadAt, flat}
 use Rattle.mesh_rule.specs.Buffers.{triples}
 

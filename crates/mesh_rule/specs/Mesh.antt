@@ -9,9 +9,9 @@ use Rattle.laws.specs.Below.{below}
 use Rattle.laws.specs.Bits.{holds}
 use Rattle.block.specs.declared.Cut.{Cut}
 use Rattle.block.specs.declared.Size.{Size}
-use Rattle.block.specs.Numbering.{Axis, X, Y, Z, cubeNumber, cubeCount, sampleCount}
+use Rattle.block.specs.Numbering.{Axis, X, Y, Z, cubeNumber, cubeCount, sampleCount, atSample}
 use Rattle.cube_rule.specs.Rule.{firstHolder}
-use Rattle.mesh_rule.specs.Grid.{atSample, cornersOf, metal, inner, crossedFrom}
+use Rattle.mesh_rule.specs.Grid.{cornersOf, metal, inner, crossedFrom}
 
 -- a vertex: its cube's number, and the mask of its loop
 pub record Vertex : Type 0 where

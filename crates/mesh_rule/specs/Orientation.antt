@@ -7,8 +7,8 @@ use lib.IntN.{ℤ, pos, negℤ, _-ℤ_, _*ℤ_}
 use lib.Signed.{_≤ℤ_}
 use Rattle.block.specs.declared.Cut.{Cut}
 use Rattle.block.specs.declared.Size.{Size}
-use Rattle.block.specs.Numbering.{Axis, X, Y, Z}
-use Rattle.mesh_rule.specs.Grid.{atCube, metal, inner, crossedFrom}
+use Rattle.block.specs.Numbering.{Axis, X, Y, Z, atCube}
+use Rattle.mesh_rule.specs.Grid.{metal, inner, crossedFrom}
 use Rattle.mesh_rule.specs.Mesh.{Quad, turned, vertexOf, AllHold}
 
 -- the axis after this one: an axis and the next two are a right-handed frame

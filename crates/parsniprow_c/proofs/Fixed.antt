@@ -21,7 +21,11 @@ use Rattle.mesh.proofs.Verdicts.{counts-fixed, mesh-fixed}
 use Rattle.closed.specs.declared.Closure.{Closure}
 use Rattle.closed.specs.Closed.{saidClosure}
 use Rattle.closed.proofs.Fixed.{closed-fixed}
-use Rattle.parsniprow_c.specs.Told.{tellOver, toldCeilings, toldEdge, toldFraction, toldCube, toldCounts, toldClosed, CeilingsTold, EdgeTold, CubeTold, CountsTold, MeshTold, ClosedTold}
+use Rattle.ply.specs.declared.Spacing.{Spacing}
+use Rattle.ply.specs.declared.Filed.{Filed}
+use Rattle.ply.specs.Answer.{saidFile}
+use Rattle.ply.proofs.Fixed.{ply-fixed}
+use Rattle.parsniprow_c.specs.Told.{tellOver, toldCeilings, toldEdge, toldFraction, toldCube, toldCounts, toldClosed, toldLength, toldFile, CeilingsTold, EdgeTold, CubeTold, CountsTold, MeshTold, ClosedTold, PlyTold}
 
 pub ceilings-told-fixed : (samples place : List ℕ) → Fixes (CeilingsTold samples place)
 ceilings-told-fixed samples place = equation-fixes (tellOver (toldCeilings (accepted (ceilingsIn samples))) place)
@@ -70,3 +74,14 @@ closed-told-fixed quads place a b p q =
     p .is-told
     ∙ ap (λ (x : Closure). tellOver (toldClosed (saidClosure x)) place) (closed-fixed quads (p .answer) (q .answer) (p .answered) (q .answered))
     ∙ sym (q .is-told)
+
+-- the file buffer, the length and the answer
+abbrev fileFound : List ℕ → List ℕ → Filed × List ℕ → List ℕ × List ℕ × List ℕ
+fileFound bytes place x = (x .1, tellOver (toldLength (saidFile (x .0))) bytes, tellOver (toldFile (saidFile (x .0))) place)
+
+pub ply-told-fixed : (nx ny nz : ℕ) (words : List ℕ) (offsets : List Float) (quads : List ℕ) (spacing : Spacing) (file bytes place : List ℕ)
+    → Fixes (λ (f : List ℕ × List ℕ × List ℕ). PlyTold nx ny nz words offsets quads spacing file bytes place (f .0) (f .1) (f .2))
+ply-told-fixed nx ny nz words offsets quads spacing file bytes place a b p q =
+    ap₂ (λ (u v : List ℕ). (a .0, u, v)) (p .length-told) (p .is-told)
+    ∙ ap (fileFound bytes place) (ply-fixed nx ny nz words offsets quads spacing file (p .answer, a .0) (q .answer, b .0) (p .written) (q .written))
+    ∙ sym (ap₂ (λ (u v : List ℕ). (b .0, u, v)) (q .length-told) (q .is-told))

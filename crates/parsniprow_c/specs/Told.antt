@@ -21,6 +21,9 @@ use Rattle.mesh.specs.declared.Counted.{Counted}
 use Rattle.mesh.specs.Answer.{saidCounts, CountsAnswered, Meshed}
 use Rattle.closed.specs.declared.Closure.{Closure}
 use Rattle.closed.specs.Closed.{Finding, allSound, openAt, saidClosure, ClosedAnswered}
+use Rattle.ply.specs.declared.Spacing.{Spacing}
+use Rattle.ply.specs.declared.Filed.{Filed}
+use Rattle.ply.specs.Answer.{saidFile, PlyWritten}
 
 -- as many of these values as a place has room for; what is behind is kept
 abbrev pub tellOver : {A : Type 0} → List A → List A → List A
@@ -55,6 +58,15 @@ findingNumbers (openAt q s) = 0 ∷ given q ∷ given s ∷ []
 abbrev pub toldClosed : Answer Finding → List ℕ
 toldClosed = told 4 findingNumbers
 
+-- the bytes of a file, and 0 where there is none
+abbrev pub toldLength : Answer ℕ → List ℕ
+toldLength (accepted n) = filled 1 0 (n ∷ [])
+toldLength (refused r) = filled 1 0 []
+
+-- nothing else is told of it
+abbrev pub toldFile : Answer ℕ → List ℕ
+toldFile = told 3 (λ n. [])
+
 -- the promises: the library's own, and what of its answer is told; each place at entry and at exit
 abbrev pub CeilingsTold : List ℕ → List ℕ → List ℕ → Type 0
 CeilingsTold samples place place′ = place′ ≡ tellOver (toldCeilings (accepted (ceilingsIn samples))) place
@@ -87,3 +99,10 @@ pub record ClosedTold (quads place place′ : List ℕ) : Type 0 where
   pub answer : Closure
   pub answered : ClosedAnswered quads answer
   pub is-told : place′ ≡ tellOver (toldClosed (saidClosure answer)) place
+
+-- the buffer is that of `write`
+pub record PlyTold (nx ny nz : ℕ) (words : List ℕ) (offsets : List Float) (quads : List ℕ) (spacing : Spacing) (file bytes place file′ bytes′ place′ : List ℕ) : Type 0 where
+  pub answer : Filed
+  pub written : PlyWritten nx ny nz words offsets quads spacing file answer file′
+  pub length-told : bytes′ ≡ tellOver (toldLength (saidFile answer)) bytes
+  pub is-told : place′ ≡ tellOver (toldFile (saidFile answer)) place

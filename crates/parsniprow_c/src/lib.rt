@@ -8,6 +8,8 @@ use closed::Closure;
 use mesh::Counted;
 use place::Crossing;
 use place::Offset;
+use ply::Filed;
+use ply::Spacing;
 ghost use mathlib.Core.Path.{_≡_};
 ghost use mathlib.Core.List.{[], _∷_};
 ghost use Rattle.block.specs.Answer.{accepted};
@@ -16,7 +18,8 @@ ghost use Rattle.cell.specs.Answer.{saidCube};
 ghost use Rattle.mesh_rule.specs.Buffers.{triples};
 ghost use Rattle.mesh.specs.Answer.{saidCounts};
 ghost use Rattle.closed.specs.Closed.{saidClosure};
-ghost use Rattle.parsniprow_c.specs.Told.{tellOver, toldCeilings, toldEdge, toldFraction, toldCube, toldCounts, toldClosed, CeilingsTold, EdgeTold, CubeTold, CountsTold, MeshTold, ClosedTold};
+ghost use Rattle.ply.specs.Answer.{saidFile};
+ghost use Rattle.parsniprow_c.specs.Told.{tellOver, toldCeilings, toldEdge, toldFraction, toldCube, toldCounts, toldClosed, toldLength, toldFile, CeilingsTold, EdgeTold, CubeTold, CountsTold, MeshTold, ClosedTold, PlyTold};
 
 // How many samples are at the detector's ceiling, and the lowest index of one.
 #[no_mangle]
@@ -116,6 +119,40 @@ pub extern "C" fn parsniprow_closed(quads: &[u32], answer: &mut [u32])
     put(answer, &told);
 }
 
+// A mesh as a PLY file in a lent buffer.
+#[no_mangle]
+pub extern "C" fn parsniprow_ply(
+    nx: u32,
+    ny: u32,
+    nz: u32,
+    words: &[u32],
+    offsets: &[f64],
+    quads: &[u32],
+    x: f64,
+    y: f64,
+    z: f64,
+    file: &mut [u8],
+    length: &mut [u64],
+    answer: &mut [u32],
+)
+    ensures { λ _. ⌜ PlyTold nx ny nz (now (words .entry)) (now (offsets .entry)) (now (quads .entry)) (record { x = x; y = y; z = z }) (now (file .entry)) (now (length .entry)) (now (answer .entry)) (now (file .exit)) (now (length .exit)) (now (answer .exit)) ⌝ }
+{
+    let filed = ply::write(
+        nx,
+        ny,
+        nz,
+        words,
+        offsets,
+        quads,
+        Spacing { x: x, y: y, z: z },
+        file,
+    );
+    let long = tell_length(filed);
+    put_lengths(length, &long);
+    let told = tell_file(filed);
+    put(answer, &told);
+}
+
 fn tell_ceilings(seen: CeilingCount) -> [u32; 3]
     ensures { λ r. ⌜ r ≡ toldCeilings (accepted seen) ⌝ }
 {
@@ -189,6 +226,24 @@ fn tell_closed(closure: Closure) -> [u32; 4]
     }
 }
 
+fn tell_length(filed: Filed) -> [u64; 1]
+    ensures { λ r. ⌜ r ≡ toldLength (saidFile filed) ⌝ }
+{
+    match filed {
+        Filed::Bytes(n) => [n as u64],
+        Filed::Refused(_) => [0],
+    }
+}
+
+fn tell_file(filed: Filed) -> [u32; 3]
+    ensures { λ r. ⌜ r ≡ toldFile (saidFile filed) ⌝ }
+{
+    match filed {
+        Filed::Bytes(_) => [0, 0, 0],
+        Filed::Refused(r) => [r.number, r.value, 0],
+    }
+}
+
 // Numbers over the front of a lent place, as many as it has room for.
 fn put(place: &mut [u32], values: &[u32])
     ensures { λ _. ⌜ now (place .exit) ≡ tellOver (now (values .entry)) (now (place .entry)) ⌝ }
@@ -205,6 +260,20 @@ fn put(place: &mut [u32], values: &[u32])
 
 // The same of f64.
 fn put_places(place: &mut [f64], values: &[f64])
+    ensures { λ _. ⌜ now (place .exit) ≡ tellOver (now (values .entry)) (now (place .entry)) ⌝ }
+{
+    let mut i: usize = 0;
+    while i < values.len() {
+        if i == place.len() {
+            return;
+        }
+        place[i] = values[i];
+        i += 1;
+    }
+}
+
+// And of u64.
+fn put_lengths(place: &mut [u64], values: &[u64])
     ensures { λ _. ⌜ now (place .exit) ≡ tellOver (now (values .entry)) (now (place .entry)) ⌝ }
 {
     let mut i: usize = 0;

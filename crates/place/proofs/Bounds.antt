@@ -4,8 +4,8 @@
 use mathlib.Core.Path.{_≡_, refl, sym, _∙_, subst}
 use mathlib.Core.Bool.{Bool, true, false, cond, not}
 use mathlib.Core.List.{List, [], _∷_}
-use Prim.Native.Nat.{ℕ, zero, suc, _+_, _*_, _/_, _%_, _^_, _≤_, _<_, zero-le}
-use native.Mathlib.Nat.{le-refl, le-trans, le-of-eq, le-add-right, le-of-suc-le, mul-one, zero-mul}
+use Prim.Native.Nat.{ℕ, zero, suc, _+_, _*_, _/_, _%_, _^_, _≤_, _<_}
+use native.Mathlib.Nat.{le-refl, le-trans, le-of-eq, le-add-right, le-of-suc-le, mul-one}
 use native.Mathlib.Omega.{arith}
 use lib.Count.{ones, ones-le}
 use lib.Dec.{T, leb, eqb, lit<, lit≤}
@@ -15,7 +15,7 @@ use lib.Ieee.Positive.{den-pos}
 use borrow.Author.Tests.{leb-true, leb-false, eqb-true}
 use Rattle.laws.specs.Bits.{differ, holds}
 use Rattle.laws.proofs.Bits.{ones-pos}
-use Rattle.laws.proofs.Within.{Within, wider, either, add-within, whole-within, div-within}
+use Rattle.laws.proofs.Within.{Within, wider, either, add-within, whole-within, div-within, plain-least}
 use Rattle.block.specs.declared.Cut.{Cut}
 use Rattle.block.specs.Answer.{accepted}
 use Rattle.block.specs.Grey.{cutOf, positive, apart, noThreshold, SixteenBit}
@@ -36,7 +36,7 @@ in-unit (inf s) w = absurd (w .0)
 in-unit (fin true m e) w = absurd (w .0)
 in-unit (fin false m e) w = record {
   plus = (m, e, refl);
-  atLeast = le-of-values plusZero (fin false m e) 0 1 (m * up e) (down e) (lit< tt) (den-pos (fin false m e)) (refl, refl) (refl, refl) (le-trans (le-of-eq (zero-mul (down e))) zero-le);
+  atLeast = plain-least (fin false m e) tt;
   atMost = le-of-values (fin false m e) one (m * up e) (down e) 1 1 (den-pos (fin false m e)) (lit< tt) (refl, refl) (refl, refl) (le-trans (le-of-eq (mul-one (m * up e))) (w .1));
 }
 

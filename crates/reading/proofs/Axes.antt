@@ -11,27 +11,23 @@ use Rattle.block.specs.declared.Refusal.{Refusal}
 use Rattle.block.specs.declared.Checked.{Checked}
 use Rattle.block.specs.declared.Checked.the-variants.{Passes, Refuses}
 use Rattle.block.specs.Answer.{inOrder}
-use Rattle.block.specs.Rows.{lowest, lowestRow, axisRow}
+use Rattle.block.specs.Rows.{axisRow}
 use Rattle.block.proofs.Order.{order-refuses, order-passes, order-last, order-rest}
-use Rattle.block.proofs.Lowest.{row-clear}
+use Rattle.block.proofs.Lowest.{row-clear, first-of-three, second-of-three, third-of-three, none-of-three}
 use Rattle.reading.specs.Input.{largeRow}
 
 module _ (nx ny nz : ℕ) where
   pub first-large : 8 < nx → Refuses (record { number = 9; value = 0 }) ≡ largeRow nx ny nz
-  unfolding lowestRow lowest
-  first-large x = simp (lt-ltb 8 nx x)
+  first-large x = sym (first-of-three 9 (ltb 8) nx ny nz (lt-ltb 8 nx x))
 
   pub second-large : nx ≤ 8 → 8 < ny → Refuses (record { number = 9; value = 1 }) ≡ largeRow nx ny nz
-  unfolding lowestRow lowest
-  second-large x y = simp (le-ltb 8 nx x, lt-ltb 8 ny y)
+  second-large x y = sym (second-of-three 9 (ltb 8) nx ny nz (le-ltb 8 nx x) (lt-ltb 8 ny y))
 
   pub third-large : nx ≤ 8 → ny ≤ 8 → 8 < nz → Refuses (record { number = 9; value = 2 }) ≡ largeRow nx ny nz
-  unfolding lowestRow lowest
-  third-large x y z = simp (le-ltb 8 nx x, le-ltb 8 ny y, lt-ltb 8 nz z)
+  third-large x y z = sym (third-of-three 9 (ltb 8) nx ny nz (le-ltb 8 nx x) (le-ltb 8 ny y) (lt-ltb 8 nz z))
 
   pub none-large : nx ≤ 8 → ny ≤ 8 → nz ≤ 8 → Passes ≡ largeRow nx ny nz
-  unfolding lowestRow lowest
-  none-large x y z = simp (le-ltb 8 nx x, le-ltb 8 ny y, le-ltb 8 nz z)
+  none-large x y z = sym (none-of-three 9 (ltb 8) nx ny nz (le-ltb 8 nx x) (le-ltb 8 ny y) (le-ltb 8 nz z))
 
 -- a block that the program takes has at most 8 samples an axis, so at most 64 rows
 pub record AtMostEight (nx ny nz : ℕ) : Type 0 where

@@ -27,8 +27,8 @@ module _ (b : ℕ) (h : b ≤ 256) where
   pub before-digits : b < 48 → 16 ≡ digitOf b
   before-digits l = sym (worth-is b h ∙ rw (lt-ltb b 48 l))
 
-  pub decimal : 48 ≤ b → b < 58 → b - 48 ≡ digitOf b
-  decimal g l = sym (worth-is b h ∙ rw (le-ltb b 48 g, lt-ltb b 58 l))
+  pub decimal-digit : 48 ≤ b → b < 58 → b - 48 ≡ digitOf b
+  decimal-digit g l = sym (worth-is b h ∙ rw (le-ltb b 48 g, lt-ltb b 58 l))
 
   pub between-digits : 58 ≤ b → b < 65 → 16 ≡ digitOf b
   between-digits g l = sym (worth-is b h ∙ rw (le-ltb b 48 (omega arith), le-ltb b 58 g, lt-ltb b 65 l))

@@ -5,13 +5,16 @@ use mathlib.Core.Path.{_≡_, sym, _∙_}
 use mathlib.Core.Bool.{true, false}
 use mathlib.Core.List.{List}
 use mathlib.Core.Logic.{⊎-elim}
-use Prim.Native.Nat.{ℕ, _+_, _*_, _-_, _≤_}
+use Prim.Native.Nat.{ℕ, _+_, _*_, _-_, _%_, _≤_}
 use native.Mathlib.Nat.{add-zero, add-assoc}
 use native.Mathlib.Omega.{arith}
 use borrow.Author.Needs.{needs}
 use borrow.Author.Tests.{not-true, not-false}
 use lib.ListN.{length, getD}
 use Rattle.laws.proofs.Leading.{HoldsTo, holds-to-none, holds-more}
+use Rattle.block.specs.declared.Checked.the-variants.{Passes}
+use Rattle.lists.specs.Rows.{lengthRow}
+use Rattle.lists.proofs.Rows.{length-exactly}
 use Rattle.closed.specs.Closed.{sideSound, allSound, openAt}
 use Rattle.closed.specs.Steps.{usesBefore}
 use Rattle.closed.proofs.Search.{uses-none, uses-more, side-judged, finding-all, finding-open, answer-refused, answer-found}
@@ -21,41 +24,52 @@ use Rattle.closed.proofs.closed.Reads as reads
 use Rattle.closed.proofs.closed.Lts as lts
 use Rattle.closed.proofs.next.Reads as next-reads
 use Rattle.closed.proofs.same.Reads as same-reads
+use Rattle.lists.proofs.check_length.Reads as check-length-reads
 use Rattle.closed.proofs.sound.Reads as sound-reads
 
 abbrev Inv-uses : tie.InvT-uses
-Inv-uses quads rest count quad side n a e b used₀ m₀ used m = (m ≤ length quads) × (used ≤ m) × (used ≡ usesBefore quads a b m)
+Inv-uses quads count quad side n a e b used₀ m₀ used m = (m ≤ length quads) × (used ≤ m) × (used ≡ usesBefore quads a b m)
 
 abbrev μ-uses : tie.MeasureT-uses
-μ-uses quads rest count quad side n a e b used₀ m₀ used m = length quads - m
+μ-uses quads count quad side n a e b used₀ m₀ used m = length quads - m
 
 abbrev Inv-sides : tie.InvT-sides
-Inv-sides quads rest count quad side₀ side = (side ≤ 4) × HoldsTo (sideSound quads) (4 * quad + side)
+Inv-sides quads count quad side₀ side = (side ≤ 4) × HoldsTo (sideSound quads) (4 * quad + side)
 
 abbrev μ-sides : tie.MeasureT-sides
-μ-sides quads rest count quad side₀ side = 4 - side
+μ-sides quads count quad side₀ side = 4 - side
 
 abbrev Inv-quads : tie.InvT-quads
-Inv-quads quads rest count quad₀ side₀ quad side = (quad ≤ count) × HoldsTo (sideSound quads) (4 * quad)
+Inv-quads quads count quad₀ side₀ quad side = (quad ≤ count) × HoldsTo (sideSound quads) (4 * quad) × (length quads % 4 ≡ 0)
 
 abbrev μ-quads : tie.MeasureT-quads
-μ-quads quads rest count quad₀ side₀ quad side = count - quad
+μ-quads quads count quad₀ side₀ quad side = count - quad
 
 -- the list, and the side in hand
 abbrev quads-of : tie.At-quads Inv-uses μ-uses Inv-sides μ-sides Inv-quads μ-quads → List ℕ
-quads-of c = c .before .before .before .args .quads .now
+quads-of c = c .before .before .before .before .before .args .quads .now
+
+-- row 7 passes it
+abbrev passed : (c : tie.At-quads Inv-uses μ-uses Inv-sides μ-sides Inv-quads μ-quads) → lengthRow (quads-of c) ≡ Passes
+passed c = sym (c .before .before .before .check-length .ensures) ∙ c .before .enum-told .given .1
 
 abbrev side-of : tie.At-sides Inv-uses μ-uses Inv-sides μ-sides Inv-quads μ-quads → ℕ
 side-of c = 4 * c .before .before .quads .quad + c .sides .side
 
-cast-t17 : tie.Need-cast-t17 Inv-uses μ-uses Inv-sides μ-sides Inv-quads μ-quads
-cast-t17 c = search needs
+check-length-requires : tie.Need-check-length-requires Inv-uses μ-uses Inv-sides μ-sides Inv-quads μ-quads
+check-length-requires c κs = search needs
+
+enum-known-row : tie.Need-enum-known-row Inv-uses μ-uses Inv-sides μ-sides Inv-quads μ-quads
+enum-known-row c = search needs
 
 returns : tie.Need-returns Inv-uses μ-uses Inv-sides μ-sides Inv-quads μ-quads
-returns c = answer-refused (c .before .before .args .quads .now) (c .if1 .taken)
+returns c = answer-refused (c .before .before .before .before .before .args .quads .now) _ (sym (c .before .before .before .check-length .ensures) ∙ c .before .row .given .1)
+
+enum-told : tie.Need-enum-told Inv-uses μ-uses Inv-sides μ-sides Inv-quads μ-quads
+enum-told c = search needs
 
 quads-holds : tie.Need-quads-holds Inv-uses μ-uses Inv-sides μ-sides Inv-quads μ-quads
-quads-holds c = (search needs, holds-to-none _)
+quads-holds c = (search needs, holds-to-none _, length-exactly (c .before .before .before .before .args .quads .now) .0 (sym (c .before .before .check-length .ensures) ∙ c .enum-told .given .1))
 
 sides-holds : tie.Need-sides-holds Inv-uses μ-uses Inv-sides μ-sides Inv-quads μ-quads
 sides-holds c = (search needs, rw add-zero (c .before .quads .inv .1))
@@ -148,7 +162,7 @@ sides-again c =
     let uses = at-uses .uses in
     let ok : sideSound quads (side-of at-sides) ≡ true =
     side-judged quads (side-of at-sides) (end .result) (uses .used) (uses .m) true (end .ensures) (omega arith) (uses .inv .0) (uses .inv .2)
-    (sym (not-false _ (c .if2 .left)) ∙ c .before .sound .ensures) in
+    (sym (not-false _ (c .if1 .left)) ∙ c .before .sound .ensures) in
     (search needs, rw (← add-assoc) (holds-more (sideSound quads) (side-of at-sides) (at-sides .sides .inv .1) ok))
 
 add-quad : tie.Need-add-quad Inv-uses μ-uses Inv-sides μ-sides Inv-quads μ-quads
@@ -158,7 +172,7 @@ quads-less : tie.Need-quads-less Inv-uses μ-uses Inv-sides μ-sides Inv-quads �
 quads-less c = search needs
 
 quads-again : tie.Need-quads-again Inv-uses μ-uses Inv-sides μ-sides Inv-quads μ-quads
-quads-again c = (search needs, λ i l. c .before .sides .inv .1 i (omega arith))
+quads-again c = (search needs, λ i l. c .before .sides .inv .1 i (omega arith), c .before .before .before .quads .inv .2)
 
 returns-2 : tie.Need-returns-2 Inv-uses μ-uses Inv-sides μ-sides Inv-quads μ-quads
 returns-2 c =
@@ -171,14 +185,14 @@ returns-2 c =
     let bad : sideSound quads (4 * q + s) ≡ false =
     side-judged quads (4 * q + s) (w .4 .result) (w .6 .used) (w .6 .m) false (w .4 .ensures) (omega arith) (w .6 .inv .0) (w .6 .inv .2)
     (sym (not-true _ (w .9 .taken)) ∙ w .8 .ensures) in
-    rw (w .10) (answer-found quads (omega arith) (openAt q s) (finding-open quads q s (w .2 .taken) (omega arith) (w .1 .inv .1) bad)))
+    rw (w .10) (answer-found quads (passed (c .before .before)) (openAt q s) (finding-open quads q s (w .2 .taken) (omega arith) (w .1 .inv .1) bad)))
     (c .before .quads-test .came)
 
 returns-3 : tie.Need-returns-3 Inv-uses μ-uses Inv-sides μ-sides Inv-quads μ-quads
 returns-3 c =
     let quads = quads-of (c .before .before) in
     ⊎-elim
-    (λ w. answer-found quads (omega arith) allSound (finding-all quads (4 * c .before .before .quads .quad) (omega arith) (c .before .before .quads .inv .1)))
+    (λ w. answer-found quads (passed (c .before .before)) allSound (finding-all quads (4 * c .before .before .quads .quad) (omega arith) (c .before .before .quads .inv .1)))
     (λ w. absurd (omega arith))
     (c .before .quads-test .came)
 
@@ -192,8 +206,10 @@ closed-spec =
     μ-sides
     Inv-quads
     μ-quads
-    cast-t17
+    check-length-requires
+    enum-known-row
     returns
+    enum-told
     quads-holds
     sides-holds
     mul-n

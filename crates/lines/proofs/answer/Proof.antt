@@ -5,8 +5,8 @@ use native.Mathlib.Omega.{arith}
 use Prim.Native.Nat.{ℕ}
 use mathlib.Core.List.{List}
 use lib.Seq.{length-take-le}
-use Rattle.mesh.specs.Answer.{sizeOf}
 use Rattle.block.specs.Grey.{SixteenBit}
+use Rattle.block.specs.Size.{sizeOf}
 use Rattle.block.proofs.Sizes.{axes-within}
 use Rattle.lines.specs.Output.{blockText}
 use Rattle.laws.specs.Put.{Put}

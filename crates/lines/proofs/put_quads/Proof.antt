@@ -8,7 +8,8 @@ use lib.ListN.{length}
 use Rattle.laws.specs.Below.{below}
 use Rattle.lines.specs.Output.{quadLine}
 use Rattle.laws.specs.Put.{Put}
-use Rattle.lines.proofs.Texts.{no-lines, quad-more}
+use Rattle.laws.proofs.Puts.{puts-none}
+use Rattle.lines.proofs.Texts.{quad-more}
 use Rattle.lines.proofs.put_quads.Statement.{statement}
 use Rattle.lines.proofs.put_quads.Tie as tie
 use Rattle.lines.proofs.put_quads.Reads as reads
@@ -23,7 +24,7 @@ abbrev μ-loop : tie.MeasureT-loop
 μ-loop out₀ at quads count next₀ q₀ out next q = count - q
 
 loop-holds : tie.Need-loop-holds Inv-loop μ-loop
-loop-holds c = (search needs, search needs, no-lines _ _ _, refl)
+loop-holds c = (search needs, search needs, puts-none _ _ _, refl)
 
 mul-n : tie.Need-mul-n Inv-loop μ-loop
 mul-n c = search needs

@@ -8,7 +8,8 @@ use lib.ListN.{length}
 use Rattle.laws.specs.Below.{below}
 use Rattle.lines.specs.Output.{vertexLine}
 use Rattle.laws.specs.Put.{Put}
-use Rattle.lines.proofs.Texts.{no-lines, vertex-more}
+use Rattle.laws.proofs.Puts.{puts-none}
+use Rattle.lines.proofs.Texts.{vertex-more}
 use Rattle.lines.proofs.put_vertices.Statement.{statement}
 use Rattle.lines.proofs.put_vertices.Tie as tie
 use Rattle.lines.proofs.put_vertices.Reads as reads
@@ -23,7 +24,7 @@ abbrev μ-loop : tie.MeasureT-loop
 μ-loop out₀ at words offsets count next₀ v₀ out next v = count - v
 
 loop-holds : tie.Need-loop-holds Inv-loop μ-loop
-loop-holds c = (search needs, search needs, no-lines _ _ _, refl)
+loop-holds c = (search needs, search needs, puts-none _ _ _, refl)
 
 mul-w : tie.Need-mul-w Inv-loop μ-loop
 mul-w c = search needs

@@ -5,7 +5,8 @@ use Rattle.block.specs.declared.Checked.the-variants.{Passes}
 use Rattle.block.specs.Answer.{inOrder}
 use Rattle.mesh.specs.Answer.{blockRows}
 use Rattle.mesh.proofs.Tallies.{tallied-few, tallied-counts}
-use Rattle.mesh.proofs.Verdicts.{judged-refused, judged-passed, block-of}
+use Rattle.block.proofs.Order.{judged-refused, judged-passed}
+use Rattle.mesh.proofs.Verdicts.{block-of}
 use borrow.Author.Needs.{needs}
 use Rattle.mesh.proofs.counts_of.Statement.{statement}
 use Rattle.mesh.proofs.counts_of.Tie as tie

@@ -1,7 +1,7 @@
 -- `digit` meets its contract: each return is one stretch of bytes.
 -- Assumes nothing.
 use native.Mathlib.Omega.{arith}
-use Rattle.reading.proofs.Digits.{before-digits, decimal, between-digits, letter, behind-digits}
+use Rattle.reading.proofs.Digits.{before-digits, decimal-digit, between-digits, letter, behind-digits}
 use borrow.Author.Needs.{needs}
 use Rattle.reading.proofs.digit.Statement.{statement}
 use Rattle.reading.proofs.digit.Tie as tie
@@ -12,7 +12,7 @@ returns : tie.Need-returns
 returns c = (before-digits _ (c .before .pre) (c .if1 .taken), search needs)
 
 returns-2 : tie.Need-returns-2
-returns-2 c = (decimal _ (c .before .before .pre) (c .before .if1 .left) (c .if2 .taken), omega (arith, c .if2 .taken))
+returns-2 c = (decimal-digit _ (c .before .before .pre) (c .before .if1 .left) (c .if2 .taken), omega (arith, c .if2 .taken))
 
 returns-3 : tie.Need-returns-3
 returns-3 c = (between-digits _ (c .before .before .before .pre) (c .before .if2 .left) (c .if3 .taken), search needs)

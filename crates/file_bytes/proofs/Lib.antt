@@ -1,0 +1,4 @@
+pub mod Decimal
+pub mod Little
+pub mod Writing
+pub mod Fixed

@@ -1,0 +1,29 @@
+-- `tell_length` meets its contract: the length, or zero.
+-- Assumes nothing.
+use mathlib.Core.Path.{sym, ap}
+use Rattle.laws.specs.Filled.{filled}
+use Rattle.ply.specs.declared.Filed.{Filed}
+use Rattle.ply.specs.Answer.{saidFile}
+use Rattle.parsniprow_c.specs.Told.{toldLength}
+use borrow.Author.Needs.{needs}
+use Rattle.parsniprow_c.proofs.tell_length.Statement.{statement}
+use Rattle.parsniprow_c.proofs.tell_length.Tie as tie
+use Rattle.parsniprow_c.proofs.tell_length.Reads as reads
+use Rattle.parsniprow_c.proofs.tell_length.Lts as lts
+
+enum-known-filed : tie.Need-enum-known-filed
+enum-known-filed c = search needs
+
+enum-told : tie.Need-enum-told
+enum-told c = search needs
+
+returns : tie.Need-returns
+unfolding filled
+returns c = sym (ap (λ (x : Filed). toldLength (saidFile x)) (c .before .filed .given .1))
+
+returns-2 : tie.Need-returns-2
+unfolding filled
+returns-2 c = sym (ap (λ (x : Filed). toldLength (saidFile x)) (c .enum-told .given .1))
+
+pub tell-length-spec : {M : Type 1} → statement M
+tell-length-spec = tie.close (tie.spec enum-known-filed enum-told returns returns-2)

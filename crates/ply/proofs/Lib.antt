@@ -1,0 +1,9 @@
+pub mod Places
+pub mod Files
+pub mod Rows
+pub mod Accepted
+pub mod Written
+pub mod Back
+pub mod Rules
+pub mod Example
+pub mod Fixed

@@ -1,0 +1,5 @@
+pub mod Rows
+pub mod File
+pub mod Answer
+pub mod Words
+pub mod Steps
