@@ -124,40 +124,52 @@ module _ (nx ny nz : ℕ) (s : List ℕ) (cut : Cut) (grey : SixteenBit s) (lim 
   abbrev count : ℕ
   count = length (vertices loopsOf n s cut)
 
-  half : length (meshWords loopsOf n s cut) / 2 ≡ count
+  abbrev words : List ℕ
+  words = meshWords loopsOf n s cut
+
+  abbrev offsets : List Float
+  offsets = meshOffsets loopsOf n s cut
+
+  abbrev numbers : List ℕ
+  numbers = meshQuads loopsOf n s cut
+
+  half : length words / 2 ≡ count
   half = omega (arith, mesh-words-length n s cut)
 
-  cubes-pass : HoldsTo (cubeInside n (meshWords loopsOf n s cut)) (length (meshWords loopsOf n s cut) / 2)
+  shape-passed : shapeRow (length words) (length offsets) ≡ Passes
+  shape-passed = shape-passes _ _ count (mesh-words-length n s cut) (mesh-offsets-length n s cut) (most-vertices loopsOf n s cut (cube-laws joined) lim)
+
+  cubes-pass : HoldsTo (cubeInside n words) (length words / 2)
   cubes-pass v h =
       let l : v < count = omega (arith, h, half) in
-      lt-ltb (getD (meshWords loopsOf n s cut) (2 * v) 0) (cubeCount n) (rw (words-at loopsOf n s cut v l .0) (vertex-is-loop loopsOf n s cut v l .0))
+      lt-ltb (getD words (2 * v) 0) (cubeCount n) (rw (words-at loopsOf n s cut v l .0) (vertex-is-loop loopsOf n s cut v l .0))
 
-  offsets-pass : HoldsTo (offsetInside (meshOffsets loopsOf n s cut)) (length (meshOffsets loopsOf n s cut) / 3)
+  offsets-pass : HoldsTo (offsetInside offsets) (length offsets / 3)
   offsets-pass v h =
-      let at : (k : ℕ) → k < length (meshOffsets loopsOf n s cut) → fromZeroToOne (getD (meshOffsets loopsOf n s cut) k nan) ≡ true = λ k l. unit-passes _ (offsets-in-unit n s cut grey k l) in
+      let at : (k : ℕ) → k < length offsets → fromZeroToOne (getD offsets k nan) ≡ true = λ k l. unit-passes _ (offsets-in-unit n s cut grey k l) in
       rw (at (3 * v) (omega (arith, h)), at (3 * v + 1) (omega (arith, h)), at (3 * v + 2) (omega (arith, h)))
 
-  flat-quads : length (meshQuads loopsOf n s cut) ≡ 4 * length (quads loopsOf n s cut)
+  flat-quads : length numbers ≡ 4 * length (quads loopsOf n s cut)
   unfolding meshQuads
   flat-quads = flat-length (quads loopsOf n s cut)
 
-  numbers-pass : HoldsTo (quadBelow count (meshQuads loopsOf n s cut)) (length (meshQuads loopsOf n s cut) / 4)
+  numbers-pass : (c : ℕ) → c ≡ count → HoldsTo (quadBelow c numbers) (length numbers / 4)
   unfolding meshQuads
-  numbers-pass q h =
+  numbers-pass c e q h =
       let b = quad-inside loopsOf n s cut (cube-laws joined) (quad-numbers (quads loopsOf n s cut) q (omega (arith, h, flat-quads))) in
-      rw (lt-ltb _ _ (b .0), lt-ltb _ _ (b .1), lt-ltb _ _ (b .2), lt-ltb _ _ (b .3))
+      rw (e, lt-ltb _ _ (b .0), lt-ltb _ _ (b .1), lt-ltb _ _ (b .2), lt-ltb _ _ (b .3))
 
   listed : (spacing : Spacing) (room : ℕ) → spacingRow spacing ≡ Passes
       → plyVerdict nx ny nz (meshWords loopsOf n s cut) (meshOffsets loopsOf n s cut) (meshQuads loopsOf n s cut) spacing room
       ≡ roomRow (length (plyFile (sizeOf nx ny nz) (meshWords loopsOf n s cut) (meshOffsets loopsOf n s cut) (meshQuads loopsOf n s cut) spacing)) room
   listed spacing room good =
       order-passes (axisRow nx ny nz) _ (within-axes nx ny nz lim)
-      ∙ order-passes (shapeRow (length (meshWords loopsOf n s cut)) (length (meshOffsets loopsOf n s cut))) _ (shape-passes _ _ count (mesh-words-length n s cut) (mesh-offsets-length n s cut) (most-vertices loopsOf n s cut (cube-laws joined) lim))
-      ∙ order-passes (cubeRow n (meshWords loopsOf n s cut)) _ (search-passes 23 _ _ cubes-pass)
-      ∙ order-passes (offsetRow (meshOffsets loopsOf n s cut)) _ (search-passes 24 _ _ offsets-pass)
-      ∙ order-passes (lengthRow (meshQuads loopsOf n s cut)) _ (length-exactly (meshQuads loopsOf n s cut) .1 (omega (arith, flat-quads)))
+      ∙ order-passes (shapeRow (length words) (length offsets)) _ shape-passed
+      ∙ order-passes (cubeRow n words) _ (search-passes 23 _ _ cubes-pass)
+      ∙ order-passes (offsetRow offsets) _ (search-passes 24 _ _ offsets-pass)
+      ∙ order-passes (lengthRow numbers) _ (length-exactly numbers .1 (omega (arith, flat-quads)))
       ∙ order-passes (spacingRow spacing) _ good
-      ∙ order-passes (numberRow (length (meshWords loopsOf n s cut) / 2) (meshQuads loopsOf n s cut)) _ (search-passes 14 _ _ (subst (λ (c : ℕ). HoldsTo (quadBelow c (meshQuads loopsOf n s cut)) (length (meshQuads loopsOf n s cut) / 4)) (sym half) numbers-pass))
+      ∙ order-passes (numberRow (length words / 2) numbers) _ (search-passes 14 _ _ (numbers-pass (length words / 2) half))
       ∙ order-last _
 
 -- What a call of `mesh` wrote over the front of its buffers, with any good spacing, is refused by no row but 15: all that the verdict says is whether there is room.

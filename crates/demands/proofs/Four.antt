@@ -2,8 +2,9 @@
 use Prim.Native.Nat.{ℕ, _≤_}
 use mathlib.Core.Path.{_≡_, refl}
 use mathlib.Core.Logic.{_⊎_, inl, inr}
-use mathlib.Core.List.{[], _∷_}
+use mathlib.Core.List.{List, [], _∷_}
 use native.Mathlib.Omega.{arith}
+use lib.Ieee.{Float}
 use lib.ListN.{length}
 use Rattle.block.specs.declared.CeilingCount.{CeilingCount}
 use Rattle.block.specs.Answer.{accepted}
@@ -15,7 +16,9 @@ use Rattle.place.specs.Crossing.{saidEdge, edgeAnswer, EdgeAnswered}
 use Rattle.cell.specs.Answer.{saidCube}
 use Rattle.mesh.specs.Answer.{saidCounts}
 use Rattle.closed.specs.Closed.{saidClosure}
-use Rattle.ply.specs.Answer.{saidFile}
+use Rattle.ply.specs.declared.Spacing.{Spacing}
+use Rattle.ply.specs.declared.Filed.{Filed}
+use Rattle.ply.specs.Answer.{saidFile, PlyWritten}
 use Rattle.reading.proofs.Verdicts.{run-numbers}
 use Rattle.demands.specs.Marks.{NotFour, FourNever}
 use Rattle.demands.proofs.Files.{PlyNumber, ply-numbers}
@@ -42,6 +45,10 @@ of-ply n (inr (inl h)) e = omega (arith, h, e)
 of-ply n (inr (inr (inl h))) e = omega (arith, h .0, e)
 of-ply n (inr (inr (inr h))) e = omega (arith, h .0, e)
 
+ply-other : (nx ny nz : ℕ) (words : List ℕ) (offsets : List Float) (quads : List ℕ) (s : Spacing) (file : List ℕ) (r : Filed) (file′ : List ℕ)
+    → PlyWritten nx ny nz words offsets quads s file r file′ → NotFour (saidFile r)
+ply-other nx ny nz words offsets quads s file r file′ m x e = of-ply (x .number) (ply-numbers nx ny nz words offsets quads s (length file) x (refused-exactly _ _ _ (m .answer) x .0 e))
+
 pub four-never : FourNever
 four-never = record {
   size = λ nx ny nz r m x e f. omega (arith, f, size-numbers nx ny nz x (refused-exactly _ _ _ m x .0 e));
@@ -50,7 +57,7 @@ four-never = record {
   counts = λ nx ny nz s cut r m x e f. omega (arith, f, counts-numbers nx ny nz s cut x (refused-exactly _ _ _ m x .0 e) .1);
   mesh = λ nx ny nz s cut w o q r w′ o′ q′ m x e. of-mesh (x .number) (mesh-numbers nx ny nz s cut (length w) (length o) (length q) x (refused-exactly _ _ _ (m .answer) x .0 e));
   closed = λ quads r m x e f. omega (arith, f, closed-numbers quads x (refused-exactly _ _ _ m x .0 e));
-  ply = λ nx ny nz words offsets quads s file r file′ m x e. of-ply (x .number) (ply-numbers nx ny nz words offsets quads s (length file) x (refused-exactly _ _ _ (m .answer) x .0 e));
+  ply = ply-other;
   run = λ bytes out r out′ m v h p. of-run 4 (run-numbers bytes _ (run-refuses bytes out r out′ m (record { number = 4; value = v }) (omega arith) h .0 p)) refl;
   ceilings-told = λ s place place′ m. four-untold 3 (λ (c : CeilingCount). c .count ∷ c .lowest ∷ []) (accepted (ceilingsIn s)) place place′ m (λ x e f. let z : _≡_ {A = ℕ} 0 1 = cc in omega arith);
   edge-told = λ p q t f place f′ place′ m. four-untold 3 _ (saidEdge (m .answer)) place place′ (m .is-told) (edge-other p q t (m .answer) (m .answered));
@@ -58,5 +65,5 @@ four-never = record {
   counts-told = λ nx ny nz s t place place′ m. four-untold 3 _ (saidCounts (m .answer)) place place′ (m .is-told) (λ x e f. omega (arith, f, counts-numbers nx ny nz s (cutOf t) x (refused-exactly _ _ _ (m .answered) x .0 e) .1));
   mesh-told = λ nx ny nz s t w o q place w′ o′ q′ place′ m. four-untold 3 _ (saidCounts (m .answer)) place place′ (m .is-told) (λ x e. of-mesh (x .number) (mesh-numbers nx ny nz s (cutOf t) (length w) (length o) (length q) x (refused-exactly _ _ _ (m .meshed .answer) x .0 e)));
   closed-told = λ quads place place′ m. four-untold 4 _ (saidClosure (m .answer)) place place′ (m .is-told) (λ x e f. omega (arith, f, closed-numbers quads x (refused-exactly _ _ _ (m .answered) x .0 e)));
-  ply-told = λ nx ny nz words offsets quads s file bytes place file′ bytes′ place′ m. four-untold 3 _ (saidFile (m .answer)) place place′ (m .is-told) (λ x e. of-ply (x .number) (ply-numbers nx ny nz words offsets quads s (length file) x (refused-exactly _ _ _ (m .written .answer) x .0 e)));
+  ply-told = λ nx ny nz words offsets quads s file bytes place file′ bytes′ place′ m. four-untold 3 _ (saidFile (m .answer)) place place′ (m .is-told) (ply-other nx ny nz words offsets quads s file (m .answer) file′ (m .written));
 }

@@ -29,7 +29,8 @@ pub little-four : (v : ℕ) → v < 4294967296 → v % 256 ∷ v / 256 % 256 ∷
 unfolding littleEndian
 little-four v h = bytes (omega arith) (omega arith) (omega (arith, h))
   where
-    bytes : {a b c : ℕ} → a ≡ v / 256 % 256 → b ≡ v / 256 / 256 % 256 → c ≡ v / 256 / 256 / 256 % 256 → v % 256 ∷ a ∷ b ∷ c ∷ [] ≡ v % 256 ∷ v / 256 % 256 ∷ v / 256 / 256 % 256 ∷ v / 256 / 256 / 256 % 256 ∷ []
+    bytes : {a b c : ℕ} → a ≡ v / 256 % 256 → b ≡ v / 256 / 256 % 256 → c ≡ v / 256 / 256 / 256 % 256
+        → v % 256 ∷ a ∷ b ∷ c ∷ [] ≡ v % 256 ∷ v / 256 % 256 ∷ v / 256 / 256 % 256 ∷ v / 256 / 256 / 256 % 256 ∷ []
     bytes a b c = rw (a, b, c)
 
 -- eight bytes are the lower four and the upper four

@@ -83,9 +83,6 @@ module _ (n : Size) (words : List ℕ) (offsets : List Float) (quads : List ℕ)
   abbrev faces : ℕ
   faces = length quads / 4
 
-  abbrev file : List ℕ
-  file = plyFile n words offsets quads s
-
   -- coordinate a of vertex v
   pub vertex-back : (v a : ℕ) → v < length words / 2 → a < 3
       → doubleAt (plyFile n words offsets quads s) (headerLength (length words / 2) (length quads / 4) + (24 * v + 8 * a)) ≡ placeOn n words offsets s v a
@@ -104,4 +101,5 @@ module _ (n : Size) (words : List ℕ) (offsets : List Float) (quads : List ℕ)
       length-append (header count faces) (below (vertexBytes n words offsets s) count) ∙ rw (header-length count faces, vertices-length n words offsets s count) in
       int-back _ _ _ b
       (part-in (part-right (header count faces ++ below (vertexBytes n words offsets s) count) (below (faceBytes quads) faces) (headerLength count faces + 24 * count) before)
-      (part-in (part-below (faceBytes quads) 17 faces q (face-bytes-length quads) h) (part-in (part-right (littleEndian 1 4) _ 1 (little-length 1 4)) (part-below (λ (j : ℕ). littleEndian 4 (getD quads (4 * q + j) 0)) 4 4 i (λ j. little-length 4 _) l))))
+      (part-in (part-below (faceBytes quads) 17 faces q (face-bytes-length quads) h)
+      (part-in (part-right (littleEndian 1 4) _ 1 (little-length 1 4)) (part-below (λ (j : ℕ). littleEndian 4 (getD quads (4 * q + j) 0)) 4 4 i (λ j. little-length 4 _) l))))

@@ -25,7 +25,10 @@ same-length : tie.Need-same-length
 same-length c = search needs
 
 returns : tie.Need-returns
-returns c = (eight-put _ (c .before .before .before .before .before .before .put-four .ensures .0) (c .before .before .put-four2 .ensures .0), omega (arith, c .before .before .put-four2 .ensures .1, c .before .before .before .before .before .before .put-four .ensures .1))
+returns c =
+    let upper = c .before .before in
+    let lower = upper .before .before .before .before in
+    (eight-put _ (lower .put-four .ensures .0) (upper .put-four2 .ensures .0), omega (arith, upper .put-four2 .ensures .1, lower .put-four .ensures .1))
 
 pub put-eight-spec : {M : Type 1} → statement M
 put-eight-spec =

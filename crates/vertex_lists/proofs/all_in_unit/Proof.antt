@@ -26,7 +26,11 @@ in-unit-requires-3 : tie.Need-in-unit-requires-3
 in-unit-requires-3 c κs = search needs
 
 returns-3 : tie.Need-returns-3
-returns-3 c = c .in-unit3 .ensures ∙ by-third _ _ _ (sym (c .before .before .before .before .in-unit .ensures) ∙ not-false _ (c .before .before .before .if1 .left)) (sym (c .before .before .in-unit2 .ensures) ∙ not-false _ (c .before .if2 .left))
+returns-3 c =
+    let second = c .before in
+    let first = second .before .before in
+    c .in-unit3 .ensures
+    ∙ by-third _ _ _ (sym (first .before .in-unit .ensures) ∙ not-false _ (first .if1 .left)) (sym (second .before .in-unit2 .ensures) ∙ not-false _ (second .if2 .left))
 
 pub all-in-unit-spec : {M : Type 1} → statement M
 all-in-unit-spec =
