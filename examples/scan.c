@@ -256,7 +256,7 @@ static void help(void)
          "\n"
          "  FILE        the scan: 16-bit grey values and nothing else, along x first, then y, then z\n"
          "  NX NY NZ    how many values there are along x, y and z, each 2 to 256. FILE must have 2 x NX x NY x NZ\n"
-         "              bytes. Axes that have changed places cannot be noticed: take them from the scan's papers\n"
+         "              bytes. Axes that have changed places cannot be noticed: take them from the scanner's record\n"
          "  THRESHOLD   1 to 65534. A value of at least THRESHOLD is metal, any other is hollow\n"
          "  BYTE-ORDER  little if the low byte of each value comes first, big if the high byte does. The wrong one\n"
          "              cannot be noticed, but the line \"values\" then shows values that the part does not have\n"
@@ -428,7 +428,7 @@ static void advise_on_axis(const struct request *request, uint32_t axis)
 static void advise_on_spacing(const struct request *request, uint32_t axis)
 {
     printf("note The spacing along %c is %s, and it must be above 0 and at most 1000 millimetres. Take it from the "
-           "scan's papers: how far it is from one value to the next.\n",
+           "scanner's record: how far it is from one value to the next.\n",
            "xyz"[axis % AXES], request->spacing_text[axis % AXES]);
 }
 
@@ -635,7 +635,7 @@ static void make_mesh(const struct request *request, const struct block *block, 
         mesh->marked_count += (mesh->words[WORDS_A_VERTEX * vertex + 1] & MARK) != 0;
 }
 
-/* The first answer says how much room is needed. */
+/* The first answer says how much room is needed. It is not cut: the largest mesh needs 2430842766 bytes. */
 static void make_ply(const struct request *request, struct mesh *mesh)
 {
     uint32_t answer[ANSWER];

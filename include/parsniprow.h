@@ -28,7 +28,7 @@
      6       quads_len is under 4 a quad       quads needed
      7       quads_len is no multiple of 4     quads_len modulo 4
      13      a spacing is not above 0, or      lowest such axis, 0 to 2
-             above 1000
+             is above 1000
      14      a quad names a vertex that is     lowest such quad
              not there
      15      file_len is under the bytes of    bytes needed
@@ -136,7 +136,8 @@ void parsniprow_ceilings(const uint16_t *samples, size_t samples_len, uint32_t *
 /* A mesh as a PLY file, for a viewer: binary, little-endian, format 1.0. The vertices are three doubles x, y, z in
    millimetres, the faces lists of four vertex numbers, in the order of the buffers. Its time grows with the mesh. The
    file has 170 bytes and the decimal digits of both counts, 24 bytes a vertex and 17 a quad. Ask with a file_len of 0
-   first: the answer is then 15 with the bytes needed, if nothing else is wrong.
+   first: the answer is then 15 with the bytes needed, if nothing else is wrong. A mesh of parsniprow_mesh needs at most
+   2430842766; of longer lists reckon the bytes yourself.
      nx, ny, nz  axis lengths in samples, each 2 to 256, of the block that the mesh was made of
      words       2 items a vertex, as parsniprow_mesh writes them; the first is the number of its cube, and the second,
                  mask and mark, is not looked at and not in the file

@@ -25,7 +25,6 @@ static struct lent plain_file = LENT("file of plain", sizeof(uint8_t), 0, byte_p
 static uint32_t answer[ANSWER];
 static uint64_t file_bytes;
 
-#define ITEMS(list) (sizeof(list) / sizeof *(list))
 
 int due(const struct call *call, unsigned row)
 {

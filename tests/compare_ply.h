@@ -12,6 +12,8 @@ extern const uint32_t ply_refusals[ROWS];
 
 enum { LENGTH = 1, BYTES_A_VERTEX = 24, BYTES_A_QUAD = 17 };
 
+#define ITEMS(list) (sizeof(list) / sizeof *(list))
+
 struct call {
     const char *name;
     uint32_t length[3];

@@ -13,7 +13,6 @@
 
 enum { ALL_ROWS = (1 << ROWS) - 1, MOST_VERTICES = 66325500 };
 
-#define ITEMS(list) (sizeof(list) / sizeof *(list))
 
 /* ---- the paper's mesh and the empty one ---- */
 

@@ -7,6 +7,7 @@ use Rattle.laws.specs.Fixed.{Fixes}
 use Rattle.laws.proofs.Fixed.{equation-fixes}
 use Rattle.block.specs.declared.CeilingCount.{CeilingCount}
 use Rattle.block.specs.declared.Checked.{Checked}
+use Rattle.block.specs.declared.Checked.the-variants.{Refuses}
 use Rattle.block.specs.declared.Cut.{Cut}
 use Rattle.block.specs.declared.Size.{Size}
 use Rattle.block.specs.Numbering.{sampleCount}
@@ -35,7 +36,10 @@ check-count-fixed n count = equation-fixes (countRow n count)
 pub check-threshold-fixed : (cut : Cut) → Fixes (λ (r : Checked). r ≡ thresholdRow cut)
 check-threshold-fixed cut = equation-fixes (thresholdRow cut)
 
--- of `short` and `ceilings`
+-- of `refuse`, `short` and `ceilings`
+pub refuse-fixed : (number value : ℕ) → Fixes (λ (r : Checked). r ≡ Refuses (record { number = number; value = value }))
+refuse-fixed number value = equation-fixes (Refuses (record { number = number; value = value }))
+
 pub short-fixed : (n : ℕ) → Fixes (λ (r : ℕ). r ≡ given n)
 short-fixed n = equation-fixes (given n)
 

@@ -1,6 +1,7 @@
 pub mod Lowest
 pub mod Products
 pub mod Rows
+pub mod Numbering
 pub mod Sizes
 pub mod Fixed
 pub mod Order

@@ -1,5 +1,5 @@
 -- What row 2 says, by cases, and what a row refuses with.
-use mathlib.Core.Path.{_≡_, refl, ap}
+use mathlib.Core.Path.{_≡_, refl, sym, ap}
 use mathlib.Core.Bool.{Bool, true, false, cond}
 use mathlib.Core.List.{List}
 use lib.Dec.{ltb}
@@ -38,6 +38,10 @@ holds-where false n v x e = absurd (passes-refuses e)
 pub holds-unless : (b : Bool) (n v : ℕ) (x : Refusal) → cond b Passes (refuses n v) ≡ Refuses x → x ≡ record { number = n; value = given v }
 holds-unless true n v x e = absurd (passes-refuses e)
 holds-unless false n v x e = refusal-is n v x e
+
+pub unless-none : (b : Bool) (n v : ℕ) → cond b Passes (refuses n v) ≡ Passes → b ≡ true
+unless-none true n v e = refl
+unless-none false n v e = absurd (passes-refuses (sym e))
 
 -- as the code finds a row that holds where a test does not
 pub unless-passes : (b : Bool) (n v : ℕ) → b ≡ true → Passes ≡ cond b Passes (refuses n v)

@@ -13,7 +13,7 @@ use Rattle.block.specs.declared.Refusal.{Refusal}
 use Rattle.block.specs.declared.Checked.the-variants.{Passes, Refuses}
 use Rattle.block.specs.declared.Size.{Size}
 use Rattle.block.specs.declared.Sized.the-variants.{Made, BadAxis}
-use Rattle.block.specs.Answer.{inOrder, refuses}
+use Rattle.block.specs.Answer.{refuses}
 use Rattle.block.specs.Rows.{shortest, longest, outOfLimits, axisRow}
 use Rattle.block.specs.Size.{sizeOf, saidSize, sizeAnswer, SizeMade, Limits}
 use Rattle.block.proofs.Lowest.{row-clear, first-of-three, second-of-three, third-of-three, none-of-three}

@@ -5,6 +5,7 @@ ghost use Prim.Native.Nat.{ℕ, _+_, _≤_};
 ghost use lib.ListN.{length, getD};
 ghost use Rattle.laws.specs.Bits.{bit};
 ghost use Rattle.laws.specs.Counting.{count};
+ghost use Rattle.block.specs.declared.Checked.the-variants.{Refuses};
 ghost use Rattle.block.specs.Answer.{given};
 ghost use Rattle.block.specs.Ceilings.{ceilingsBefore, ceilingsIn};
 ghost use Rattle.block.specs.Grey.{isCeiling};
@@ -144,6 +145,16 @@ pub fn check_threshold(cut: Cut) -> Checked
         });
     }
     Checked::Passes
+}
+
+// A refusal with this number and value.
+pub fn refuse(number: u32, value: u32) -> Checked
+    ensures { λ r. ⌜ r ≡ Refuses (record { number = number; value = value }) ⌝ }
+{
+    Checked::Refuses(Refusal {
+        number: number,
+        value: value,
+    })
 }
 
 // A number in an answer: above 4,294,967,295 it is given as that.

@@ -1,17 +1,17 @@
 -- A mesh as a PLY file, from the very promise of `write` (document 02, Three): what it refuses and accepts, that a refusal keeps the buffer, which numbers it
 -- gives, and that a mesh which `mesh` wrote is refused by no row but 15, if the spacing is good.
 use Prim.Native.Nat.{ℕ, _+_, _*_, _/_, _%_, _≤_, _<_}
-use mathlib.Core.Path.{_≡_, refl, sym, ap, subst, _∙_}
-use mathlib.Core.Bool.{Bool, true, false, not}
+use mathlib.Core.Path.{_≡_, ap, _∙_}
+use mathlib.Core.Bool.{Bool, true}
 use mathlib.Core.Logic.{_↔_, _⊎_, inl, inr}
 use mathlib.Core.List.{List}
 use native.Mathlib.Omega.{arith}
 use lib.Dec.{leb, eqb}
 use lib.ListN.{length, getD, take}
 use lib.Ieee.{Float, nan, le}
-use lib.Ieee.Bits.{is-true}
 use borrow.Author.Tests.{lt-ltb}
 use Rattle.laws.proofs.Leading.{HoldsTo}
+use Rattle.laws.proofs.Tests.{is-true}
 use Rattle.block.specs.declared.Cut.{Cut}
 use Rattle.block.specs.declared.Refusal.{Refusal}
 use Rattle.block.specs.declared.Checked.the-variants.{Passes, Refuses}
@@ -42,7 +42,7 @@ use Rattle.vertex_lists.specs.Rows.{shaped, shapeRow, cubeInside, cubeRow, from
 use Rattle.vertex_lists.proofs.Rows.{shape-passes}
 use Rattle.ply.specs.declared.Spacing.{Spacing}
 use Rattle.ply.specs.declared.Filed.{Filed}
-use Rattle.ply.specs.Rows.{spacings, goodSpacing, spacingRow, roomRow}
+use Rattle.ply.specs.Rows.{spacings, badSpacing, spacingRow, roomRow}
 use Rattle.ply.specs.File.{plyFile}
 use Rattle.ply.specs.Answer.{saidFile, plyRows, plyVerdict, PlyWritten}
 use Rattle.demands.specs.Answers.{MeshCall}
@@ -97,7 +97,7 @@ ply-numbers nx ny nz words offsets quads s room =
             (
               λ x e. inr (inl (unless-number (eqb (length quads % 4) 0) 7 (length quads % 4) x e)),
               (
-                λ x e. low x (lowest-number 13 (λ (y : Float). not (goodSpacing y)) (spacings s) x e) (omega arith) (omega arith),
+                λ x e. low x (lowest-number 13 badSpacing (spacings s) x e) (omega arith) (omega arith),
                 (
                   λ x e. low x (search-number 14 (quadBelow count quads) (length quads / 4) x e) (omega arith) (omega arith),
                   (λ x e. low x (unless-number (leb needed room) 15 needed x e) (omega arith) (omega arith), tt),

@@ -1,5 +1,5 @@
 -- Which numbers an entry point gives: counting a mesh gives 1 to 3 only, the mesh 5 and 6 besides, cube and edge questions give 3, the closed question
--- only 7. And that no value is cut where the axes are accepted.
+-- only 7. And that no value of counting or meshing is cut.
 use Prim.Native.Nat.{ℕ, _*_, _%_, _≤_, _<_}
 use mathlib.Core.Path.{_≡_, sym, ap, _∙_}
 use mathlib.Core.Bool.{Bool, cond, _&&_}

@@ -8,14 +8,13 @@ use native.Mathlib.Omega.{arith}
 use lib.ListN.{length, getD, take, length-take, List·getD-eq-default}
 use lib.Seq.{getD-take}
 use Rattle.laws.specs.Filled.{filled}
-use Rattle.laws.proofs.Over.{over-length}
+use Rattle.laws.proofs.Over.{over-front, over-length}
 use Rattle.laws.proofs.Tests.{lt-or-ge}
 use Rattle.block.specs.declared.Refusal.{Refusal}
 use Rattle.block.specs.Answer.{Answer, accepted, refused, told}
 use Rattle.parsniprow_c.specs.Told.{tellOver}
 use Rattle.demands.specs.Answers.{NotRefused}
 use Rattle.demands.specs.Marks.{NotFour}
-use Rattle.demands.proofs.TheMesh.{over-front}
 
 -- ---- an item of a place
 

@@ -14,7 +14,7 @@ use Rattle.block.specs.declared.Size.{Size}
 use Rattle.block.specs.declared.Sized.{Sized}
 use Rattle.block.specs.declared.Checked.{Checked}
 use Rattle.block.specs.declared.Checked.the-variants.{Passes, Refuses}
-use Rattle.block.specs.Answer.{Answer, accepted, refused, inOrder, First, decided, judged, written}
+use Rattle.block.specs.Answer.{Answer, accepted, refused, inOrder, First, decided, judged}
 use Rattle.block.specs.Grey.{cutOf}
 use Rattle.block.specs.Rows.{axisRow, thresholdRow}
 use Rattle.block.specs.Size.{sizeOf, saidSize, SizeMade}

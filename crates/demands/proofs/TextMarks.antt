@@ -11,6 +11,7 @@ use lib.ListN.{length, getD, length-append, List·getD-append}
 use lib.Seq.{getD-append-add}
 use Rattle.laws.specs.Below.{below, over}
 use Rattle.laws.proofs.Below.{getD-below, length-constant}
+use Rattle.laws.proofs.Over.{over-front}
 use Rattle.block.specs.declared.Checked.{Checked}
 use Rattle.block.specs.declared.Checked.the-variants.{Passes, Refuses}
 use Rattle.block.specs.declared.Cut.{Cut}
@@ -36,7 +37,6 @@ use Rattle.lines.specs.Output.{refusalLine, closedField, headLine, vertexLine, 
 use Rattle.lines.proofs.Texts.{refusal-length, head-length, vertex-line-length, mesh-length}
 use Rattle.demands.specs.Marks.{hasMark, vertexPlace, BothSigns}
 use Rattle.demands.proofs.RefusalText.{refusal-first}
-use Rattle.demands.proofs.TheMesh.{over-front}
 use Rattle.demands.proofs.Marks.{told-by, word-bit, word-short, cube-short, words-clear}
 
 -- ---- a number is read by its digits

@@ -5,9 +5,9 @@ use mathlib.Core.Path.{_≡_, refl, ap, _∙_, subst}
 use mathlib.Core.List.{List, List·Memᴰ}
 use native.Mathlib.Omega.{arith}
 use lib.Ieee.{nan}
-use lib.ListN.{length, getD, take, List·getD-append}
-use lib.Seq.{take-at}
+use lib.ListN.{length, getD, take}
 use Rattle.laws.specs.Below.{over}
+use Rattle.laws.proofs.Over.{over-front, over-take}
 use Rattle.block.specs.declared.Cut.{Cut}
 use Rattle.block.specs.declared.Size.{Size}
 use Rattle.block.specs.declared.Checked.{Checked}
@@ -38,15 +38,6 @@ use Rattle.demands.specs.Answers.{MeshCall}
 use Rattle.demands.specs.Given.{MeshGiven}
 
 -- ---- an answer that is no refusal
-
--- a place at the front
-pub over-front : {A : Type 0} (xs b : List A) (k : ℕ) (d : A) → k < length xs → getD (over xs b) k d ≡ getD xs k d
-unfolding over
-over-front xs b k d h = List·getD-append xs _ d k h
-
-over-take : {A : Type 0} (xs b : List A) (k : ℕ) → length xs ≡ k → take k (over xs b) ≡ xs
-unfolding over
-over-take xs b k e = take-at xs _ k e
 
 module _ {nx ny nz : ℕ} {s : List ℕ} {cut : Cut} (a : MeshCall nx ny nz s cut) where
   abbrev size : Size

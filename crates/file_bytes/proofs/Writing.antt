@@ -10,7 +10,7 @@ use lib.ListN.{length, getD, set, take, length-append}
 use lib.Seq.{sets, take-suc, take-all, length-take-le}
 use Rattle.laws.specs.Put.{Put}
 use Rattle.laws.proofs.Stores.{sets-append, set-sets}
-use Rattle.laws.proofs.Puts.{put-then, put-as}
+use Rattle.laws.proofs.Puts.{put-one, put-then, put-as}
 use Rattle.laws.proofs.Tests.{lt-or-ge}
 use Rattle.file_bytes.specs.Bytes.{digit, decimal, littleEndian}
 use Rattle.file_bytes.proofs.Decimal.{decimal-small, decimal-large, length-small, length-large, length-some}
@@ -80,7 +80,7 @@ module _ (out₀ : List ℕ) (at n : ℕ) where
 -- ---- bytes
 
 pub one-put : (out : List ℕ) (at v : ℕ) → v < 256 → Put out at (littleEndian 1 v) (set out at v) (at + 1)
-one-put out at v h = put-as (little-one v h) (record { stored = refl; behind = refl })
+one-put out at v h = put-as (little-one v h) (put-one out at v)
 
 -- four bytes one behind the other
 four-stored : (out : List ℕ) (at p q r a b c d : ℕ) → p ≡ suc at → q ≡ suc (suc at) → r ≡ suc (suc (suc at))

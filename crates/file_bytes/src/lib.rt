@@ -73,7 +73,7 @@ pub fn put_four(out: &mut [u8], at: usize, v: u32) -> usize
     at + 4
 }
 
-// And in eight.
+// The same in eight bytes, the lowest first.
 pub fn put_eight(out: &mut [u8], at: usize, v: u64) -> usize
     requires { ⌜ at + 8 ≤ length (now out) ⌝ }
     ensures { λ r. ⌜ Put (now (out .entry)) at (littleEndian 8 v) (now (out .exit)) r ⌝ }

@@ -3,7 +3,7 @@
 -- Assumes nothing.
 use Prim.Native.Nat.{ℕ, zero, suc, _+_, _-_, _*_, _%_, _^_, _≤_, _<_}
 use mathlib.Core.Path.{_≡_, refl, ap, ap₂, sym, _∙_}
-use mathlib.Core.Bool.{Bool, true, false, cond, _&&_, false≢true}
+use mathlib.Core.Bool.{Bool, true, false, cond, _&&_}
 use mathlib.Core.List.{List, [], _∷_}
 use native.Mathlib.Omega.{arith}
 use lib.Bits.{bitAnd, bitOr}
@@ -17,6 +17,7 @@ use Rattle.laws.proofs.Bits.{bit-le, holds-mask}
 use Rattle.laws.proofs.Pack.{pack-more, pack-put, pack-mask}
 use Rattle.laws.proofs.Visit.{Left, left-skip, left-end}
 use Rattle.laws.proofs.Words.{and-holds}
+use Rattle.laws.proofs.Tests.{and-both}
 use Rattle.block.specs.declared.Cut.{Cut}
 use Rattle.cube.specs.Table.{maskTable}
 use Rattle.cube_rule.specs.Decider.{joined, loopsOf}
@@ -116,15 +117,6 @@ and-set : (a b : Bool) → b ≡ true → (a && b) ≡ a
 and-set true b e = e
 and-set false b e = refl
 
--- two bits that are both set
-pub and-left : (a b : Bool) → (a && b) ≡ true → a ≡ true
-and-left true b e = refl
-and-left false b e = e
-
-pub and-right : (a b : Bool) → (a && b) ≡ true → b ≡ true
-and-right true b e = e
-and-right false b e = absurd (false≢true e)
-
 -- ---- the cubes that are told
 
 module _ {lo hi : List ℕ} {cut : Cut} {nx p : ℕ} {e : List ℕ} {act : ℕ} (ready : WordReady lo hi cut maskTable nx p e act) where
@@ -137,8 +129,8 @@ module _ {lo hi : List ℕ} {cut : Cut} {nx p : ℕ} {e : List ℕ} {act : ℕ} 
       record {
         low = omega arith;
         high = omega arith;
-        low-in = λ f x hf hx t. ready .low-in x hx (and-right (holds (getD six f 0) x) (holds act x) (sym (within-bit six act f x hf) ∙ t));
-        high-in = λ f x hf hx t. ready .high-in x hx (and-right (holds (getD six f 0) x) (holds act x) (sym (within-bit six act f x hf) ∙ t));
+        low-in = λ f x hf hx t. ready .low-in x hx (and-both (holds (getD six f 0) x) (holds act x) (sym (within-bit six act f x hf) ∙ t) .1);
+        high-in = λ f x hf hx t. ready .high-in x hx (and-both (holds (getD six f 0) x) (holds act x) (sym (within-bit six act f x hf) ∙ t) .1);
       }
 
   -- plain cubes have one loop

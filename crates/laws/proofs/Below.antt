@@ -79,7 +79,6 @@ module _ {A : Type 0} (f : ℕ → List A) where
   at-most b zero h = rw mul-zero (omega arith)
   at-most b (suc n) h = rw (mul-suc, length-append) (omega (arith, at-most b n (λ m l. h m (omega arith)), h n (omega arith)))
 
--- in rows of w
 -- n lists of b
 pub length-constant : {A : Type 0} (f : ℕ → List A) (b n : ℕ) → ((m : ℕ) → m < n → length (f m) ≡ b) → length (below f n) ≡ b * n
 unfolding below
@@ -87,6 +86,7 @@ length-constant f b zero h = rw mul-zero
 length-constant f b (suc n) h =
     rw (mul-suc, length-append) (omega (arith, length-constant f b n (λ m l. h m (omega arith)), h n (omega arith)))
 
+-- in rows of w
 pub below-mul : {A : Type 0} (f : ℕ → List A) (w m : ℕ) → below f (w * m) ≡ below (λ (y : ℕ). below (λ (x : ℕ). f (w * y + x)) w) m
 unfolding below
 below-mul f w zero = rw mul-zero

@@ -7,13 +7,22 @@ use Prim.Native.Nat.{ℕ, zero, suc, _+_, _≤_, _<_}
 use native.Mathlib.Nat.{eq-or-lt-of-le, le-of-suc-le-suc, not-suc-le-zero}
 use native.Mathlib.Numerals.{add-one}
 use native.Mathlib.Omega.{arith}
-use lib.ListN.{length, getD, set, drop, length-append, length-drop, List·getD-append}
-use lib.Seq.{drop-cons, set-at, getD-at}
+use lib.ListN.{length, getD, set, take, drop, length-append, length-drop, List·getD-append}
+use lib.Seq.{drop-cons, take-at, set-at, getD-at}
 use Rattle.laws.specs.Below.{below, over}
 
 pub over-length : {A : Type 0} (xs b : List A) → length xs ≤ length b → length (over xs b) ≡ length b
 unfolding over
 over-length xs b h = simp (length-append, length-drop) (omega arith)
+
+-- a place at the front, and the front as a whole
+pub over-front : {A : Type 0} (xs b : List A) (k : ℕ) (d : A) → k < length xs → getD (over xs b) k d ≡ getD xs k d
+unfolding over
+over-front xs b k d h = List·getD-append xs _ d k h
+
+pub over-take : {A : Type 0} (xs b : List A) (k : ℕ) → length xs ≡ k → take k (over xs b) ≡ xs
+unfolding over
+over-take xs b k e = take-at xs _ k e
 
 module _ {A : Type 0} (f : ℕ → A) where
   -- f 0, f 1, .., f (n − 1)

@@ -1,11 +1,11 @@
 -- Lists put into a buffer one behind the other.
 use Prim.Native.Nat.{ℕ, _+_, _≤_}
 use mathlib.Core.Path.{_≡_, refl, sym, _∙_, subst}
-use mathlib.Core.List.{List, [], _++_}
+use mathlib.Core.List.{List, [], _∷_, _++_}
 use native.Mathlib.Nat.{add-zero}
 use native.Mathlib.Numerals.{add-one}
 use native.Mathlib.Omega.{arith}
-use lib.ListN.{length, length-append}
+use lib.ListN.{length, set, length-append}
 use lib.Seq.{sets}
 use Rattle.laws.specs.Below.{below, over}
 use Rattle.laws.specs.Put.{Put}
@@ -13,6 +13,9 @@ use Rattle.laws.proofs.Stores.{sets-join, sets-length, sets-over}
 
 pub put-none : {A : Type 0} (b : List A) (at : ℕ) → Put b at [] b at
 put-none b at = record { stored = refl; behind = sym (add-zero at) }
+
+pub put-one : {A : Type 0} (b : List A) (at : ℕ) (x : A) → Put b at (x ∷ []) (set b at x) (at + 1)
+put-one b at x = record { stored = refl; behind = refl }
 
 -- one list more, by what is stored of it
 pub put-further : {A : Type 0} {b mid xs : List A} {at next : ℕ} (ys after : List A) (on : ℕ) → Put b at xs mid next → after ≡ sets mid next ys → on ≡ next + length ys

@@ -1,7 +1,7 @@
 -- Tests that compute, and what follows where they pass.
 -- Assumes nothing.
 use mathlib.Core.Path.{_≡_, refl, sym, subst}
-use mathlib.Core.Bool.{Bool, true, false, not, Bool·beq}
+use mathlib.Core.Bool.{Bool, true, false, not, _&&_, Bool·beq, true≢false}
 use mathlib.Core.Logic.{_⊎_, inl, inr, ⊎-elim}
 use Prim.Native.Nat.{ℕ, zero, suc, _≤_, _<_}
 use native.Mathlib.Nat.{le-of-suc-le-suc, not-suc-le-zero, le-refl, le-trans, le-suc, eq-or-lt-of-le}
@@ -43,6 +43,19 @@ same-eq true true t = refl
 same-eq true false t = absurd t
 same-eq false true t = absurd t
 same-eq false false t = refl
+
+-- "and", by its parts
+pub and-both : (a b : Bool) → (a && b) ≡ true → (a ≡ true) × (b ≡ true)
+and-both true true e = (refl, refl)
+and-both true false e = absurd (true≢false (sym e))
+and-both false b e = absurd (true≢false (sym e))
+
+-- and as one test behind the other finds it: the first that fails decides, and else the last
+pub and-fails : {a : Bool} (b : Bool) → a ≡ false → false ≡ (a && b)
+and-fails b e = rw e
+
+pub and-last : {a b : Bool} → a ≡ true → b ≡ (a && b)
+and-last e = rw e
 
 pub lt-or-ge : (a b : ℕ) → (a < b) ⊎ (b ≤ a)
 lt-or-ge a b = go (decLt a b)

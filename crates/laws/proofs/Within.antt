@@ -1,4 +1,4 @@
--- Floats from plus zero to a whole number n, in either format: sums and quotients of such stay such, and a rounding changes nothing of that.
+-- Floats from plus zero to a whole number n, in either format: sums, products and quotients of such stay such, and a rounding changes nothing of that.
 -- `Within n x` says that x is finite, has the sign plus (so it is not minus zero), and is at most n.
 -- Assumes nothing.
 use mathlib.Core.Path.{_≡_, refl, sym, ap, _∙_, subst}

@@ -6,6 +6,7 @@ use mathlib.Core.List.{List}
 use native.Mathlib.Omega.{arith}
 use lib.Ieee.{Float}
 use lib.ListN.{length, take}
+use Rattle.laws.proofs.Over.{over-take}
 use Rattle.block.specs.declared.Cut.{Cut}
 use Rattle.block.specs.declared.Size.{Size}
 use Rattle.block.specs.declared.Refusal.{Refusal}
@@ -31,13 +32,12 @@ use Rattle.mesh.proofs.Tallies.{quads-all-length}
 use Rattle.lines.specs.Output.{meshText, blockText}
 use Rattle.lines.specs.Steps.{Numbers, Readable}
 use Rattle.reading.proofs.Axes.{AtMostEight, at-most-eight}
-use Rattle.reading.proofs.Samples.{front}
 
 -- ---- the mesh
 
 written-front : {A : Type 0} (k : Checked) (xs b c : List A) (m : ℕ) → k ≡ Passes → c ≡ written k xs b → length xs ≡ m → take m c ≡ xs
 unfolding decided
-written-front k xs b c m e d l = rw (d, e) (front xs b m l)
+written-front k xs b c m e d l = rw (d, e) (over-take xs b m l)
 
 -- what is at the front of the buffers of an accepted block
 pub record Front (n : Size) (s : List ℕ) (cut : Cut) (w : List ℕ) (o : List Float) (q : List ℕ) (c : Totals) : Type 0 where

@@ -1,7 +1,7 @@
 -- Texts put one behind the other, and a number digit by digit.
 -- Assumes nothing.
 use Prim.Native.Nat.{ℕ, _+_, _-_, _/_, _%_, _^_, _≤_}
-use mathlib.Core.Path.{_≡_, refl, sym, ap}
+use mathlib.Core.Path.{_≡_, sym, ap}
 use mathlib.Core.List.{List, [], _∷_, _++_}
 use native.Mathlib.Nat.{sub-self, div-one}
 use native.Mathlib.Numerals.{add-one}
@@ -9,12 +9,9 @@ use native.Mathlib.Omega.{arith}
 use lib.ListN.{set}
 use lib.Pow.{shr-shr}
 use Rattle.laws.specs.Put.{Put}
-use Rattle.laws.proofs.Puts.{put-none, put-then}
+use Rattle.laws.proofs.Puts.{put-one, put-none, put-then}
 use Rattle.reading.specs.Text.{hexOf}
 use Rattle.reading.specs.Steps.{glyph}
-
-pub put-one : (out : List ℕ) (at b : ℕ) → Put out at (b ∷ []) (set out at b) (at + 1)
-put-one out at b = record { stored = refl; behind = refl }
 
 -- ---- digits
 

@@ -21,10 +21,11 @@ use Rattle.faces.specs.Faces.{plainOf}
 use Rattle.signs.specs.Windows.{windowCorners}
 use Rattle.rows.specs.Rows.{loopsAt, picked, wordLoops, WordReady}
 use Rattle.joins.specs.Joined.{Sorted}
-use Rattle.joins.proofs.JoinedFaces.{and-left, and-right, plain-single}
+use Rattle.joins.proofs.JoinedFaces.{plain-single}
 use Rattle.rows.proofs.Visits.{picked-none, bitsOf, picked-next}
 use Rattle.laws.specs.Pack.{total}
 use Rattle.laws.proofs.Visit.{Left}
+use Rattle.laws.proofs.Tests.{and-both}
 
 -- ---- one cube more
 
@@ -117,14 +118,14 @@ module _ {lo hi : List ℕ} {cut : Cut} {nx p act : ℕ} {r : Sorts} (sorted : S
   single : (x : ℕ) → x < 64 → holds (bitAnd (r .one) act) x ≡ true → (holds act x ≡ true) × (length (loops x) ≡ 1)
   single x h t =
       let both = sym (and-holds (r .one) act x) ∙ t in
-      let set = and-right (holds (r .one) x) (holds act x) both in
-      (set, ap length (sorted .one x h set (and-left (holds (r .one) x) (holds act x) both)))
+      let each = and-both (holds (r .one) x) (holds act x) both in
+      (each .1, ap length (sorted .one x h (each .1) (each .0)))
 
   double : (x : ℕ) → x < 64 → holds (bitAnd (r .two) left) x ≡ true → (holds left x ≡ true) × (length (loops x) ≡ 2)
   double x h t =
       let both = sym (and-holds (r .two) left x) ∙ t in
-      let set = and-right (holds (r .two) x) (holds left x) both in
-      (set, sorted .two x h (rest-in act (r .one) x set) (and-left (holds (r .two) x) (holds left x) both))
+      let each = and-both (holds (r .two) x) (holds left x) both in
+      (each .1, sorted .two x h (rest-in act (r .one) x (each .1)) (each .0))
 
   pub word-counted : act < 2 ^ 64
       → ones (bitAnd (r .one) act) + 2 * ones (bitAnd (r .two) left) + length (below (picked (bitXor left (bitAnd (r .two) left)) loops) 64) ≡ length (wordLoops loopsOf lo hi cut nx act p)
@@ -142,6 +143,6 @@ plain-counted {lo} {hi} {cut} {nx} {p} {e} {act} {word} ready is small all =
     omega (
       arith,
       counted-each 1 act act (λ (x : ℕ). loopsAt loopsOf lo hi cut nx (p + x)) small
-          (λ x h t. (t, ap length (plain-single ready is x h t (and-right (holds act x) (holds word x) (sym (and-holds act word x) ∙ ap (λ (w : ℕ). holds w x) all ∙ t))))),
+          (λ x h t. (t, ap length (plain-single ready is x h t (and-both (holds act x) (holds word x) (sym (and-holds act word x) ∙ ap (λ (w : ℕ). holds w x) all ∙ t) .1)))),
       ap length (picked-none (bitXor act act) (λ (x : ℕ). loopsAt loopsOf lo hi cut nx (p + x)) (xor-self act)),
     )

@@ -6,24 +6,19 @@ use mathlib.Core.List.{List, _++_}
 use lib.ListN.{length}
 use lib.Ieee.{Float}
 use Rattle.cube_rule.specs.Decider.{loopsOf}
-use Rattle.laws.specs.Below.{over}
 use Rattle.block.specs.declared.Cut.{Cut}
 use Rattle.block.specs.declared.Size.{Size}
 use Rattle.block.specs.declared.Refusal.{Refusal}
 use Rattle.block.specs.declared.Checked.{Checked}
 use Rattle.block.specs.declared.Checked.the-variants.{Passes, Refuses}
-use Rattle.block.specs.Answer.{inOrder, decided, written}
-use Rattle.block.proofs.Order.{orders-refuse, orders-pass, judged-passed}
+use Rattle.block.specs.Answer.{inOrder}
+use Rattle.block.proofs.Order.{orders-refuse, orders-pass, judged-passed, written-passed}
 use Rattle.mesh.specs.declared.Totals.{Totals}
 use Rattle.mesh.specs.declared.Counted.the-variants as counted
 use Rattle.mesh.specs.Answer.{blockRows, roomRows, countsOf, vertexCount, quadCount, MeshedBy}
 use Rattle.mesh.specs.Writes.{Roomy, BlockWritten}
 use Rattle.mesh.proofs.RoomRows.{room-passes}
 use Rattle.mesh.proofs.Verdicts.{refused-by}
-
-written-passed : {A : Type 0} (k : Checked) (xs b b′ : List A) → k ≡ Passes → b′ ≡ over xs b → b′ ≡ written k xs b
-unfolding decided
-written-passed k xs b b′ e h = rw e h
 
 module _ (n : Size) (s : List ℕ) (cut : Cut) where
   abbrev early : Checked
@@ -59,7 +54,7 @@ module _ (n : Size) (s : List ℕ) (cut : Cut) where
         let k : verdict ≡ Passes = late-decides e c f ∙ h in
         record {
           answer = judged-passed verdict c (countsOf n s cut) k f;
-          words = written-passed verdict _ w w′ k (b .words);
-          offsets = written-passed verdict _ o o′ k (b .offsets);
-          quads = written-passed verdict _ q q′ k (b .quads);
+          words = b .words ∙ sym (written-passed verdict _ w k);
+          offsets = b .offsets ∙ sym (written-passed verdict _ o k);
+          quads = b .quads ∙ sym (written-passed verdict _ q k);
         }

@@ -1,21 +1,16 @@
 -- What rows 5 and 6 say of a need of v vertices and q quads, and of w, o and l places in the three buffers.
 use Prim.Native.Nat.{ℕ, _*_, _≤_, _<_}
-use mathlib.Core.Path.{_≡_, refl, ap, sym, _∙_}
-use mathlib.Core.Bool.{Bool, true, false, cond, _&&_, and-false}
+use mathlib.Core.Path.{_≡_, ap, _∙_}
+use mathlib.Core.Bool.{Bool, false, cond, _&&_, and-false}
 use lib.Dec.{leb}
 use borrow.Author.Tests.{le-leb, lt-leb, leb-true}
+use Rattle.laws.proofs.Tests.{and-both}
 use Rattle.block.specs.declared.Checked.{Checked}
 use Rattle.block.specs.declared.Checked.the-variants.{Passes, Refuses}
 use Rattle.block.specs.Answer.{inOrder, refuses}
-use Rattle.block.proofs.Order.{passes-refuses, order-refuses, order-passes, order-last, order-first, order-rest}
-use Rattle.block.proofs.Rows.{given-small}
+use Rattle.block.proofs.Order.{order-refuses, order-passes, order-last, order-first, order-rest}
+use Rattle.block.proofs.Rows.{given-small, unless-none}
 use Rattle.mesh.specs.Answer.{vertexRow, quadRow, roomRows}
-
--- both tests of a row that passes hold
-both : (a b : Bool) (number value : ℕ) → cond (a && b) Passes (refuses number value) ≡ Passes → (a ≡ true) × (b ≡ true)
-both true true number value e = (refl, refl)
-both true false number value e = absurd (passes-refuses (sym e))
-both false b number value e = absurd (passes-refuses (sym e))
 
 abbrev refusal : ℕ → ℕ → Checked
 refusal number value = Refuses (record { number = number; value = value })
@@ -47,6 +42,6 @@ module _ (v q w o l : ℕ) where
   -- and the other way: both rows pass, so there is room
   pub room-passes : roomOf ≡ Passes → (2 * v ≤ w) × (3 * v ≤ o) × (4 * q ≤ l)
   room-passes e =
-      let p = both (leb (2 * v) w) (leb (3 * v) o) 5 v (order-first (vertexRow v w o) _ e) in
-      let r = both true (leb (4 * q) l) 6 q (order-first (quadRow q l) _ (order-rest (vertexRow v w o) _ e)) in
-      (leb-true (2 * v) w (p .0), leb-true (3 * v) o (p .1), leb-true (4 * q) l (r .1))
+      let p = and-both (leb (2 * v) w) (leb (3 * v) o) (unless-none _ 5 v (order-first (vertexRow v w o) _ e)) in
+      let r = unless-none (leb (4 * q) l) 6 q (order-first (quadRow q l) _ (order-rest (vertexRow v w o) _ e)) in
+      (leb-true (2 * v) w (p .0), leb-true (3 * v) o (p .1), leb-true (4 * q) l r)

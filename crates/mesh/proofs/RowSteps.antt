@@ -11,7 +11,7 @@ use lib.Dec.{ltb}
 use lib.ListN.{length}
 use lib.Seq.{sets}
 use lib.Ieee.{Float}
-use Rattle.laws.proofs.Tests.{lt-or-ge}
+use Rattle.laws.proofs.Tests.{and-both, lt-or-ge}
 use Rattle.block.specs.declared.Cut.{Cut}
 use Rattle.block.specs.declared.Size.{Size}
 use Rattle.block.specs.Numbering.{Axis, X, Y, Z}
@@ -21,7 +21,6 @@ use Rattle.mesh_rule.specs.Layers.{rowCube, runMasks}
 use Rattle.mesh_rule.specs.Grid.{cornersOf, between}
 use Rattle.mesh_rule.specs.Mesh.{cubeLoops}
 use Rattle.mesh_rule.proofs.Counts.{most-vertices}
-use Rattle.mesh_rule.proofs.Inner.{both}
 use Rattle.cube_vertices.specs.Cubes.{namesBy}
 use Rattle.vertices.specs.Layers.{Ready, RowRoom}
 use Rattle.rows.specs.Rows.{RowReady}
@@ -67,7 +66,7 @@ module _ {n : Size} {s : List ℕ} {cut : Cut} {table a b : List ℕ} {k : ℕ} 
   -- there are inner edges from the row
   has-planes : (along : Along) → hasQuads along j (ltb 0 k) ≡ true → Planes n s cut (alongAxis along) k a (above along) × RowIn n along j
   has-planes AxisX e =
-      let t = both (ltb 0 j) (ltb 0 k) e in
+      let t = and-both (ltb 0 j) (ltb 0 k) e in
       (planes-x n s cut k a (r .limits) (ltb-true 0 k (t .1)) (r .inside) (r .lower), (ltb-true 0 j (t .0), hj))
   has-planes AxisY e = (planes-y n s cut k a (r .limits) (ltb-true 0 k e) (r .inside) (r .lower), (omega arith, hj))
   has-planes AxisZ e = (planes-z n s cut k a (r .limits) b (r .inside) (r .lower) (r .upper), (ltb-true 0 j e, hj))
@@ -194,7 +193,7 @@ module _ {n : Size} {s : List ℕ} {cut : Cut} {table a b : List ℕ} {j k : ℕ
 
     x-ring : hasQuads AxisX j (ltb 0 k) ≡ true → RingTables loopsOf n s cut AxisX j k (half (j + 1) under) (half j under) (half j tab′) (half (j + 1) tab′)
     x-ring e =
-        let c = both (ltb 0 j) (ltb 0 k) e in
+        let c = and-both (ltb 0 j) (ltb 0 k) e in
         let lj = ltb-true 0 j (c .0) in
         let lk = ltb-true 0 k (c .1) in
         record { t0 = t .below-before lj lk; t1 = t .below lk; t2 = row-noted; t3 = prev lj }

@@ -1,11 +1,9 @@
 -- From the size that was made, or the axis that was refused, to the verdict of a whole call; and that the promises fix their answers.
 -- Assumes nothing.
 use Prim.Native.Nat.{ℕ}
-use mathlib.Core.Path.{_≡_, refl, ap, ap₂, sym, _∙_, subst}
+use mathlib.Core.Path.{_≡_, ap, ap₂, sym, _∙_, subst}
 use mathlib.Core.List.{List, [], _++_}
-use mathlib.Core.Bool.{Bool, true, false, cond}
 use native.Mathlib.Omega.{arith}
-use lib.Dec.{eqb}
 use borrow.Author.Tests.{eqb-true}
 use lib.ListN.{length}
 use lib.Ieee.{Float}
@@ -17,11 +15,12 @@ use Rattle.block.specs.declared.Refusal.{Refusal}
 use Rattle.block.specs.declared.Sized.the-variants.{Made, BadAxis}
 use Rattle.block.specs.declared.Checked.{Checked}
 use Rattle.block.specs.declared.Checked.the-variants.{Passes, Refuses}
-use Rattle.block.specs.Answer.{accepted, refused, inOrder, judged, refuses, decided, written}
+use Rattle.block.specs.Answer.{inOrder, judged}
 use Rattle.block.specs.Numbering.{sampleCount}
 use Rattle.block.specs.Rows.{axisRow, countRow, thresholdRow}
 use Rattle.block.specs.Size.{sizeOf, SizeMade, Limits}
-use Rattle.block.proofs.Order.{passes-refuses, order-refuses, order-passes, order-first, order-rest, judged-refused, written-refused}
+use Rattle.block.proofs.Order.{order-refuses, order-passes, order-first, order-rest, judged-refused, written-refused}
+use Rattle.block.proofs.Rows.{unless-none}
 use Rattle.block.proofs.Sizes.{axis-refused, axis-passed, size-made}
 use Rattle.mesh.specs.declared.Counted.{Counted}
 use Rattle.mesh.specs.declared.Counted.the-variants as counted
@@ -87,11 +86,7 @@ mesh-fixed nx ny nz s cut w o q a b p r =
 -- ---- what follows where rows 2 and 3 pass
 
 pub count-passed : (n : Size) (count : ℕ) → countRow n count ≡ Passes → count ≡ sampleCount n
-count-passed n count e = go (eqb count (sampleCount n)) refl e
-  where
-    go : (b : Bool) → eqb count (sampleCount n) ≡ b → cond b Passes (refuses 2 (sampleCount n)) ≡ Passes → count ≡ sampleCount n
-    go true h e = eqb-true count (sampleCount n) h
-    go false h e = absurd (passes-refuses (sym e))
+count-passed n count e = eqb-true count (sampleCount n) (unless-none _ 2 _ e)
 
 pub block-of : (n : Size) (s : List ℕ) (cut : Cut) → Limits n → inOrder (blockRows n s cut) ≡ Passes → Block n s
 block-of n s cut l e = record { limits = l; samples = count-passed n (length s) (order-first (countRow n (length s)) _ e) }

@@ -11,9 +11,8 @@ use native.Mathlib.Nat.{mod-lt, zero-mul}
 use native.Mathlib.Omega.{arith}
 use lib.Count.{trailingZeros}
 use lib.Dec.{eqb, leb}
-use lib.ListN.{length, getD, replicate, length-append, length-replicate}
+use lib.ListN.{length, getD, replicate, length-replicate}
 use borrow.Author.Tests.{eq-eqb}
-use Rattle.laws.specs.Below.{below}
 use Rattle.laws.specs.Bits.{differ, maskOf}
 use Rattle.laws.specs.Counting.{count}
 use Rattle.laws.proofs.Counting.{count-same}

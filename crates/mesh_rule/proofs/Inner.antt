@@ -3,11 +3,12 @@
 -- Assumes nothing.
 use Prim.Native.Nat.{ℕ, _+_, _-_, _<_}
 use mathlib.Core.Path.{_≡_, refl}
-use mathlib.Core.Bool.{Bool, true, false, _&&_, false≢true}
+use mathlib.Core.Bool.{Bool, true, _&&_}
 use mathlib.Core.List.{List}
 use native.Mathlib.Omega.{arith}
 use lib.Dec.{ltb}
 use borrow.Author.Tests.{ltb-true, lt-ltb}
+use Rattle.laws.proofs.Tests.{and-both}
 use Rattle.block.specs.declared.Cut.{Cut}
 use Rattle.block.specs.declared.Size.{Size}
 use Rattle.block.specs.Numbering.{Axis, X, Y, Z}
@@ -15,12 +16,8 @@ use Rattle.cube_rule.specs.Edges.{lower, upper, cornerSample, crossedAt}
 use Rattle.mesh_rule.specs.Grid.{sampleAt, cornersAt, between, inner, ahead, crossedFrom}
 use Rattle.mesh_rule.specs.Mesh.{table}
 
-pub both : (a b : Bool) → (a && b) ≡ true → (a ≡ true) × (b ≡ true)
-both true b h = (refl, h)
-both false b h = absurd (false≢true h)
-
 both-then : {A : Type 0} (a b : Bool) → (a && b) ≡ true → (a ≡ true → b ≡ true → A) → A
-both-then a b h f = f (both a b h .0) (both a b h .1)
+both-then a b h f = f (and-both a b h .0) (and-both a b h .1)
 
 and : {a b : Bool} → a ≡ true → b ≡ true → (a && b) ≡ true
 and p q = rw (p, q)
@@ -43,9 +40,9 @@ Inner n Y i j k = Mid (n .nx) i × (j + 1 < n .ny) × Mid (n .nz) k
 Inner n Z i j k = Mid (n .nx) i × Mid (n .ny) j × (k + 1 < n .nz)
 
 pub inner-facts : (n : Size) (a : Axis) (i j k : ℕ) → inner n a i j k ≡ true → Inner n a i j k
-inner-facts n X i j k h = let p = both _ _ h in let q = both _ _ (p .0) in (ltb-true _ _ (q .0), between-mid _ _ (q .1), between-mid _ _ (p .1))
-inner-facts n Y i j k h = let p = both _ _ h in let q = both _ _ (p .0) in (between-mid _ _ (q .0), ltb-true _ _ (q .1), between-mid _ _ (p .1))
-inner-facts n Z i j k h = let p = both _ _ h in let q = both _ _ (p .0) in (between-mid _ _ (q .0), between-mid _ _ (q .1), ltb-true _ _ (p .1))
+inner-facts n X i j k h = let p = and-both _ _ h in let q = and-both _ _ (p .0) in (ltb-true _ _ (q .0), between-mid _ _ (q .1), between-mid _ _ (p .1))
+inner-facts n Y i j k h = let p = and-both _ _ h in let q = and-both _ _ (p .0) in (between-mid _ _ (q .0), ltb-true _ _ (q .1), between-mid _ _ (p .1))
+inner-facts n Z i j k h = let p = and-both _ _ h in let q = and-both _ _ (p .0) in (between-mid _ _ (q .0), between-mid _ _ (q .1), ltb-true _ _ (p .1))
 
 pub inner-test : (n : Size) (a : Axis) (i j k : ℕ) → Inner n a i j k → inner n a i j k ≡ true
 inner-test n X i j k h = and (and (lt-ltb _ _ (h .0)) (mid-between _ _ (h .1))) (mid-between _ _ (h .2))

@@ -13,11 +13,12 @@ use Rattle.laws.proofs.Filled.{mem-at}
 use Rattle.laws.specs.Bits.{holds}
 use Rattle.laws.proofs.Below.{length-below, getD-below, split}
 use Rattle.laws.proofs.Bits.{bit-le}
-use Rattle.laws.proofs.Index.{index-lt, index-x, index-y, index-z}
+use Rattle.laws.proofs.Index.{index-lt}
 use Rattle.laws.proofs.Tests.{lt-or-ge}
 use Rattle.block.specs.declared.Cut.{Cut}
 use Rattle.block.specs.declared.Size.{Size}
 use Rattle.block.specs.Numbering.{cubeNumber, cubeCount}
+use Rattle.block.proofs.Numbering.{cube-back}
 use Rattle.cube_rule.specs.Edges.{crossedAt}
 use Rattle.cube_rule.specs.Laws.{CubeLaws}
 use Rattle.cube_rule.specs.Links.{Decider}
@@ -37,8 +38,7 @@ mapped c (m ∷ ms) (suc p) d h = mapped c ms p d (le-of-suc-le-suc h)
 -- the cube (i,j,k) has the corners (i,j,k) to (i+1,j+1,k+1)
 pub corners-of-number : (n : Size) (s : List ℕ) (i j k : ℕ) → i < n .nx - 1 → j < n .ny - 1 → cornersOf n s (cubeNumber n i j k) ≡ cornersAt n s i j k
 unfolding cornersOf
-corners-of-number n s i j k hi hj =
-    rw (index-x (n .nx - 1) (n .ny - 1) i j k hi hj, index-y (n .nx - 1) (n .ny - 1) i j k hi hj, index-z (n .nx - 1) (n .ny - 1) i j k hi hj)
+corners-of-number n s i j k hi hj = cube-back n (cornersAt n s) i j k hi hj
 
 module _ (loopsOf : Cut → List ℕ → List ℕ) (n : Size) (s : List ℕ) (cut : Cut) where
   -- a cube has one vertex for each loop

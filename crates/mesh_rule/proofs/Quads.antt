@@ -14,6 +14,7 @@ use Rattle.laws.proofs.Below.{mem-below, mem-of-below}
 use Rattle.laws.specs.Counting.{count}
 use Rattle.laws.proofs.Counting.{length-counted}
 use Rattle.laws.proofs.Index.{index-lt, index-x, index-y, index-z}
+use Rattle.laws.proofs.Tests.{and-both}
 use Rattle.block.specs.declared.Cut.{Cut}
 use Rattle.block.specs.declared.Size.{Size}
 use Rattle.block.specs.Numbering.{Axis, X, Y, Z, sampleIndex, sampleCount, cubeNumber}
@@ -22,7 +23,7 @@ use Rattle.cube_rule.specs.Links.{Decider}
 use Rattle.mesh_rule.specs.Grid.{crossedInner, metal, inner, crossedFrom}
 use Rattle.mesh_rule.specs.Mesh.{Quad, quad, turned, flat, vertices, Holder, AllHold, around, quadAt, quadsBefore, quads}
 use Rattle.mesh_rule.specs.Layers.{vertexAt}
-use Rattle.mesh_rule.proofs.Inner.{both, inner-facts, inner-sample, Round, map-round, crossed-round}
+use Rattle.mesh_rule.proofs.Inner.{inner-facts, inner-sample, Round, map-round, crossed-round}
 use Rattle.mesh_rule.proofs.Numbers.{vertex-at}
 
 -- equal buffers hold equal quads
@@ -97,7 +98,7 @@ module _ (loopsOf : Cut → List ℕ → List ℕ) (n : Size) (s : List ℕ) (cu
     where
       go : (b : Bool) → (inner n a i j k && crossedFrom n s cut a i j k) ≡ b → List·Memᴰ q (cond b (quadOf a i j k ∷ []) []) → FromEdge q
       go true h m =
-          let p = both _ _ h in
+          let p = and-both _ _ h in
           record { axis = a; i = i; j = j; k = k; is-inner = p .0; is-crossed = p .1; is = List·Memᴰ·eq-of-singleton m }
       go false h m = absurd (List·Memᴰ·not-nil m)
 

@@ -272,7 +272,7 @@ fn put_places(place: &mut [f64], values: &[f64])
     }
 }
 
-// And of u64.
+// The same of u64.
 fn put_lengths(place: &mut [u64], values: &[u64])
     ensures { λ _. ⌜ now (place .exit) ≡ tellOver (now (values .entry)) (now (place .entry)) ⌝ }
 {

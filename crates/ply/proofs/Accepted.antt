@@ -1,46 +1,42 @@
 -- What is so of a mesh that no row refuses: among other things, each coordinate that is written is a number.
 -- Assumes nothing.
 use Prim.Native.Nat.{ℕ, zero, suc, _+_, _*_, _-_, _/_, _%_, _≤_, _<_}
-use mathlib.Core.Path.{_≡_, refl, sym, ap, subst, _∙_}
-use mathlib.Core.Bool.{Bool, true, false, cond, not, _&&_, true≢false}
+use mathlib.Core.Path.{_≡_, refl, sym, subst, _∙_}
+use mathlib.Core.Bool.{Bool, true, false, not}
 use mathlib.Core.List.{List, [], _∷_}
 use native.Mathlib.Nat.{add-zero}
 use native.Mathlib.Omega.{arith}
-use lib.Dec.{leb}
+use lib.Dec.{T, leb}
 use lib.ListN.{length, getD}
-use lib.Ieee.{Float, nan}
+use lib.Ieee.{Float, nan, binary64, mul, le}
 use borrow.Author.Tests.{ltb-true, leb-true}
 use Rattle.laws.proofs.Index.{index-box}
 use Rattle.laws.proofs.Leading.{HoldsTo}
+use Rattle.laws.proofs.Tests.{and-both}
 use Rattle.block.specs.declared.Checked.the-variants.{Passes}
 use Rattle.block.specs.declared.Size.{Size}
-use Rattle.block.specs.Answer.{inOrder, refuses}
 use Rattle.block.specs.Numbering.{cubeCount}
 use Rattle.block.specs.Rows.{axisRow}
 use Rattle.block.specs.Size.{sizeOf, Limits}
 use Rattle.block.proofs.Lowest.{row-clear}
-use Rattle.block.proofs.Order.{order-first, order-rest, order-last, passes-refuses}
+use Rattle.block.proofs.Order.{order-first, order-rest, order-last}
+use Rattle.block.proofs.Rows.{unless-none}
 use Rattle.block.proofs.Searches.{search-none}
 use Rattle.block.proofs.Sizes.{axes-within}
 use Rattle.lists.specs.Rows.{lengthRow, quadBelow, numberRow}
 use Rattle.lists.proofs.Rows.{length-exactly}
+use Rattle.place.specs.Crossing.{float}
+use Rattle.place.specs.Place.{plusZero}
 use Rattle.vertex_lists.specs.Rows.{shapeRow, cubeInside, cubeRow, fromZeroToOne, offsetInside, offsetRow}
 use Rattle.vertex_lists.proofs.Rows.{shape-exactly}
 use Rattle.ply.specs.declared.Spacing.{Spacing}
-use Rattle.ply.specs.Rows.{spacings, goodSpacing, spacingRow, roomRow}
+use Rattle.ply.specs.Rows.{spacings, goodSpacing, badSpacing, spacingRow}
 use Rattle.ply.specs.File.{cubePlace, placeOn, plyFile}
 use Rattle.ply.specs.Answer.{plyVerdict}
 use Rattle.ply.specs.Words.{fileLength}
 use Rattle.ply.specs.Steps.{Number, xOf, yOf, zOf, AllNumbers}
 use Rattle.ply.proofs.Files.{ply-length}
-use Rattle.ply.proofs.Places.{coordinate-number}
-
--- three tests that hold together hold each
-each-true : (x y z : Bool) → x && y && z ≡ true → (x ≡ true) × (y ≡ true) × (z ≡ true)
-each-true true true true e = (refl, refl, refl)
-each-true true true false e = absurd (true≢false (sym e))
-each-true true false z e = absurd (true≢false (sym e))
-each-true false y z e = absurd (true≢false (sym e))
+use Rattle.ply.proofs.Places.{coordinate-number, coordinate-inside}
 
 -- the numbers of a vertex, by its fields
 pub three-numbers : (n : Size) (words : List ℕ) (offsets : List Float) (s : Spacing) (count : ℕ) → AllNumbers n words offsets s count → (v : ℕ) → v < count
@@ -92,21 +88,14 @@ module _ (nx ny nz : ℕ) (words : List ℕ) (offsets : List Float) (quads : Lis
         cubes = search-none 23 (cubeInside n words) count (order-first (cubeRow n words) _ e₂);
         inside = subst (HoldsTo (offsetInside offsets)) third (search-none 24 (offsetInside offsets) (length offsets / 3) (order-first (offsetRow offsets) _ e₃));
         whole = length-exactly quads .0 (order-first (lengthRow quads) _ e₄);
-        good = λ a h. flip (goodSpacing (getD (spacings s) a nan)) (row-clear (λ (x : Float). not (goodSpacing x)) nan 13 (spacings s) (order-first (spacingRow s) _ e₅) a h);
+        good = λ a h. flip (goodSpacing (getD (spacings s) a nan)) (row-clear badSpacing nan 13 (spacings s) (order-first (spacingRow s) _ e₅) a h);
         known = search-none 14 (quadBelow count quads) (length quads / 4) (order-first (numberRow count quads) _ e₆);
-        fits = subst (λ (l : ℕ). l ≤ room) (ply-length n words offsets quads s) (has-room (length (plyFile n words offsets quads s)) (sym (order-last _) ∙ e₇));
+        fits = subst (λ (l : ℕ). l ≤ room) (ply-length n words offsets quads s) (leb-true _ _ (unless-none (leb (length (plyFile n words offsets quads s)) room) 15 (length (plyFile n words offsets quads s)) (sym (order-last _) ∙ e₇)));
       }
     where
       flip : (b : Bool) → not b ≡ false → b ≡ true
       flip true h = refl
       flip false h = sym h
-
-      has-room : (l : ℕ) → roomRow l room ≡ Passes → l ≤ room
-      has-room l h = go (leb l room) refl h
-        where
-          go : (b : Bool) → leb l room ≡ b → cond b Passes (refuses 15 l) ≡ Passes → l ≤ room
-          go true f h = leb-true l room f
-          go false f h = absurd (passes-refuses (sym h))
 
   module _ (a : Accepted) where
     -- the cube of a vertex lies in the block
@@ -117,7 +106,7 @@ module _ (nx ny nz : ℕ) (words : List ℕ) (offsets : List Float) (quads : Lis
     cube-on c (suc (suc (suc b))) h l = absurd (omega (arith, l))
 
     offset-on : (v axis : ℕ) → v < length words / 2 → axis < 3 → fromZeroToOne (getD offsets (3 * v + axis) nan) ≡ true
-    offset-on v axis h l = go axis l (each-true _ _ _ (a .inside v h))
+    offset-on v axis h l = let all = and-both _ _ (a .inside v h) in let two = and-both _ _ (all .0) in go axis l (two .0, two .1, all .1)
       where
         go : (axis : ℕ) → axis < 3
             → (fromZeroToOne (getD offsets (3 * v) nan) ≡ true) × (fromZeroToOne (getD offsets (3 * v + 1) nan) ≡ true) × (fromZeroToOne (getD offsets (3 * v + 2) nan) ≡ true)
@@ -127,9 +116,17 @@ module _ (nx ny nz : ℕ) (words : List ℕ) (offsets : List Float) (quads : Lis
         go (suc (suc zero)) l e = e .2
         go (suc (suc (suc b))) l e = absurd (omega (arith, l))
 
-    -- each coordinate is a number
+    -- each coordinate is a number, from 0 to the far side of the box
     pub all-numbers : AllNumbers (sizeOf nx ny nz) words offsets s (length words / 2)
     all-numbers v axis h l =
         let c = cube-on (getD words (2 * v) 0) axis (ltb-true _ _ (a .cubes v h)) l in
         coordinate-number (getD (cubePlace n (getD words (2 * v) 0)) axis 0) (cubesOn n axis) (getD offsets (3 * v + axis) nan) (getD (spacings s) axis nan) (c .0) (c .1)
+        (offset-on v axis h l) (a .good axis l)
+
+    pub all-inside : (v axis : ℕ) → v < length words / 2 → axis < 3
+        → T (le plusZero (placeOn (sizeOf nx ny nz) words offsets s v axis))
+        × T (le (placeOn (sizeOf nx ny nz) words offsets s v axis) (mul binary64 (float (cubesOn (sizeOf nx ny nz) axis)) (getD (spacings s) axis nan)))
+    all-inside v axis h l =
+        let c = cube-on (getD words (2 * v) 0) axis (ltb-true _ _ (a .cubes v h)) l in
+        coordinate-inside (getD (cubePlace n (getD words (2 * v) 0)) axis 0) (cubesOn n axis) (getD offsets (3 * v + axis) nan) (getD (spacings s) axis nan) (c .0) (c .1)
         (offset-on v axis h l) (a .good axis l)

@@ -1,5 +1,5 @@
--- Files and verdicts, computed (document 02, Three): parts of the file of 01's example with spacings 0.1, 0.2 and 0.5, each row by itself, and the values at the
--- ends of what passes.
+-- Files and verdicts, computed (document 02, Three): parts of the file of 01's example with spacings 0.1, 0.2 and 0.5, each row by itself, the values at the
+-- ends of what passes, and each row before the next.
 -- Assumes nothing.
 use Prim.Native.Nat.{ℕ}
 use mathlib.Core.Path.{_≡_, refl}
@@ -25,12 +25,15 @@ use Rattle.ply.specs.Answer.{plyVerdict}
 
 -- ---- parts of files
 
--- 0.1, 0.2 and 0.5
 abbrev tenth : Float
 tenth = fin false 3602879701896397 (negsuc 54)
 
+abbrev half : Float
+half = fin false 1 (negsuc 0)
+
+-- 0.1, 0.2 and 0.5
 abbrev paper : Spacing
-paper = record { x = tenth; y = fin false 3602879701896397 (negsuc 53); z = fin false 1 (negsuc 0) }
+paper = record { x = tenth; y = fin false 3602879701896397 (negsuc 53); z = half }
 
 abbrev threeQuarters : Float
 threeQuarters = fin false 3 (negsuc 1)
@@ -56,9 +59,6 @@ parts = record { the-header = refl; many-digits = refl; first-vertex = refl; fir
 
 -- ---- each row by itself, of a block of one cube
 
-abbrev half : Float
-half = fin false 1 (negsuc 0)
-
 abbrev verdict : List ℕ → List Float → List ℕ → Spacing → ℕ → Checked
 verdict words offsets quads s room = plyVerdict 2 2 2 words offsets quads s room
 
@@ -79,13 +79,14 @@ pub record RowsAlone : Type 0 where
   pub number : verdict (0 ∷ 0 ∷ []) (half ∷ half ∷ half ∷ []) (0 ∷ 0 ∷ 0 ∷ 1 ∷ []) paper 213 ≡ refuses 14 0
   pub room : verdict [] [] [] paper 171 ≡ refuses 15 172
   pub none : verdict (0 ∷ 0 ∷ []) (half ∷ half ∷ half ∷ []) (0 ∷ 0 ∷ 0 ∷ 0 ∷ []) paper 213 ≡ Passes
-  -- offsets: minus zero and one pass; the next above one, the greatest below zero and an infinity do not
+  -- offsets: minus zero and one pass; the next above one, the greatest below zero and the infinities do not
   pub minus-zero : offsetVerdict (fin true 0 (pos 0)) ≡ Passes
   pub at-one : offsetVerdict one ≡ Passes
   pub above-one : offsetVerdict (fin false 4503599627370497 (negsuc 51)) ≡ refuses 24 0
   pub below-zero : offsetVerdict (fin true 1 (negsuc 1073)) ≡ refuses 24 0
   pub infinite : offsetVerdict (inf false) ≡ refuses 24 0
-  -- spacings: the least above zero and 1000 pass; the next above 1000, minus zero, one below zero, a NaN and an infinity do not
+  pub minus-infinite : offsetVerdict (inf true) ≡ refuses 24 0
+  -- spacings: the least above zero and 1000 pass; the next above 1000, minus zero, one below zero, a NaN and the infinities do not
   pub least : spacingVerdict (fin false 1 (negsuc 1073)) ≡ Passes
   pub thousand : spacingVerdict (fin false 125 (pos 3)) ≡ Passes
   pub above-thousand : spacingVerdict (fin false 8796093022208001 (negsuc 42)) ≡ refuses 13 2
@@ -93,6 +94,7 @@ pub record RowsAlone : Type 0 where
   pub negative-spacing : spacingVerdict (fin true 1 (pos 0)) ≡ refuses 13 2
   pub nan-spacing : spacingVerdict nan ≡ refuses 13 2
   pub infinite-spacing : spacingVerdict (inf false) ≡ refuses 13 2
+  pub minus-infinite-spacing : spacingVerdict (inf true) ≡ refuses 13 2
 
 pub rows-alone : RowsAlone
 unfolding inOrder lowest lowestRow searchRow leading fromZeroToOne goodSpacing lt le ofInt header ascii decimalIn littleEndian below vertexBytes faceBytes double millimetres plyFile add mul toBits
@@ -111,6 +113,7 @@ rows-alone = record {
   above-one = refl;
   below-zero = refl;
   infinite = refl;
+  minus-infinite = refl;
   least = refl;
   thousand = refl;
   above-thousand = refl;
@@ -118,6 +121,7 @@ rows-alone = record {
   negative-spacing = refl;
   nan-spacing = refl;
   infinite-spacing = refl;
+  minus-infinite-spacing = refl;
 }
 
 -- ---- two rows that are neighbours in the order hold at once: the earlier is given

@@ -15,7 +15,7 @@ use Rattle.block.specs.declared.Size.{Size}
 use Rattle.file_bytes.specs.Bytes.{ascii, decimal, littleEndian}
 use Rattle.file_bytes.proofs.Little.{little-length}
 use Rattle.ply.specs.declared.Spacing.{Spacing}
-use Rattle.ply.specs.File.{header, double, placeOn, vertexBytes, faceBytes, plyFile}
+use Rattle.ply.specs.File.{header, double, vertexBytes, faceBytes, plyFile}
 use Rattle.ply.specs.Words.{headerLength, fileLength}
 use Rattle.ply.specs.Steps.{xOf, yOf, zOf, threeDoubles, indexList}
 

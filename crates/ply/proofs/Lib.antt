@@ -4,6 +4,5 @@ pub mod Rows
 pub mod Accepted
 pub mod Written
 pub mod Back
-pub mod Rules
 pub mod Example
 pub mod Fixed

@@ -1,15 +1,15 @@
 -- A coordinate of a vertex is a number with the sign plus, from 0 to the far side of the box. So no NaN is ever written.
 -- Assumes nothing.
 use Prim.Native.Nat.{ℕ, _+_, _*_, _^_, _≤_, _<_}
-use mathlib.Core.Path.{_≡_, refl, sym, ap, subst}
-use mathlib.Core.Bool.{Bool, true, false, _&&_, _||_}
+use mathlib.Core.Path.{_≡_, refl, sym, subst}
+use mathlib.Core.Bool.{Bool, true, false}
 use native.Mathlib.Nat.{mul-one}
 use native.Mathlib.Omega.{arith}
 use lib.Dec.{T, eqb, eqb→eq, lit≤}
-use lib.IntN.{ℤ, pos}
+use lib.IntN.{ℤ}
 use lib.Ieee.{Float, nan, inf, fin, binary64, up, down, add, mul, lt, le}
 use lib.Ieee.Fits.{and-l, and-r}
-use Rattle.laws.proofs.Within.{plain, Within, wider, at-most, add-within, mul-within, mul-most, add-minus-zero, whole-value, whole-within, plain-number, plain-least}
+use Rattle.laws.proofs.Within.{Within, wider, at-most, add-within, mul-within, mul-most, add-minus-zero, whole-value, whole-within, plain-number, plain-least}
 use Rattle.place.specs.Crossing.{float}
 use Rattle.place.specs.Place.{plusZero, one}
 use Rattle.vertex_lists.specs.Rows.{fromZeroToOne}

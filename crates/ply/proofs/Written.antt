@@ -1,6 +1,6 @@
 -- What `write` answers: a refusal, which leaves the buffer as it was, or the length of the file, which is over the front of the buffer.
 -- Assumes nothing.
-use Prim.Native.Nat.{ℕ, _/_, _≤_}
+use Prim.Native.Nat.{ℕ, _≤_}
 use mathlib.Core.Path.{_≡_, sym, _∙_}
 use mathlib.Core.List.{List}
 use native.Mathlib.Omega.{arith}

@@ -21,18 +21,23 @@ abbrev pub saidFile : Filed → Answer ℕ
 saidFile (Bytes n) = accepted n
 saidFile (Refused r) = refused r
 
+-- the rows of the quads and of the file, of so many vertices and where so many bytes are needed
+abbrev pub faceRows : ℕ → List ℕ → Spacing → ℕ → ℕ → List Checked
+faceRows vertices quads spacing needed room = lengthRow quads ∷ spacingRow spacing ∷ numberRow vertices quads ∷ roomRow needed room ∷ []
+
 module _ (nx ny nz : ℕ) (words : List ℕ) (offsets : List Float) (quads : List ℕ) (spacing : Spacing) where
+  -- the file of these lists
+  abbrev pub fileOf : List ℕ
+  fileOf = plyFile (sizeOf nx ny nz) words offsets quads spacing
+
   -- "Refusals, in this order": 1, then 22, 23, 24, then 7, 13, 14, 15
   abbrev pub plyRows : ℕ → List Checked
-  plyRows room =
-      axisRow nx ny nz ∷ vertexRows (sizeOf nx ny nz) words offsets
-      ++ lengthRow quads ∷ spacingRow spacing ∷ numberRow (length words / 2) quads
-      ∷ roomRow (length (plyFile (sizeOf nx ny nz) words offsets quads spacing)) room ∷ []
+  plyRows room = axisRow nx ny nz ∷ vertexRows (sizeOf nx ny nz) words offsets ++ faceRows (length words / 2) quads spacing (length fileOf) room
 
   abbrev pub plyVerdict : ℕ → Checked
   plyVerdict room = inOrder (plyRows room)
 
   -- the promise of `write`: the answer, and the buffer, file at entry and file′ at exit
   pub record PlyWritten (file : List ℕ) (r : Filed) (file′ : List ℕ) : Type 0 where
-    pub answer : saidFile r ≡ judged (plyVerdict (length file)) (length (plyFile (sizeOf nx ny nz) words offsets quads spacing))
-    pub bytes : file′ ≡ written (plyVerdict (length file)) (plyFile (sizeOf nx ny nz) words offsets quads spacing) file
+    pub answer : saidFile r ≡ judged (plyVerdict (length file)) (length fileOf)
+    pub bytes : file′ ≡ written (plyVerdict (length file)) fileOf file

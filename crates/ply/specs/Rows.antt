@@ -21,9 +21,12 @@ unfoldable pub goodSpacing : Float → Bool
 unfolding lt le
 goodSpacing s = lt plusZero s && le s (float 1000)
 
+abbrev pub badSpacing : Float → Bool
+badSpacing s = not (goodSpacing s)
+
 -- 13: "a bad spacing"; the lowest such axis, 0 to 2
 abbrev pub spacingRow : Spacing → Checked
-spacingRow s = lowestRow 13 (λ (x : Float). not (goodSpacing x)) (spacings s)
+spacingRow s = lowestRow 13 badSpacing (spacings s)
 
 -- 15: "too little room"; the bytes needed
 abbrev pub roomRow : ℕ → ℕ → Checked

@@ -4,18 +4,16 @@ use block::Refusal;
 use block::Size;
 use block::Sized;
 ghost use mathlib.Core.Path.{_≡_};
-ghost use mathlib.Core.List.{[], _∷_};
 ghost use Prim.Native.Nat.{_+_, _*_, _-_, _/_, _≤_, _<_};
 ghost use lib.ListN.{length};
 ghost use Rattle.laws.specs.Below.{below};
 ghost use Rattle.laws.specs.Put.{Put};
-ghost use Rattle.block.specs.declared.Checked.the-variants.{Passes, Refuses};
+ghost use Rattle.block.specs.declared.Checked.the-variants.{Passes};
 ghost use Rattle.block.specs.Answer.{inOrder};
 ghost use Rattle.block.specs.Size.{sizeOf};
-ghost use Rattle.lists.specs.Rows.{lengthRow, numberRow};
 ghost use Rattle.ply.specs.Rows.{goodSpacing, spacingRow, roomRow};
 ghost use Rattle.ply.specs.File.{header, millimetres, double, vertexBytes, faceBytes, plyFile};
-ghost use Rattle.ply.specs.Answer.{plyVerdict, PlyWritten};
+ghost use Rattle.ply.specs.Answer.{faceRows, plyVerdict, PlyWritten};
 ghost use Rattle.ply.specs.Words.{headerLength, fileLength};
 ghost use Rattle.ply.specs.Steps.{Number, xOf, yOf, zOf, threeDoubles, indexList, AllNumbers};
 
@@ -42,28 +40,18 @@ fn is_good(s: f64) -> bool
     false
 }
 
-// A refusal with this number and value.
-fn refuse(number: u32, value: u32) -> Checked
-    ensures { λ r. ⌜ r ≡ Refuses (record { number = number; value = value }) ⌝ }
-{
-    Checked::Refuses(Refusal {
-        number: number,
-        value: value,
-    })
-}
-
 // Row 13: a spacing is bad.
 fn check_spacing(s: Spacing) -> Checked
     ensures { λ r. ⌜ r ≡ spacingRow s ⌝ }
 {
     if !is_good(s.x) {
-        return refuse(13, 0);
+        return block::refuse(13, 0);
     }
     if !is_good(s.y) {
-        return refuse(13, 1);
+        return block::refuse(13, 1);
     }
     if !is_good(s.z) {
-        return refuse(13, 2);
+        return block::refuse(13, 2);
     }
     Checked::Passes
 }
@@ -85,13 +73,13 @@ fn check_room(needed: usize, room: usize) -> Checked
     if needed <= room {
         return Checked::Passes;
     }
-    refuse(15, block::short(needed))
+    block::refuse(15, block::short(needed))
 }
 
 // Rows 7, 13, 14 and 15, of a mesh with so many vertices.
 fn check_faces(vertices: usize, quads: &[u32], spacing: Spacing, room: usize) -> Checked
     requires { ⌜ vertices ≤ 66325500 ⌝ }
-    ensures { λ r. ⌜ r ≡ inOrder (lengthRow (now (quads .entry)) ∷ spacingRow spacing ∷ numberRow vertices (now (quads .entry)) ∷ roomRow (fileLength vertices (length (now (quads .entry)) / 4)) room ∷ []) ⌝ }
+    ensures { λ r. ⌜ r ≡ inOrder (faceRows vertices (now (quads .entry)) spacing (fileLength vertices (length (now (quads .entry)) / 4)) room) ⌝ }
 {
     let whole = lists::check_length(quads);
     if let Checked::Refuses(r) = whole {
@@ -123,7 +111,7 @@ fn check(
 {
     let sized = Size::new(nx, ny, nz);
     match sized {
-        Sized::BadAxis(axis) => refuse(1, axis),
+        Sized::BadAxis(axis) => block::refuse(1, axis),
         Sized::Made(size) => {
             let listed = vertex_lists::check(size, words, offsets);
             if let Checked::Refuses(r) = listed {
@@ -169,7 +157,7 @@ fn put_coordinate(out: &mut [u8], at: usize, cube: u32, offset: f64, spacing: f6
     file_bytes::put_eight(out, at, f64::to_bits((cube as f64 + offset) * spacing))
 }
 
-// A vertex of a cube, in a block of w cubes by h cubes by any.
+// A vertex of a cube, in a block that is w cubes wide and h cubes high.
 fn put_vertex(
     out: &mut [u8],
     at: usize,

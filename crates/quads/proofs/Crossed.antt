@@ -13,12 +13,13 @@ use lib.ListN.{getD}
 use Rattle.laws.specs.Bits.{bit}
 use Rattle.laws.proofs.Bits.{bit-le}
 use Rattle.laws.proofs.Words.{Word, word-same, word-xor, word-bit}
+use Rattle.laws.proofs.Tests.{and-both}
 use Rattle.block.specs.declared.Cut.{Cut}
 use Rattle.block.specs.declared.Size.{Size}
 use Rattle.block.specs.Numbering.{Axis, X, Y, Z}
 use Rattle.block.specs.Size.{Limits}
 use Rattle.mesh_rule.specs.Grid.{between, inner, crossedFrom}
-use Rattle.mesh_rule.proofs.Inner.{both, Mid, mid-between}
+use Rattle.mesh_rule.proofs.Inner.{Mid, mid-between}
 use Rattle.signs.specs.Signs.{Plane, rowSign}
 use Rattle.planes.specs.Planes.{alongX, alongY, alongZ, limitOf, innerOf}
 use Rattle.planes.proofs.Edges.{along-x-is, along-y-is, along-z-is, further-word}
@@ -87,7 +88,7 @@ inner-z n x j k hj hk =
 
 -- neither first nor last is in the row
 between-in : (n c : ℕ) → between n c ≡ true → c < n
-between-in n c h = omega (arith, ltb-true (c + 1) n (both (ltb 0 c) (ltb (c + 1) n) h .1))
+between-in n c h = omega (arith, ltb-true (c + 1) n (and-both (ltb 0 c) (ltb (c + 1) n) h .1))
 
 -- ---- the planes that an axis asks for
 

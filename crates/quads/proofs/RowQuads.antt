@@ -14,7 +14,7 @@ use lib.ListN.{length, getD, length-append}
 use Rattle.laws.specs.Below.{below}
 use Rattle.laws.specs.Bits.{bit, holds}
 use Rattle.laws.proofs.Below.{below-mul, below-same}
-use Rattle.laws.proofs.Tests.{lt-or-ge}
+use Rattle.laws.proofs.Tests.{and-both, lt-or-ge}
 use Rattle.laws.proofs.Words.{word-bit}
 use Rattle.block.specs.declared.Cut.{Cut}
 use Rattle.block.specs.declared.Size.{Size}
@@ -22,7 +22,7 @@ use Rattle.cube_rule.specs.Laws.{CubeLaws}
 use Rattle.cube_rule.specs.Links.{Decider}
 use Rattle.mesh_rule.specs.Grid.{metal, inner, between, crossedFrom}
 use Rattle.mesh_rule.specs.Mesh.{Quad, flat}
-use Rattle.mesh_rule.proofs.Inner.{both, inner-facts, CrossedIn}
+use Rattle.mesh_rule.proofs.Inner.{inner-facts, CrossedIn}
 use Rattle.planes.specs.Planes.{limitOf, innerOf, alongX, alongY, alongZ}
 use Rattle.planes.proofs.Masks.{limit-clears, inner-clears, inner-in}
 use Rattle.signs.proofs.Planes.{sign-bit}
@@ -152,7 +152,7 @@ module _ {D : Decider} {loopsOf : Cut → List ℕ → List ℕ} (laws : CubeLaw
       (ap (λ (q : Quad). flat (q ∷ [])) (turned-is loopsOf n s cut along x j k) ∙ sym (quads-of loopsOf n s cut (alongAxis along) x j k c))
     where
       facts : (inner n (alongAxis along) x j k ≡ true) × (crossedFrom n s cut (alongAxis along) x j k ≡ true)
-      facts = both (inner n (alongAxis along) x j k) (crossedFrom n s cut (alongAxis along) x j k) c
+      facts = and-both (inner n (alongAxis along) x j k) (crossedFrom n s cut (alongAxis along) x j k) c
 
       ring : Ring (CrossedIn n s cut) along x j k
       ring = crossed-ring n s cut along x j k (inner-facts n (alongAxis along) x j k (facts .0)) (facts .1)

@@ -2,7 +2,6 @@
 -- Assumes nothing.
 use Prim.Native.Nat.{ℕ, _+_, _*_, _≤_, _<_}
 use mathlib.Core.Path.{_≡_, refl, sym, ap, _∙_}
-use mathlib.Core.Bool.{Bool, true, false, cond}
 use mathlib.Core.Logic.{_⊎_, inl, inr}
 use mathlib.Core.List.{List, [], _∷_, _++_}
 use native.Mathlib.Omega.{arith}
@@ -17,7 +16,7 @@ use Rattle.block.specs.declared.Checked.{Checked}
 use Rattle.block.specs.declared.Checked.the-variants.{Passes, Refuses}
 use Rattle.block.specs.Answer.{refuses, inOrder, First}
 use Rattle.block.proofs.Order.{passes-refuses, order-last, orders-pass, first-exactly, none-exactly}
-use Rattle.block.proofs.Rows.{given-small, holds-unless}
+use Rattle.block.proofs.Rows.{given-small, holds-unless, unless-none}
 use Rattle.reading.specs.Text.{ended, readAt}
 use Rattle.reading.specs.Faults.{lineRow}
 use Rattle.reading.specs.Input.{rowPlace, surplusRow, linesRow}
@@ -117,11 +116,7 @@ module _ (bytes : List ℕ) where
       )
 
   pub surplus-none : (line p : ℕ) → surplusRow bytes line p ≡ Passes → readAt bytes p ≡ ended
-  surplus-none line p = go (eqb (readAt bytes p) ended) refl
-    where
-      go : (b : Bool) → eqb (readAt bytes p) ended ≡ b → cond b Passes (refuses 8 line) ≡ Passes → readAt bytes p ≡ ended
-      go true e h = eqb-true _ _ e
-      go false e h = absurd (passes-refuses (sym h))
+  surplus-none line p e = eqb-true (readAt bytes p) ended (unless-none _ 8 line e)
 
   -- the rows of a block, and what stands behind them
   module _ (nx rows : ℕ) where

@@ -6,10 +6,9 @@ use mathlib.Core.Logic.{_⊎_, inl, inr}
 use mathlib.Core.List.{List, [], _∷_}
 use native.Mathlib.Nat.{mul-le-mul}
 use native.Mathlib.Omega.{arith}
-use lib.ListN.{length, getD, take, List·getD-eq-default}
-use lib.Seq.{take-at}
+use lib.ListN.{getD, take, List·getD-eq-default}
 use Rattle.laws.specs.Below.{below, over}
-use Rattle.laws.proofs.Over.{each, each-length, each-at}
+use Rattle.laws.proofs.Over.{over-take, each, each-length, each-at}
 use Rattle.laws.proofs.Tests.{lt-or-ge}
 use Rattle.block.specs.declared.Size.{Size}
 use Rattle.block.specs.Grey.{SixteenBit}
@@ -18,12 +17,6 @@ use Rattle.reading.specs.Input.{samplesRead}
 use Rattle.reading.specs.Steps.{sampleRead}
 use Rattle.reading.proofs.Axes.{AtMostEight}
 use Rattle.reading.proofs.Reading.{number-small}
-
--- ---- the front of a buffer
-
-pub front : {A : Type 0} (xs b : List A) (m : ℕ) → length xs ≡ m → take m (over xs b) ≡ xs
-unfolding over
-front xs b m e = take-at xs _ m e
 
 -- ---- the samples that were read
 
@@ -44,4 +37,4 @@ module _ (bytes : List ℕ) (n : Size) where
   -- as `fill` leaves them at the front of a buffer
   pub samples-front : (b c : List ℕ) → c ≡ over (below (λ (i : ℕ). sampleRead bytes (n .nx) i ∷ []) (sampleCount n)) b → take (sampleCount n) c ≡ samplesRead bytes n
   unfolding samplesRead
-  samples-front b c e = rw e (front (each (sampleRead bytes (n .nx)) (sampleCount n)) b (sampleCount n) (each-length (sampleRead bytes (n .nx)) (sampleCount n)))
+  samples-front b c e = rw e (over-take (each (sampleRead bytes (n .nx)) (sampleCount n)) b (sampleCount n) (each-length (sampleRead bytes (n .nx)) (sampleCount n)))

@@ -2,7 +2,6 @@
 // them, and the samples.
 use block::Checked;
 use block::Cut;
-use block::Refusal;
 use block::Size;
 use block::Sized;
 ghost use mathlib.Core.Path.{_≡_};
@@ -10,7 +9,6 @@ ghost use mathlib.Core.List.{[], _∷_};
 ghost use Prim.Native.Nat.{ℕ, _+_, _*_, _%_, _≤_, _<_};
 ghost use lib.ListN.{length};
 ghost use Rattle.laws.specs.Below.{below, over};
-ghost use Rattle.block.specs.declared.Checked.the-variants.{Refuses};
 ghost use Rattle.block.specs.Answer.{inOrder};
 ghost use Rattle.block.specs.Rows.{axisRow};
 ghost use Rattle.reading.specs.Text.{readAt, digitOf, numberAt, rightByte, rightBytes};
@@ -103,16 +101,6 @@ fn right_bytes(input: &[u8], at: usize, n: usize) -> usize
     column
 }
 
-// A refusal with this number and value.
-fn refuse(number: u32, value: u32) -> Checked
-    ensures { λ r. ⌜ r ≡ Refuses (record { number = number; value = value }) ⌝ }
-{
-    Checked::Refuses(Refusal {
-        number: number,
-        value: value,
-    })
-}
-
 // What the first wrong byte of a line of n digits says of it: rows 8, 10, 11 and 12.
 fn fault(line: u32, n: usize, column: usize, b: u16) -> Checked
     requires { ⌜ (line ≤ 65) × (column ≤ 32) ⌝ }
@@ -121,17 +109,17 @@ fn fault(line: u32, n: usize, column: usize, b: u16) -> Checked
     let value = 65536 * line + (column as u32 + 1);
     if b == ENDED {
         if column == 0 {
-            return refuse(8, line);
+            return block::refuse(8, line);
         }
-        return refuse(10, value);
+        return block::refuse(10, value);
     }
     if b == LF {
-        return refuse(10, value);
+        return block::refuse(10, value);
     }
     if column == n {
-        return refuse(11, value);
+        return block::refuse(11, value);
     }
-    refuse(12, value)
+    block::refuse(12, value)
 }
 
 // The rows 8, 10, 11 and 12 of the line of n digits at a place.
@@ -164,7 +152,7 @@ fn check_lines(input: &[u8], nx: usize, rows: u32) -> Checked
     if read_at(input, at) == ENDED {
         return Checked::Passes;
     }
-    refuse(8, rows + 2)
+    block::refuse(8, rows + 2)
 }
 
 // Rows 1 and 9.
@@ -173,16 +161,16 @@ fn check_axes(nx: u32, ny: u32, nz: u32) -> Checked
 {
     let size = Size::new(nx, ny, nz);
     if let Sized::BadAxis(axis) = size {
-        return refuse(1, axis);
+        return block::refuse(1, axis);
     }
     if nx > 8 {
-        return refuse(9, 0);
+        return block::refuse(9, 0);
     }
     if ny > 8 {
-        return refuse(9, 1);
+        return block::refuse(9, 1);
     }
     if nz > 8 {
-        return refuse(9, 2);
+        return block::refuse(9, 2);
     }
     Checked::Passes
 }

@@ -4,7 +4,7 @@
 use Prim.Native.Nat.{ℕ, _+_, _*_, _-_, _/_, _%_, _^_, _≤_, _<_}
 use mathlib.Core.Path.{_≡_, refl, ap, sym, _∙_}
 use mathlib.Core.Logic.{_⊎_, inl, inr}
-use mathlib.Core.Bool.{Bool, true, false, cond, _&&_}
+use mathlib.Core.Bool.{true, cond}
 use mathlib.Core.List.{List, [], _++_}
 use native.Mathlib.Nat.{eq-zero-or-pos}
 use native.Mathlib.Omega.{arith}
@@ -14,7 +14,7 @@ use lib.Dec.{ltb}
 use Rattle.laws.specs.Below.{below}
 use Rattle.laws.specs.Bits.{holds}
 use Rattle.laws.proofs.Below.{below-add, below-same}
-use Rattle.laws.proofs.Tests.{lt-or-ge}
+use Rattle.laws.proofs.Tests.{and-both, lt-or-ge}
 use Rattle.laws.proofs.Visit.{below-skip}
 use Rattle.laws.proofs.Words.{and-holds}
 use Rattle.block.specs.declared.Cut.{Cut}
@@ -60,10 +60,6 @@ upTo-word m f w = ap (below (upTo m f)) next ∙ below-add (upTo m f) (64 * w) 6
     next : 64 * (w + 1) ≡ 64 * w + 64
     next = omega arith
 
-both-left : (a b : Bool) → (a && b) ≡ true → a ≡ true
-both-left true b e = refl
-both-left false b e = e
-
 -- ---- the cubes of the word w of a row
 
 -- which cubes have one loop or two is told without a table
@@ -91,7 +87,7 @@ module _ {lo hi : List ℕ} {cut : Cut} {table a b : List ℕ} {nx j : ℕ} (rea
     low-in = λ x h t. omega (arith, set-in x h t, ready .low-long);
     high-in = λ x h t. omega (arith, set-in x h t, ready .high-long);
     signs = λ x h t. pattern-is (ready .lower) (ready .upper) w x hw h (omega (arith, set-in x h t));
-    active = λ x h t. sym (active-bit e x) ∙ both-left (holds (activeOf e) x) (holds (limitOf (nx - 1) w) x) (sym (and-holds (activeOf e) (limitOf (nx - 1) w) x) ∙ t);
+    active = λ x h t. sym (active-bit e x) ∙ and-both (holds (activeOf e) x) (holds (limitOf (nx - 1) w) x) (sym (and-holds (activeOf e) (limitOf (nx - 1) w) x) ∙ t) .0;
   }
 
 -- ---- whatever the loops of a cube are

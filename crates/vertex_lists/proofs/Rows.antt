@@ -1,25 +1,24 @@
--- What rows 22 and 24 say, by cases.
+-- What row 22 says exactly, and rows 22 and 23 by cases.
 -- Assumes nothing.
 use Prim.Native.Nat.{ℕ, _*_, _-_, _/_, _≤_, _<_}
-use mathlib.Core.Path.{_≡_, refl, sym, ap, _∙_}
-use mathlib.Core.Bool.{Bool, true, false, cond, _&&_}
+use mathlib.Core.Path.{_≡_, sym, ap, _∙_}
+use mathlib.Core.Bool.{Bool}
 use mathlib.Core.Logic.{_↔_}
 use mathlib.Core.List.{List}
 use native.Mathlib.Omega.{arith}
-use lib.Dec.{leb, ltb, eqb}
+use lib.Dec.{ltb}
 use lib.ListN.{length, getD}
-use lib.Ieee.{Float, le}
-use borrow.Author.Tests.{eqb-true, eq-eqb, ne-eqb, leb-true, le-leb, le-ltb}
+use borrow.Author.Tests.{eqb-true, eq-eqb, leb-true, le-leb, le-ltb}
 use Rattle.laws.proofs.Leading.{HoldsTo}
+use Rattle.laws.proofs.Tests.{and-both}
 use Rattle.block.specs.declared.Checked.the-variants.{Passes, Refuses}
 use Rattle.block.specs.declared.Size.{Size}
-use Rattle.block.specs.Answer.{given, refuses}
+use Rattle.block.specs.Answer.{given}
 use Rattle.block.specs.Numbering.{cubeCount}
 use Rattle.block.specs.Rows.{searchRow}
-use Rattle.block.proofs.Order.{passes-refuses}
+use Rattle.block.proofs.Rows.{unless-none}
 use Rattle.block.proofs.Searches.{search-passes, search-fails}
-use Rattle.place.specs.Place.{plusZero, one}
-use Rattle.vertex_lists.specs.Rows.{shaped, shapeRow, cubeRow, fromZeroToOne}
+use Rattle.vertex_lists.specs.Rows.{shaped, shapeRow, cubeRow}
 
 -- ---- row 22
 
@@ -33,29 +32,15 @@ module _ (words offsets : ℕ) where
   pub shape-exactly : (shapeRow words offsets ≡ Passes) ↔ ((v : ℕ) × (words ≡ 2 * v) × (offsets ≡ 3 * v) × (v ≤ 66325500))
   shape-exactly = (there, λ h. shape-passes (h .0) (h .1) (h .2) (h .3))
     where
-      go : (a b c : Bool) → eqb words (2 * (words / 2)) ≡ a → eqb offsets (3 * (words / 2)) ≡ b → leb (words / 2) 66325500 ≡ c → cond (a && b && c) Passes (refuses 22 words) ≡ Passes
-          → (v : ℕ) × (words ≡ 2 * v) × (offsets ≡ 3 * v) × (v ≤ 66325500)
-      go true true true a b c e = (words / 2, eqb-true _ _ a, eqb-true _ _ b, leb-true _ _ c)
-      go true true false a b c e = absurd (passes-refuses (sym e))
-      go true false c a b d e = absurd (passes-refuses (sym e))
-      go false b c a d f e = absurd (passes-refuses (sym e))
-
       there : shapeRow words offsets ≡ Passes → (v : ℕ) × (words ≡ 2 * v) × (offsets ≡ 3 * v) × (v ≤ 66325500)
-      there = go (eqb words (2 * (words / 2))) (eqb offsets (3 * (words / 2))) (leb (words / 2) 66325500) refl refl refl
-
-  -- as the code finds it, by the first of three tests that fails
-  pub odd-words : (v : ℕ) → (words ≡ 2 * v → ⊥) → false ≡ shaped words offsets v
-  odd-words v a = rw (ne-eqb words (2 * v) a)
-
-  pub other-offsets : (v : ℕ) → words ≡ 2 * v → (offsets ≡ 3 * v → ⊥) → false ≡ shaped words offsets v
-  other-offsets v a b = rw (eq-eqb words (2 * v) a, ne-eqb offsets (3 * v) b)
-
-  pub by-count : (v : ℕ) → words ≡ 2 * v → offsets ≡ 3 * v → leb v 66325500 ≡ shaped words offsets v
-  by-count v a b = rw (eq-eqb words (2 * v) a, eq-eqb offsets (3 * v) b)
+      there e =
+          let both = and-both _ _ (unless-none (shaped words offsets (words / 2)) 22 words e) in
+          let lengths = and-both _ _ (both .0) in
+          (words / 2, eqb-true _ _ (lengths .0), eqb-true _ _ (lengths .1), leb-true _ _ (both .1))
 
 -- ---- row 23
 
--- 255³ is the largest product
+-- an axis of at most 256 samples has at most 255 cubes
 pub less : {a m : ℕ} → a ≤ 256 → m ≡ a → m - 1 ≤ 255
 less h e = omega (arith, h, e)
 
@@ -73,25 +58,3 @@ module _ (n : Size) (end : ℕ) (words : List ℕ) (e : end ≡ cubeCount n) whe
 
   pub cubes-fail : (i v : ℕ) → i < length words / 2 → HoldsTo (before end words) i → end ≤ getD words (2 * i) 0 → v ≡ given i → Refuses (record { number = 23; value = v }) ≡ cubeRow n words
   cubes-fail i v h all out g = search-fails 23 (before end words) (length words / 2) i v h all (le-ltb (getD words (2 * i) 0) end out) g ∙ by-end
-
--- ---- row 24
-
-module _ (x : Float) where
-  pub not-low : le plusZero x ≡ false → false ≡ fromZeroToOne x
-  unfolding fromZeroToOne
-  not-low e = rw e
-
-  pub by-high : le plusZero x ≡ true → le x one ≡ fromZeroToOne x
-  unfolding fromZeroToOne
-  by-high e = rw e
-
--- three offsets, by the first that is not inside
-module _ (x y z : Float) where
-  pub first-out : fromZeroToOne x ≡ false → false ≡ (fromZeroToOne x && fromZeroToOne y && fromZeroToOne z)
-  first-out a = rw a
-
-  pub second-out : fromZeroToOne x ≡ true → fromZeroToOne y ≡ false → false ≡ (fromZeroToOne x && fromZeroToOne y && fromZeroToOne z)
-  second-out a b = rw (a, b)
-
-  pub by-third : fromZeroToOne x ≡ true → fromZeroToOne y ≡ true → fromZeroToOne z ≡ (fromZeroToOne x && fromZeroToOne y && fromZeroToOne z)
-  by-third a b = rw (a, b)

@@ -10,7 +10,7 @@ ghost use Rattle.block.specs.Numbering.{cubeCount};
 ghost use Rattle.block.specs.Size.{Limits};
 ghost use Rattle.vertex_lists.specs.Rows.{shaped, shapeRow, cubeRow, fromZeroToOne, offsetRow, vertexRows};
 
-// Whether two lists have these lengths for one count of vertices.
+// Whether two lists have the lengths of one count of vertices.
 fn in_shape(words: usize, offsets: usize) -> bool
     ensures { λ r. ⌜ r ≡ shaped words offsets (words / 2) ⌝ }
 {
@@ -81,7 +81,7 @@ fn in_unit(x: f64) -> bool
     false
 }
 
-// The same of three.
+// Whether three numbers are.
 fn all_in_unit(x: f64, y: f64, z: f64) -> bool
     ensures { λ r. ⌜ r ≡ (fromZeroToOne x && fromZeroToOne y && fromZeroToOne z) ⌝ }
 {

@@ -11,7 +11,7 @@ use Rattle.ply.proofs.check.Reads as reads
 use Rattle.ply.proofs.check.Lts as lts
 use Rattle.block.proofs.Size.new.Reads as new-reads
 use Rattle.ply.proofs.check_faces.Reads as check-faces-reads
-use Rattle.ply.proofs.refuse.Reads as refuse-reads
+use Rattle.block.proofs.refuse.Reads as refuse-reads
 use Rattle.vertex_lists.proofs.check.Reads as check-reads
 
 new-requires : tie.Need-new-requires

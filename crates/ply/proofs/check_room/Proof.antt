@@ -9,7 +9,7 @@ use Rattle.ply.proofs.check_room.Tie as tie
 use Rattle.ply.proofs.check_room.Reads as reads
 use Rattle.ply.proofs.check_room.Lts as lts
 use Rattle.block.proofs.short.Reads as short-reads
-use Rattle.ply.proofs.refuse.Reads as refuse-reads
+use Rattle.block.proofs.refuse.Reads as refuse-reads
 
 returns : tie.Need-returns
 returns c = unless-passes _ 15 _ (le-leb _ _ (c .if1 .taken))

@@ -1,6 +1,5 @@
 -- `put_coordinate` meets its contract.
 -- Assumes nothing.
-use mathlib.Core.Path.{refl}
 use Rattle.ply.specs.File.{millimetres, double}
 use borrow.Author.Needs.{needs}
 use Rattle.ply.proofs.put_coordinate.Statement.{statement}

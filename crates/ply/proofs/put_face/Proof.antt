@@ -1,8 +1,7 @@
 -- `put_face` meets its contract: how many numbers, and each of them.
 -- Assumes nothing.
 use native.Mathlib.Omega.{arith}
-use mathlib.Core.Path.{ap, _∙_}
-use Prim.Native.Nat.{ℕ, _+_}
+use mathlib.Core.Path.{_∙_}
 use Rattle.ply.proofs.Files.{face-put, face-length}
 use borrow.Author.Needs.{needs}
 use Rattle.ply.proofs.put_face.Statement.{statement}

@@ -16,9 +16,6 @@ use Rattle.ply.proofs.put_faces.Reads as reads
 use Rattle.ply.proofs.put_faces.Lts as lts
 use Rattle.ply.proofs.put_face.Reads as put-face-reads
 
--- `put_faces` meets its contract: the faces before the one in hand are put.
--- Assumes nothing.
-
 abbrev Inv-loop : tie.InvT-loop
 Inv-loop out₀ at quads count next₀ q₀ out next q =
     (q ≤ count) × (next ≡ at + 17 * q) × Put out₀ at (below (faceBytes quads) q) out next × (length out ≡ length out₀)

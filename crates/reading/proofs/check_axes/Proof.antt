@@ -12,7 +12,7 @@ use Rattle.reading.proofs.check_axes.Tie as tie
 use Rattle.reading.proofs.check_axes.Reads as reads
 use Rattle.reading.proofs.check_axes.Lts as lts
 use Rattle.block.proofs.Size.new.Reads as new-reads
-use Rattle.reading.proofs.refuse.Reads as refuse-reads
+use Rattle.block.proofs.refuse.Reads as refuse-reads
 
 new-requires : tie.Need-new-requires
 new-requires c κs = search needs

@@ -1,6 +1,6 @@
 -- `check_lines` meets its contract: all rows before the one in hand are right.
 -- Assumes nothing.
-use Prim.Native.Nat.{ℕ, _+_, _-_, _*_, _≤_, _<_}
+use Prim.Native.Nat.{ℕ, _+_, _-_, _≤_}
 use mathlib.Core.Path.{_≡_, sym, _∙_}
 use native.Mathlib.Nat.{not-suc-le-zero}
 use native.Mathlib.Omega.{arith}
@@ -16,7 +16,7 @@ use Rattle.reading.proofs.check_lines.Reads as reads
 use Rattle.reading.proofs.check_lines.Lts as lts
 use Rattle.reading.proofs.check_line.Reads as check-line-reads
 use Rattle.reading.proofs.read_at.Reads as read-at-reads
-use Rattle.reading.proofs.refuse.Reads as refuse-reads
+use Rattle.block.proofs.refuse.Reads as refuse-reads
 
 abbrev Inv-loop : tie.InvT-loop
 Inv-loop input nx rows at₀ j₀ at j = (j ≤ rows) × (at ≡ rowPlace nx j) × AllPass (rowCheck input nx) j

@@ -9,7 +9,7 @@ use Rattle.reading.proofs.fault.Statement.{statement}
 use Rattle.reading.proofs.fault.Tie as tie
 use Rattle.reading.proofs.fault.Reads as reads
 use Rattle.reading.proofs.fault.Lts as lts
-use Rattle.reading.proofs.refuse.Reads as refuse-reads
+use Rattle.block.proofs.refuse.Reads as refuse-reads
 
 mul-value : tie.Need-mul-value
 mul-value c = search needs
