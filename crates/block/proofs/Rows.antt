@@ -22,7 +22,8 @@ given-small n h = omega arith
 pub given-large : (n : ℕ) → 4294967295 ≤ n → given n ≡ 4294967295
 given-large n h = omega arith
 
-abbrev refusal : ℕ → ℕ → Checked
+-- a refusal with this number and value
+abbrev pub refusal : ℕ → ℕ → Checked
 refusal number value = Refuses (record { number = number; value = value })
 
 -- ---- what a row refuses with: its number, and its value as it is given

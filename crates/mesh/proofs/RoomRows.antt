@@ -6,14 +6,11 @@ use lib.Dec.{leb}
 use borrow.Author.Tests.{le-leb, lt-leb, leb-true}
 use Rattle.laws.proofs.Tests.{and-both}
 use Rattle.block.specs.declared.Checked.{Checked}
-use Rattle.block.specs.declared.Checked.the-variants.{Passes, Refuses}
+use Rattle.block.specs.declared.Checked.the-variants.{Passes}
 use Rattle.block.specs.Answer.{inOrder, refuses}
 use Rattle.block.proofs.Order.{order-refuses, order-passes, order-last, order-first, order-rest}
-use Rattle.block.proofs.Rows.{given-small, unless-none}
+use Rattle.block.proofs.Rows.{refusal, given-small, unless-none}
 use Rattle.mesh.specs.Answer.{vertexRow, quadRow, roomRows}
-
-abbrev refusal : ℕ → ℕ → Checked
-refusal number value = Refuses (record { number = number; value = value })
 
 module _ (v q w o l : ℕ) where
   abbrev roomOf : Checked

@@ -3,12 +3,11 @@
 use Prim.Native.Nat.{ℕ, _+_, _≤_}
 use mathlib.Core.Path.{_≡_, sym, ap, _∙_}
 use mathlib.Core.List.{List}
-use native.Mathlib.Omega.{arith}
 use borrow.Author.Tests.{eq-eqb, ne-eqb}
 use Rattle.block.specs.declared.Checked.{Checked}
-use Rattle.block.specs.declared.Checked.the-variants.{Passes, Refuses}
+use Rattle.block.specs.declared.Checked.the-variants.{Passes}
 use Rattle.block.specs.Answer.{refuses}
-use Rattle.block.proofs.Rows.{given-small}
+use Rattle.block.proofs.Rows.{refusal, given-small}
 use Rattle.reading.specs.Text.{LF, ended, readAt, rightBytes}
 use Rattle.reading.specs.Faults.{Fault, missing, short, long, wrong, faultBy, faultAt, faultRow, lineRow}
 
@@ -30,9 +29,6 @@ module _ (n c b : ℕ) where
 
       pub by-wrong : (c ≡ n → ⊥) → faultBy n c b ≡ wrong c
       by-wrong e = rw (ne-eqb b ended h, ne-eqb b LF f, ne-eqb c n e)
-
-abbrev refusal : ℕ → ℕ → Checked
-refusal number value = Refuses (record { number = number; value = value })
 
 -- number and value as the code has them are those of the fault's row, which are not cut
 pub row-of : (line number w : ℕ) {k v : ℕ} {f g : Fault} → g ≡ f → faultRow line f ≡ refuses number w → k ≡ number → v ≡ w → w ≤ 4294967295 → refusal k v ≡ faultRow line g

@@ -1,8 +1,11 @@
 -- `tell_length` meets its contract: the length, or zero.
 -- Assumes nothing.
-use mathlib.Core.Path.{sym, ap}
+use mathlib.Core.Path.{_≡_, sym, ap}
+use mathlib.Core.List.{[], _∷_}
 use Rattle.laws.specs.Filled.{filled}
+use Rattle.block.specs.declared.Refusal.{Refusal}
 use Rattle.ply.specs.declared.Filed.{Filed}
+use Rattle.ply.specs.declared.Filed.the-variants.{Refused}
 use Rattle.ply.specs.Answer.{saidFile}
 use Rattle.parsniprow_c.specs.Told.{toldLength}
 use borrow.Author.Needs.{needs}
@@ -21,9 +24,13 @@ returns : tie.Need-returns
 unfolding filled
 returns c = sym (ap (λ (x : Filed). toldLength (saidFile x)) (c .before .filed .given .1))
 
-returns-2 : tie.Need-returns-2
+-- what is told of a refusal
+none-told : {x : Filed} {r : Refusal} → x ≡ Refused r → 0 ∷ [] ≡ toldLength (saidFile x)
 unfolding filled
-returns-2 c = sym (ap (λ (x : Filed). toldLength (saidFile x)) (c .enum-told .given .1))
+none-told e = sym (ap (λ (x : Filed). toldLength (saidFile x)) e)
+
+returns-2 : tie.Need-returns-2
+returns-2 c = none-told (c .enum-told .given .1)
 
 pub tell-length-spec : {M : Type 1} → statement M
 tell-length-spec = tie.close (tie.spec enum-known-filed enum-told returns returns-2)
