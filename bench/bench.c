@@ -1,6 +1,8 @@
-/* Times the library and the plain implementation on one block. Usage: bench file nx ny nz t mesh.ply, the file raw
-   little-endian 16-bit numbers, x fastest. Writes the mesh to mesh.ply, with a spacing of 0.1 millimetres along each
-   axis. Prints a line for each figure, its name and its value:
+/* Times the library and the plain implementation on one block. Usage: bench file nx ny nz t mesh.ply sealed.ply, the
+   file raw little-endian 16-bit numbers, x fastest. Writes the mesh to mesh.ply, with a spacing of 0.1 millimetres
+   along each axis. Where a sample on the six faces of the box is metal, the block is then sealed: all samples there
+   become 0. The mesh of the sealed block is written to sealed.ply; of a block that needs no sealing there is no such
+   file. Prints a line for each figure, its name and its value:
      crossed, rim, doubtful  crossed edges, steps out of the block from metal samples, faces with four crossed edges
      vertices, quads         of the mesh
      counts, mesh            seconds of the library's two calls; mesh writes into memory that was written to before
@@ -9,9 +11,15 @@
      bytes                   of the PLY file of the mesh
      ply                     seconds of the library's call that makes that file, in memory that was written to before
      copy                    seconds of memcpy of that file into such memory
+     closed                  seconds of the library's call that says whether the mesh is closed; the memory that it
+                             works in was written to before
+     is_closed               its answer, 1 if the mesh is closed and 0 if not
+     fault_quad              the quad of the first side at fault, where it is not
+     sealed_...              vertices, quads, closed and is_closed of the sealed block, where there is one
    A time is the best of 15 runs, or of as many as begin within half a second, but at least 2.
-   Assumes that both are linked in; built with -DSELF there is no library, and its four times are not printed.
-   The counts, the meshes and the files of the two must agree, bit by bit, or there are no times. */
+   Assumes that both are linked in; built with -DSELF there is no library, and its times and answers are not printed.
+   The counts, the meshes and the files of the two must agree, bit by bit, or there are no times. The mesh must be
+   closed if no sample on the six faces of the box is metal, and a side that is given as at fault must be so. */
 #define _POSIX_C_SOURCE 199309L
 
 #include "../include/parsniprow.h"
@@ -29,7 +37,7 @@
 #define parsniprow_ply plain_ply
 #endif
 
-enum { MOST_RUNS = 15, LEAST_RUNS = 2, ANSWER = 3, SHORT_FILE = 15 };
+enum { MOST_RUNS = 15, LEAST_RUNS = 2, ANSWER = 3, CLOSED_ANSWER = 4, SHORT_FILE = 15 };
 static const double long_enough = 0.5, spacing = 0.1;
 
 typedef void counts_function(uint32_t, uint32_t, uint32_t, const uint16_t *, size_t, uint16_t, uint32_t *, size_t);
@@ -93,8 +101,9 @@ static int metal(const size_t at[3], unsigned u, size_t u_steps, unsigned v, siz
     return block.samples[place[0] + block.length[0] * (place[1] + block.length[1] * place[2])] >= block.t;
 }
 
-/* What the other programs' meshes are held against, counted from the samples alone. */
-static void print_shape(void)
+/* What the other programs' meshes are held against, counted from the samples alone. Gives the steps out of the block
+   from metal samples. */
+static size_t print_shape(void)
 {
     size_t crossed = 0, rim = 0, doubtful = 0, at[3];
     for (at[2] = 0; at[2] < block.length[2]; at[2]++)
@@ -110,6 +119,18 @@ static void print_shape(void)
                                 metal(at, u, 0, v, 1) != here;
                 }
     printf("crossed %zu\nrim %zu\ndoubtful %zu\n", crossed, rim, doubtful);
+    return rim;
+}
+
+/* All samples on the six faces of the box become hollow, so the mesh is closed. */
+static void seal(void)
+{
+    size_t x, y, z, n = 0, nx = block.length[0], ny = block.length[1], nz = block.length[2];
+    for (z = 0; z < nz; z++)
+        for (y = 0; y < ny; y++)
+            for (x = 0; x < nx; x++, n++)
+                if (x == 0 || x + 1 == nx || y == 0 || y + 1 == ny || z == 0 || z + 1 == nz)
+                    block.samples[n] = 0;
 }
 
 /* ---- times ---- */
@@ -256,6 +277,62 @@ static void print_file_times(const struct mesh *mesh, const char *name)
     free(file.other);
 }
 
+#ifndef SELF
+/* A mesh, the memory to work in, and the answer of the last run. */
+struct question {
+    const struct mesh *mesh;
+    uint64_t *work;
+    size_t work_count;
+    uint32_t answer[CLOSED_ANSWER];
+};
+
+static double closed_seconds(void *with)
+{
+    struct question *question = with;
+    const struct mesh *mesh = question->mesh;
+    double from = now();
+    parsniprow_closed_with(mesh->quads, 4 * mesh->quad_count, question->work, question->work_count, question->answer,
+                           CLOSED_ANSWER);
+    return now() - from;
+}
+
+/* Whether a side is walked as often one way as the other, over all quads, and has two different ends. */
+static int in_order(const struct mesh *mesh, size_t quad, size_t side)
+{
+    size_t one_way = 0, other_way = 0;
+    uint32_t a = mesh->quads[4 * quad + side], b = mesh->quads[4 * quad + (side + 1) % 4];
+    for (size_t n = 0; n < 4 * mesh->quad_count; n++) {
+        uint32_t from = mesh->quads[n], to = mesh->quads[n - n % 4 + (n + 1) % 4];
+        one_way += from == a && to == b;
+        other_way += from == b && to == a;
+    }
+    return a != b && one_way == other_way;
+}
+
+/* The names of the figures begin with that word. */
+static void print_closed_time(const struct mesh *mesh, const char *word, int must_be_closed)
+{
+    struct question question = {mesh, NULL, mesh->vertex_count + 4 * mesh->quad_count, {0}};
+    const uint32_t *answer = question.answer;
+    double closed_time;
+    question.work = taken(question.work_count * sizeof *question.work);
+    memset(question.work, 0xA5, question.work_count * sizeof *question.work);
+    closed_time = best_of(closed_seconds, &question);
+    free(question.work);
+    if (answer[0] != 0 || answer[1] > 1)
+        stop("the closed question was refused");
+    if (answer[1] == 1 && (answer[2] != 0 || answer[3] != 0))
+        stop("the mesh is closed and has a side at fault");
+    if (answer[1] == 0 && must_be_closed)
+        stop("the mesh is not closed");
+    if (answer[1] == 0 && (answer[2] >= mesh->quad_count || answer[3] > 3 || in_order(mesh, answer[2], answer[3])))
+        stop("the side at fault is in order");
+    printf("%sclosed %.9f\n%sis_closed %u\n", word, closed_time, word, (unsigned)answer[1]);
+    if (answer[1] == 0)
+        printf("%sfault_quad %u\n", word, (unsigned)answer[2]);
+}
+#endif
+
 static int same(const struct mesh *a, const struct mesh *b)
 {
     return a->vertex_count == b->vertex_count && a->quad_count == b->quad_count &&
@@ -264,7 +341,7 @@ static int same(const struct mesh *a, const struct mesh *b)
            memcmp(a->quads, b->quads, 4 * a->quad_count * sizeof *a->quads) == 0;
 }
 
-static void print_times(const char *file_name)
+static void print_times(const char *file_name, int must_be_closed)
 {
     uint32_t counted[ANSWER];
     struct mesh lent;
@@ -283,8 +360,10 @@ static void print_times(const char *file_name)
     (void)counts_time;
     (void)mesh_time;
     (void)whole_time;
+    (void)must_be_closed;
 #else
     printf("counts %.6f\nmesh %.6f\nwhole %.6f\n", counts_time, mesh_time, whole_time);
+    print_closed_time(&lent, "", must_be_closed);
 #endif
     printf("plain %.6f\n", plain_time);
     give_back(&lent);
@@ -292,13 +371,38 @@ static void print_times(const char *file_name)
     give_back(&plain.left);
 }
 
+static void print_sealed(const char *file_name)
+{
+    uint32_t counted[ANSWER];
+    struct mesh mesh;
+    struct file file = {&mesh, NULL, NULL, 0};
+    uint8_t none[1];
+    seal();
+    ask_counts(parsniprow_counts, counted);
+    mesh = room_for(counted);
+    ask_mesh(parsniprow_mesh, &mesh);
+    file.size = ask_ply(parsniprow_ply, &mesh, none, 0);
+    file.bytes = taken(file.size);
+    ask_ply(parsniprow_ply, &mesh, file.bytes, file.size);
+    write_file(&file, file_name);
+    free(file.bytes);
+    printf("sealed_vertices %zu\nsealed_quads %zu\n", mesh.vertex_count, mesh.quad_count);
+#ifndef SELF
+    print_closed_time(&mesh, "sealed_", 1);
+#endif
+    give_back(&mesh);
+}
+
 int main(int argc, char **argv)
 {
-    if (argc != 7)
-        stop("usage: bench file nx ny nz t mesh.ply");
+    size_t rim;
+    if (argc != 8)
+        stop("usage: bench file nx ny nz t mesh.ply sealed.ply");
     block = read_block(argv + 1);
-    print_shape();
-    print_times(argv[6]);
+    rim = print_shape();
+    print_times(argv[6], rim == 0);
+    if (rim != 0)
+        print_sealed(argv[7]);
     free(block.samples);
     return 0;
 }

@@ -7,12 +7,21 @@
                                      vtk_memory   seconds of writing to a string
                                      vtk_file     seconds of writing to a file in memory (/dev/shm)
                                    or nothing if VTK is not installed
+  peers.py feature_edges mesh.ply  prints a line for each figure of VTK's feature edges of the mesh, name and value:
+                                     vtk_closed       seconds
+                                     vtk_boundary     edges of one quad that it found
+                                     vtk_nonmanifold  edges of more than two quads that it found
+                                   or nothing if VTK is not installed
 
 The file is raw little-endian 16-bit numbers, x fastest. A time is the best of 15 runs, or of as many as begin within
 half a second, but at least 2. The block is in memory, in the form that the peer takes, before the first run; the peer
 takes the memory of its mesh within the time, and the mesh of the run before is given back outside of it.
 Of the PLY writer only the call that writes is timed. Its mesh is that of the library's PLY file, in VTK's own form, and
 its file must hold the same quads, and the same places rounded to 32-bit floats, or there are no times.
+Of the feature edges only the call that finds them is timed, on the same mesh in the same form. VTK builds its links
+from vertices to quads within that call, and it does so where the mesh has links already: those save no time. VTK 9.1.0
+first asks for room for a tenth of the points times a twentieth of them, 8 bytes each. Where it gets none, it ends the
+process by SIGABRT.
 
 Assumes that the process may run on one processor only (taskset), as OpenVDB takes all that it is allowed; the peers are
 Debian's packages python3-vtk9, python3-skimage and python3-openvdb, in Debian's own python."""
@@ -207,6 +216,48 @@ def print_ply_times(name):
     print(f"vtk_bytes {len(content)}\nvtk_memory {memory_time:.6f}\nvtk_file {file_time:.6f}")
 
 
+# ---- VTK's feature edges ----
+
+def feature_edges(mesh, with_nonmanifold):
+    """A filter that finds the edges of one quad, and those of more than two if so asked. Colours for the edges, which
+    tell of what kind they are, are off."""
+    from vtkmodules.vtkFiltersCore import vtkFeatureEdges
+    edges = vtkFeatureEdges()
+    edges.SetInputData(mesh)
+    edges.BoundaryEdgesOn()
+    edges.SetNonManifoldEdges(with_nonmanifold)
+    edges.FeatureEdgesOff()
+    edges.ManifoldEdgesOff()
+    edges.ColoringOff()
+    return edges
+
+
+def found_edges(edges):
+    """Runs the filter and gives how many edges it found."""
+    edges.Update()
+    return edges.GetOutput().GetNumberOfLines()
+
+
+def print_edge_times(name):
+    """The filter of each run is new, for one that has run does not run again. It is made outside of the time."""
+    try:
+        vtk_version()
+    except ImportError:
+        return
+    one_vtk_thread()
+    with open(name, "rb") as file:
+        places, faces = ply_parts(file.read(), "<f8")
+    mesh = vtk_mesh(places, faces["quad"])
+
+    def next_run():
+        edges = feature_edges(mesh, True)
+        return lambda: found_edges(edges)
+
+    found, seconds = best_time(next_run)
+    boundary = found_edges(feature_edges(mesh, False))
+    print(f"vtk_closed {seconds:.6f}\nvtk_boundary {boundary}\nvtk_nonmanifold {found - boundary}")
+
+
 # ---- all of them ----
 
 PEERS = {
@@ -215,6 +266,7 @@ PEERS = {
     "lewiner": ("scikit-image", "python3-skimage", skimage_version, lewiner),
     "volume_to_mesh": ("OpenVDB", "python3-openvdb", openvdb_version, volume_to_mesh),
 }
+ON_A_MESH = {"ply_writer": print_ply_times, "feature_edges": print_edge_times}
 
 
 def print_versions():
@@ -245,14 +297,14 @@ def main():
     if sys.argv[1:] == ["versions"]:
         print_versions()
         return
-    is_writer = len(sys.argv) == 3 and sys.argv[1] == "ply_writer"
-    if not is_writer and (len(sys.argv) != 7 or sys.argv[1] not in PEERS):
-        sys.exit("usage: peers.py versions, or peers.py ply_writer mesh.ply, or peers.py key file nx ny nz t, the key "
-                 "one of " + ", ".join(PEERS))
+    on_a_mesh = len(sys.argv) == 3 and sys.argv[1] in ON_A_MESH
+    if not on_a_mesh and (len(sys.argv) != 7 or sys.argv[1] not in PEERS):
+        sys.exit("usage: peers.py versions, or peers.py ply_writer mesh.ply, or peers.py feature_edges mesh.ply, or "
+                 "peers.py key file nx ny nz t, the key one of " + ", ".join(PEERS))
     if len(os.sched_getaffinity(0)) != 1:
         sys.exit("peers.py: may run on more than one processor, so OpenVDB would take more than one thread")
-    if is_writer:
-        print_ply_times(sys.argv[2])
+    if on_a_mesh:
+        ON_A_MESH[sys.argv[1]](sys.argv[2])
         return
     lengths = [int(word) for word in sys.argv[3:6]]
     run, size = PEERS[sys.argv[1]][3](sys.argv[2], lengths, float(sys.argv[6]))

@@ -4,8 +4,8 @@
 Its lines, with tabs between the words: processor, compiler, library (the machine that its module was compiled for, or
 none); peer, key, name, package, version; figure, kind, size, name, value; made, kind, size, key, points, polygons,
 seconds. Of a figure or a time that stands there twice the least counts.
-Ends with status 1 if a peer's mesh is not of the size to be expected from the block's crossed edges, for then the times
-are of different work."""
+Ends with status 1 if a peer's mesh is not of the size to be expected from the block's crossed edges, or if VTK finds a
+boundary edge in a closed mesh, for then the times are of different work."""
 import math
 import sys
 
@@ -59,7 +59,7 @@ def with_ratio(block, seconds, time="whole"):
     return f"{three_digits(seconds)} ({block[time] / seconds:.2f})" if time in block else three_digits(seconds)
 
 
-# ---- the four tables ----
+# ---- the five tables ----
 
 def module_mark(words):
     """What the head of a column says of a library that is not the one that ships."""
@@ -141,6 +141,42 @@ def print_files(words, blocks):
     print_table(heads, rows)
 
 
+def closed_rows(blocks):
+    """The name of each mesh that may be closed, and its figures: that of a block, and that of the block sealed."""
+    for (kind, size), block in blocks.items():
+        yield f"{kind} {size}", block
+        sealed = {name[len("sealed_"):]: value for name, value in block.items() if name.startswith("sealed_")}
+        if sealed:
+            yield f"{kind} {size}, sealed", sealed
+
+
+def closed_answer(mesh):
+    return "closed" if mesh["is_closed"] else f"open at quad {whole(mesh['fault_quad'])}"
+
+
+def print_closed(words, blocks):
+    timed = words["library"] != "none"
+    has_vtk = any("vtk_closed" in block or "vtk_no_memory" in block for block in blocks.values())
+    heads = ["block", "quads"]
+    if timed:
+        heads += ["answer", "closed_with" + module_mark(words), "closed_with, ns a quad"]
+    if has_vtk:
+        heads += ["vtkFeatureEdges", "VTK's edges: boundary / non-manifold"]
+    rows = []
+    for name, mesh in closed_rows(blocks):
+        row = [name, whole(mesh["quads"])]
+        if timed:
+            row += [closed_answer(mesh), f"**{three_digits(mesh['closed'])}**"]
+            row.append(f"{1e9 * mesh['closed'] / mesh['quads']:.1f}" if mesh["quads"] else "")
+        if "vtk_closed" in mesh:
+            row.append(with_ratio(mesh, mesh["vtk_closed"], "closed"))
+            row.append(f"{whole(mesh['vtk_boundary'])} / {whole(mesh['vtk_nonmanifold'])}")
+        elif has_vtk:
+            row += ["no memory", ""]
+        rows.append(row)
+    print_table(heads, rows)
+
+
 # ---- what the meshes must have in common ----
 
 def faults(peers, blocks):
@@ -161,6 +197,12 @@ def faults(peers, blocks):
                 found.append(f"{kind} {size}: {peers[key]['name']} made {made[what]} {what}, which is not from "
                              f"{least:.0f} to {most:.0f}.")
     return found
+
+
+def closed_faults(blocks):
+    """A side of a closed mesh is walked an even number of times, so it is of more than one quad."""
+    return [f"{name}: VTK found {mesh['vtk_boundary']:.0f} boundary edges in a closed mesh."
+            for name, mesh in closed_rows(blocks) if mesh.get("is_closed") and mesh.get("vtk_boundary")]
 
 
 # ---- the page ----
@@ -215,6 +257,24 @@ library's call, into memory that was written to before; memcpy copies the same b
   rounded to 32-bit floats.
 """
 
+CLOSED_TEXT = """
+Whether the mesh is closed: seconds, measured as above; in brackets `closed_with` divided by that time. `closed_with` is
+the library's call, with work memory that was written to before. VTK's filter (vtkFeatureEdges) is asked for boundary
+edges, which are those of one quad, and for non-manifold edges, which are those of more than two.
+
+- VTK has the same vertices, as doubles, and the same quads as its own polygons before the time begins, and only its
+  call Update() is timed. It takes the memory for its links and its edges within that time. It goes through all quads.
+- The library goes through all sides of a closed list. Of an open list it links all sides and then stops at the first
+  at fault, so the ratio there tells little. The meshes of noise are open at the faces of the box. `sealed` is the same
+  block with all samples on those faces set to 0, and its mesh is closed.
+- The two do not ask the same. The library's rule is that each side is walked as often one way as the other. VTK does
+  not look at the way. A side that four quads walk, twice each way, is in order here and non-manifold for VTK.
+- No memory: VTK 9.1.0 first asks for room for a tenth of the vertices times a twentieth of them, 8 bytes each. Where it
+  gets none, it ends the process.
+- Checked: the mesh is closed where no sample on the faces of the box is metal. The side where a mesh is open is at
+  fault, counted over all quads. VTK finds no boundary edge in a closed mesh.
+"""
+
 SIZES_TEXT = """
 What each program made. A doubtful face is one with four crossed edges. Checked: Flying Edges has a point for each
 crossed edge, OpenVDB a quad for each crossed edge and for each step out of the block from metal, Marching Cubes 99 to
@@ -239,13 +299,15 @@ def main():
         print_growth(blocks)
     print_text(FILES_TEXT)
     print_files(words, blocks)
+    print_text(CLOSED_TEXT)
+    print_closed(words, blocks)
     print_text(SIZES_TEXT)
     print_sizes(peers, blocks)
-    wrong = faults(peers, blocks)
+    wrong = faults(peers, blocks) + closed_faults(blocks)
     for fault in wrong:
         print(fault)
     if peers and not wrong:
-        print("All sizes passed these checks.")
+        print("All meshes passed these checks.")
     sys.exit(1 if wrong else 0)
 
 

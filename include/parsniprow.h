@@ -31,8 +31,9 @@
              is above 1000
      14      a quad names a vertex that is     lowest such quad
              not there
-     15      file_len is under the bytes of    bytes needed
-             the file
+     15      file_len is under the bytes of    bytes or items needed
+             the file, or work_len under the
+             items that are worked in
      22      words_len and offsets_len are     words_len
              not twice and three times one
              count of at most 66325500
@@ -117,14 +118,28 @@ void parsniprow_mesh(uint32_t nx, uint32_t ny, uint32_t nz, const uint16_t *samp
                      uint32_t *words, size_t words_len, double *offsets, size_t offsets_len, uint32_t *quads,
                      size_t quads_len, uint32_t *answer, size_t answer_len);
 
-/* Whether a list of quads is closed: each side, as an unordered pair of vertices, is used exactly twice over all quads
-   and has two different ends. By this rule the meshes of many sound pores are open. The empty list is closed.
+/* Whether a list of quads is closed: each side is walked as often one way as the other, over all quads, and has two
+   different ends. The mesh of a block is closed where all samples on the six faces of the box are metal, and where all
+   are hollow. The empty list is closed.
    ITS TIME GROWS WITH THE SQUARE OF THE LIST, unless a fault is found early: 10000 quads take some two seconds, 100000
-   some minutes.
+   some minutes. For the list of a mesh ask parsniprow_closed_with.
      quads   4 vertex numbers a quad, any numbers; side s of a quad runs from its vertex s to the next, 3 back to 0
      answer  answer place, 4 items: 0, 1, 0, 0 if closed; 0, 0, quad, side of the first side at fault, by quad and then
              by side; or refusal 7, its value, 0, 0. A quad above 4294967295 is given as that */
 void parsniprow_closed(const uint32_t *quads, size_t quads_len, uint32_t *answer, size_t answer_len);
+
+/* The same question and the same answer, with lent memory to work in. Its time grows with the list, and with the number
+   of sides that start at one vertex; in a mesh of parsniprow_mesh these are at most 12. A list in which most sides
+   start at the same vertex still takes the square of its length.
+     quads   as of parsniprow_closed
+     work    one item for each vertex number from 0 to the highest in the list, then one for each item of quads. For a
+             mesh of parsniprow_mesh vertices + 4 * quads items are enough. More room is allowed
+     answer  answer place, 4 items: as of parsniprow_closed; or refusal (7 or 15, tried in this order), its value, 0, 0
+   At exit item v of work is the first side that starts at vertex v. The item of a side, behind those of the vertices,
+   is the next side that starts where it does. Side s of quad q is 4 * q + s here, and quads_len stands where there is
+   none. The buffer keeps its contents on refusal, and always behind these items. */
+void parsniprow_closed_with(const uint32_t *quads, size_t quads_len, uint64_t *work, size_t work_len, uint32_t *answer,
+                            size_t answer_len);
 
 /* How many samples are at the detector's ceiling, and which is the first. It looks at the samples alone, so it also
    finds those that leave no mark. It refuses nothing.

@@ -1,5 +1,6 @@
 /* Compares the library with the plain implementation on many random blocks, edges, cubes, lists of quads, lists of
-   samples and meshes that become files: the answers, and every byte of every lent buffer, with what is beside it.
+   samples and meshes that become files: the answers, and every byte of every lent buffer, with what is beside it. Of
+   blocks that have a margin of one sign the mesh must be closed.
    Usage: compare [blocks [seed [first block]]].
    From 20,000 blocks on it also tries what takes seconds, and fails if something that it should try never occurred. The
    last line is a summary, and the exit status is 0 only if nothing differed and nothing was missing.
@@ -15,9 +16,10 @@
 
 enum { DEFAULT_BLOCKS = 20000, DEFAULT_SEED = 1, ENOUGH_BLOCKS = 20000, LINE = 118, MOST_MISSING = 64 };
 
-static const char *const function_names[FUNCTIONS] = {"parsniprow_edge",   "parsniprow_cube",     "parsniprow_counts",
-                                                      "parsniprow_mesh",   "parsniprow_closed",   "parsniprow_ceilings",
-                                                      "parsniprow_ply"};
+static const char *const function_names[FUNCTIONS] = {
+    "parsniprow_edge",   "parsniprow_cube",        "parsniprow_counts",   "parsniprow_mesh",
+    "parsniprow_closed", "parsniprow_closed_with", "parsniprow_ceilings", "parsniprow_ply",
+};
 
 static uint64_t asked[FUNCTIONS][BESIDES], differences;
 static char occasion[120];
@@ -68,6 +70,14 @@ struct lying choose_lying(struct chance *chance)
 size_t choose_reach(struct chance *chance, size_t need)
 {
     return chance_in_100(chance, 70) ? need : (size_t)chance_below(chance, need + 4);
+}
+
+size_t choose_room(struct chance *chance, size_t need, int is_short)
+{
+    uint64_t how = chance_below(chance, 10);
+    if (is_short)
+        return how < 5 ? need - 1 : how < 7 ? 0 : (size_t)chance_below(chance, need);
+    return how < 5 ? need : how < 7 ? need + 1 : how < 8 ? need + 2 : need + (size_t)chance_below(chance, 60);
 }
 
 /* ---- what has occurred ---- */
@@ -137,6 +147,8 @@ static void try_fixed(void)
     try_fixed_ceilings();
     working_on(strcpy(occasion, "among the files that are asked once"));
     try_fixed_files();
+    working_on(strcpy(occasion, "among the blocks with a margin that are asked once"));
+    try_fixed_margins();
 }
 
 static void try_with_block(uint64_t seed, uint64_t block)
@@ -153,6 +165,8 @@ static void try_with_block(uint64_t seed, uint64_t block)
     try_lists(&trial);
     try_ceilings(&trial);
     try_files(&trial);
+    if (block % 2 == 0)
+        try_margin(&trial);
 }
 
 static void print_missing(void)
@@ -163,7 +177,7 @@ static void print_missing(void)
 
 static int report(uint64_t blocks)
 {
-    uint64_t edges, cubes, lists, ceilings, files;
+    uint64_t edges, cubes, lists, ceilings, files, margins;
     char of_missing[40] = "";
     int enough = blocks >= ENOUGH_BLOCKS;
     tally_blocks();
@@ -172,6 +186,7 @@ static int report(uint64_t blocks)
     lists = tally_lists();
     ceilings = tally_ceilings();
     files = tally_files();
+    margins = tally_margins();
     tally_asked();
     printf("\n");
     if (enough) {
@@ -179,9 +194,10 @@ static int report(uint64_t blocks)
         snprintf(of_missing, sizeof of_missing, "%zu cases missing, ", missing_count);
     }
     printf("compare: %llu blocks, %llu edges, %llu cubes, %llu lists of quads, %llu of samples, %llu files, "
-           "%s%llu differences\n",
+           "%llu blocks with a margin, %s%llu differences\n",
            (unsigned long long)blocks, (unsigned long long)edges, (unsigned long long)cubes, (unsigned long long)lists,
-           (unsigned long long)ceilings, (unsigned long long)files, of_missing, (unsigned long long)differences);
+           (unsigned long long)ceilings, (unsigned long long)files, (unsigned long long)margins, of_missing,
+           (unsigned long long)differences);
     return differences > 0 || (enough && missing_count > 0);
 }
 

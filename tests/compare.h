@@ -14,6 +14,7 @@
 #define parsniprow_counts plain_counts
 #define parsniprow_mesh plain_mesh
 #define parsniprow_closed plain_closed
+#define parsniprow_closed_with plain_closed_with
 #define parsniprow_ceilings plain_ceilings
 #define parsniprow_ply plain_ply
 #endif
@@ -23,7 +24,7 @@ enum { ANSWER = 3, CLOSED_ANSWER = 4, LOOPS = 4, COORDINATES = 12, MOST_SHIFT = 
 /* The mark of a vertex whose cube has a corner at the ceiling, a bit of its word. */
 enum { MARK = 4096 };
 
-enum function { EDGE, CUBE, COUNTS, MESH, CLOSED, CEILINGS, PLY, FUNCTIONS };
+enum function { EDGE, CUBE, COUNTS, MESH, CLOSED, CLOSED_WITH, CEILINGS, PLY, FUNCTIONS };
 
 /* ---- judging a call ---- */
 
@@ -48,6 +49,9 @@ int first_to_fail(const char *what);
 struct lying choose_lying(struct chance *chance);
 size_t choose_reach(struct chance *chance, size_t need);
 
+/* A random length for a buffer that needs so many items: at or above the need, or below it where short is set. */
+size_t choose_room(struct chance *chance, size_t need, int is_short);
+
 /* ---- what has occurred ---- */
 
 /* Prints a title, then under it how often each case occurred. A case that never did is missing. */
@@ -69,13 +73,26 @@ struct trial {
 };
 
 /* Asks the counts and the mesh of a block and fills in the trial but for its chance; then what goes with the block:
-   some edges, some of its cubes, some lists of quads, its samples at the ceiling, some files. */
+   some edges, some of its cubes, some lists of quads, its samples at the ceiling, some files, and another block, whose
+   samples on the faces of the box are all of one sign. */
 void try_block(struct trial *trial);
 void try_edges(struct trial *trial);
 void try_cubes(struct trial *trial);
 void try_lists(struct trial *trial);
 void try_ceilings(struct trial *trial);
 void try_files(struct trial *trial);
+void try_margin(struct trial *trial);
+
+/* The closed question takes the square of a list without work, so it is asked so only up to this many quads. */
+enum { SQUARE_QUADS = 352 };
+
+/* What plain says of a list: is it closed, and is some side walked more than once one way? */
+struct closure {
+    int is_closed, is_walked_again;
+};
+
+/* Asks, without work and with enough of it, whether the quads of a mesh with so many vertices are closed. */
+struct closure try_list_of_mesh(struct chance *chance, const uint32_t *quads, size_t quad_count, size_t vertex_count);
 
 /* What is asked once, whatever the blocks. */
 void try_fixed_blocks(void);
@@ -84,6 +101,7 @@ void try_fixed_cubes(void);
 void try_fixed_lists(void);
 void try_fixed_ceilings(void);
 void try_fixed_files(void);
+void try_fixed_margins(void);
 
 /* What takes seconds, and is asked only with enough blocks. */
 void try_longest_file(void);
@@ -95,5 +113,6 @@ uint64_t tally_cubes(void);
 uint64_t tally_lists(void);
 uint64_t tally_ceilings(void);
 uint64_t tally_files(void);
+uint64_t tally_margins(void);
 
 #endif

@@ -73,15 +73,6 @@ static unsigned choose_faults(struct chance *chance)
     return faults;
 }
 
-/* A length at or above the need, or below it where short is set. */
-static size_t choose_room(struct chance *chance, size_t need, int is_short)
-{
-    uint64_t how = chance_below(chance, 10);
-    if (is_short)
-        return how < 5 ? need - 1 : how < 7 ? 0 : (size_t)chance_below(chance, need);
-    return how < 5 ? need : how < 7 ? need + 1 : how < 8 ? need + 2 : need + (size_t)chance_below(chance, 60);
-}
-
 static void choose_rooms(struct chance *chance, struct call *call, size_t vertices, size_t quads)
 {
     uint64_t which = chance_below(chance, 3);

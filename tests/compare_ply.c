@@ -532,14 +532,6 @@ static void spoil_quads(struct chance *chance, struct call *call, const struct s
     } while (chance_in_100(chance, 40));
 }
 
-static size_t choose_room(struct chance *chance, size_t need, int is_short)
-{
-    uint64_t how = chance_below(chance, 10);
-    if (is_short)
-        return how < 5 ? need - 1 : how < 7 ? 0 : (size_t)chance_below(chance, need);
-    return how < 6 ? need : how < 8 ? need + 1 : need + (size_t)chance_below(chance, 60);
-}
-
 /* The lengths, the spacing and what else is not in a buffer. */
 static struct call choose_call(struct chance *chance, const struct source *source)
 {

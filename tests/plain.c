@@ -373,6 +373,11 @@ static struct refusal check_block(uint32_t nx, uint32_t ny, uint32_t nz, size_t 
     return check_threshold(t);
 }
 
+static struct refusal check_rest(size_t quads_len)
+{
+    return quads_len % SIDES != 0 ? refuse(7, (uint32_t)(quads_len % SIDES)) : accepted;
+}
+
 /* ---- answer places ---- */
 
 /* A value above 4294967295 is given as that. */
@@ -421,60 +426,93 @@ static struct block block_of(uint32_t nx, uint32_t ny, uint32_t nz, const uint16
 
 /* ---- sides of a list of quads ---- */
 
-/* A side by its ends, the lower number first, and where it stands: 4 times its quad, plus its number there. */
+/* A side by the vertices that it runs from and to, and where it stands: 4 times its quad, plus its number there. */
 struct side {
-    uint32_t low, high;
+    uint32_t from, to;
     size_t at;
 };
 
+static int by_number(size_t a, size_t b)
+{
+    return a < b ? -1 : a > b;
+}
+
+/* Sides between the same two vertices are equal here, whichever way they run. */
 static int by_ends(const void *a, const void *b)
 {
     const struct side *x = a, *y = b;
-    if (x->low != y->low)
-        return x->low < y->low ? -1 : 1;
-    if (x->high != y->high)
-        return x->high < y->high ? -1 : 1;
-    return 0;
+    int x_up = x->from < x->to, y_up = y->from < y->to;
+    int by_low = by_number(x_up ? x->from : x->to, y_up ? y->from : y->to);
+    return by_low != 0 ? by_low : by_number(x_up ? x->to : x->from, y_up ? y->to : y->from);
 }
 
-static struct side side_at(const uint32_t *quads, size_t at)
+/* By the vertex that a side starts at, then as they stand in the list. */
+static int by_start(const void *a, const void *b)
 {
-    uint32_t from = quads[at], to = quads[at % SIDES == SIDES - 1 ? at - (SIDES - 1) : at + 1];
-    struct side side;
-    side.low = from < to ? from : to;
-    side.high = from < to ? to : from;
-    side.at = at;
-    return side;
+    const struct side *x = a, *y = b;
+    int by_from = by_number(x->from, y->from);
+    return by_from != 0 ? by_from : by_number(x->at, y->at);
 }
 
-/* Where the first side at fault stands, or count where there is none: equal sides stand together once they are
-   sorted. */
-static size_t first_fault(struct side *sides, size_t count)
-{
-    size_t fault = count;
-    qsort(sides, count, sizeof *sides, by_ends);
-    for (size_t from = 0, to; from < count; from = to) {
-        for (to = from + 1; to < count && by_ends(&sides[from], &sides[to]) == 0; to++)
-            ;
-        if (to - from == 2 && sides[from].low != sides[from].high)
-            continue;
-        for (size_t i = from; i < to; i++)
-            fault = sides[i].at < fault ? sides[i].at : fault;
-    }
-    return fault;
-}
-
-static size_t first_side_at_fault(const uint32_t *quads, size_t quads_len)
+/* All sides of a list, sorted. The caller frees them. */
+static struct side *sorted_sides(const uint32_t *quads, size_t quads_len, int (*order)(const void *, const void *))
 {
     struct side *sides = malloc((quads_len + 1) * sizeof *sides);
-    size_t fault;
     if (!sides)
         impossible("no memory");
-    for (size_t at = 0; at < quads_len; at++)
-        sides[at] = side_at(quads, at);
-    fault = first_fault(sides, quads_len);
+    for (size_t at = 0; at < quads_len; at++) {
+        sides[at].from = quads[at];
+        sides[at].to = quads[at % SIDES == SIDES - 1 ? at - (SIDES - 1) : at + 1];
+        sides[at].at = at;
+    }
+    qsort(sides, quads_len, sizeof *sides, order);
+    return sides;
+}
+
+/* Where the first side at fault stands, or quads_len where there is none. Sides between the same two vertices stand
+   together once they are sorted: either all of them are in order or none is. */
+static size_t first_side_at_fault(const uint32_t *quads, size_t quads_len)
+{
+    struct side *sides = sorted_sides(quads, quads_len, by_ends);
+    size_t fault = quads_len;
+    for (size_t first = 0, end; first < quads_len; first = end) {
+        size_t up = 0, down = 0;
+        for (end = first; end < quads_len && by_ends(&sides[first], &sides[end]) == 0; end++) {
+            up += sides[end].from < sides[end].to;
+            down += sides[end].from > sides[end].to;
+        }
+        if (sides[first].from != sides[first].to && up == down)
+            continue;
+        for (size_t i = first; i < end; i++)
+            fault = sides[i].at < fault ? sides[i].at : fault;
+    }
     free(sides);
     return fault;
+}
+
+/* How many vertex numbers there are from 0 to the highest in the list. */
+static uint64_t numbers_up_to_highest(const uint32_t *quads, size_t quads_len)
+{
+    uint64_t numbers = 0;
+    for (size_t at = 0; at < quads_len; at++)
+        if (quads[at] >= numbers)
+            numbers = (uint64_t)quads[at] + 1;
+    return numbers;
+}
+
+/* For each of so many vertices the first side that starts there; then for each side the next one that starts where it
+   does; quads_len where there is none. Sides that start at one vertex stand one behind the other once they are
+   sorted. */
+static void write_starts(const uint32_t *quads, size_t quads_len, size_t vertices, uint64_t *work)
+{
+    struct side *sides = sorted_sides(quads, quads_len, by_start);
+    for (size_t i = 0; i < vertices + quads_len; i++)
+        work[i] = quads_len;
+    for (size_t i = 0; i < quads_len; i++) {
+        int is_first = i == 0 || sides[i - 1].from != sides[i].from;
+        work[is_first ? sides[i].from : vertices + sides[i - 1].at] = sides[i].at;
+    }
+    free(sides);
 }
 
 /* ---- the PLY file ---- */
@@ -524,9 +562,9 @@ static struct refusal check_offsets(const struct drawing *drawing)
     return accepted;
 }
 
-static struct refusal check_rest(const struct drawing *drawing)
+static struct refusal check_list(const struct drawing *drawing)
 {
-    return drawing->quads_len % SIDES != 0 ? refuse(7, (uint32_t)(drawing->quads_len % SIDES)) : accepted;
+    return check_rest(drawing->quads_len);
 }
 
 static struct refusal check_spacing(const struct drawing *drawing)
@@ -568,7 +606,7 @@ static uint64_t file_bytes(const struct drawing *drawing)
 static struct refusal check_drawing(const struct drawing *drawing, size_t file_len)
 {
     static struct refusal (*const checks[])(const struct drawing *) = {check_lengths, check_cubes,   check_offsets,
-                                                                       check_rest,    check_spacing, check_quads};
+                                                                       check_list,    check_spacing, check_quads};
     uint64_t needed = file_bytes(drawing);
     for (size_t i = 0; i < sizeof checks / sizeof *checks; i++) {
         struct refusal refusal = checks[i](drawing);
@@ -701,13 +739,14 @@ void plain_mesh(uint32_t nx, uint32_t ny, uint32_t nz, const uint16_t *samples, 
     free(first);
 }
 
-void plain_closed(const uint32_t *quads, size_t quads_len, uint32_t *answer, size_t answer_len)
+/* The answer about a list that is refused, or else whether it is closed. */
+static void say_closed(const uint32_t *quads, size_t quads_len, struct refusal refusal, uint32_t *answer,
+                       size_t answer_len)
 {
     uint32_t items[CLOSED_ANSWER] = {0};
-    if (quads_len % SIDES != 0) {
-        items[0] = 7;
-        items[1] = (uint32_t)(quads_len % SIDES);
-    } else {
+    items[0] = refusal.number;
+    items[1] = refusal.value;
+    if (!refusal.number) {
         size_t at = first_side_at_fault(quads, quads_len);
         items[1] = at == quads_len;
         if (at < quads_len) {
@@ -716,6 +755,23 @@ void plain_closed(const uint32_t *quads, size_t quads_len, uint32_t *answer, siz
         }
     }
     put_words(answer, answer_len, items, CLOSED_ANSWER);
+}
+
+void plain_closed(const uint32_t *quads, size_t quads_len, uint32_t *answer, size_t answer_len)
+{
+    say_closed(quads, quads_len, check_rest(quads_len), answer, answer_len);
+}
+
+void plain_closed_with(const uint32_t *quads, size_t quads_len, uint64_t *work, size_t work_len, uint32_t *answer,
+                       size_t answer_len)
+{
+    uint64_t vertices = numbers_up_to_highest(quads, quads_len), needed = vertices + quads_len;
+    struct refusal refusal = check_rest(quads_len);
+    if (!refusal.number && needed > work_len)
+        refusal = refuse(15, cut_to_u32(needed));
+    if (!refusal.number)
+        write_starts(quads, quads_len, (size_t)vertices, work);
+    say_closed(quads, quads_len, refusal, answer, answer_len);
 }
 
 void plain_ceilings(const uint16_t *samples, size_t samples_len, uint32_t *answer, size_t answer_len)

@@ -31,9 +31,16 @@ void plain_mesh(uint32_t nx, uint32_t ny, uint32_t nz, const uint16_t *samples, 
                 uint32_t *words, size_t words_len, double *offsets, size_t offsets_len, uint32_t *quads,
                 size_t quads_len, uint32_t *answer, size_t answer_len);
 
-/* The closed question. Answer: 0, 1, 0, 0 where the list is closed; 0, 0, quad, side of the first side at fault; or
-   refusal 7, its value, 0, 0. */
+/* The closed question: a side is in order if it has two different ends and, over all quads, as many sides run one way
+   between them as the other. Answer: 0, 1, 0, 0 where the list is closed; 0, 0, quad, side of the first side at fault;
+   or refusal 7, its value, 0, 0. */
 void plain_closed(const uint32_t *quads, size_t quads_len, uint32_t *answer, size_t answer_len);
+
+/* The same with work: for each number from 0 to the highest in the list the first side that starts at this vertex, then
+   for each side the next one that starts where it does; side s of quad q is 4 * q + s, and quads_len stands where there
+   is none. Answer as of plain_closed, with refusals 7, 15. The work is kept on refusal, and behind these items always. */
+void plain_closed_with(const uint32_t *quads, size_t quads_len, uint64_t *work, size_t work_len, uint32_t *answer,
+                       size_t answer_len);
 
 /* The samples at the ceiling. Answer: 0, how many there are, the lowest index of one or, where there is none,
    samples_len; a number above 4294967295 is given as that. No refusal. */

@@ -1,7 +1,7 @@
 /* Runs the plain implementation on the paper's samples: the example block with its whole output, the nine cubes, the
    edges, the refusals, lists of quads and the table of faces; on samples at the ceiling, which are metal and leave a
-   mark; and on files of the example's mesh and of the empty one. Prints each sample and its verdict; exits with 1 if
-   one differs.
+   mark; on a pore of two samples, whose mesh is closed; on the work of the closed question; and on files of the
+   example's mesh and of the empty one. Prints each sample and its verdict; exits with 1 if one differs.
    Assumes nothing of the library. */
 #include "bench_cubes.h"
 #include "plain.h"
@@ -291,32 +291,113 @@ static void ceilings_of_blocks(void)
 
 /* ---- lists of quads ---- */
 
+enum { LIST_WORK = 64, KEPT = 9 };
+
+/* Asked without work and with more of it than the list needs. */
 static void list(const char *name, const uint32_t *quads, size_t quads_len, uint32_t number, uint32_t second,
                  uint32_t quad, uint32_t side)
 {
-    uint32_t answer[CLOSED_ANSWER];
+    uint32_t answer[CLOSED_ANSWER], answer_with[CLOSED_ANSWER];
+    uint64_t work[LIST_WORK];
     plain_closed(quads, quads_len, answer, CLOSED_ANSWER);
-    verdict(name, says(answer, number, second, quad) && answer[3] == side);
+    plain_closed_with(quads, quads_len, work, LIST_WORK, answer_with, CLOSED_ANSWER);
+    verdict(name, says(answer, number, second, quad) && answer[3] == side &&
+                      memcmp(answer, answer_with, sizeof answer) == 0);
 }
 
 /* The paper's samples first, then its rule where it is easily missed; these are worked out by hand. */
 static void lists(void)
 {
-    static const uint32_t alone[] = {0, 1, 2, 3}, twice[] = {0, 1, 2, 3, 1, 2, 3, 0};
+    static const uint32_t alone[] = {0, 1, 2, 3}, twice[] = {0, 1, 2, 3, 0, 1, 2, 3};
+    static const uint32_t begun_elsewhere[] = {0, 1, 2, 3, 1, 2, 3, 0}, both_ways[] = {0, 1, 2, 3, 3, 2, 1, 0};
     static const uint32_t folded[] = {0, 1, 2, 1}, narrow[] = {0, 1, 0, 1};
-    static const uint32_t equal[] = {5, 5, 6, 7, 5, 5, 6, 7}, late[] = {0, 1, 2, 1, 3, 4, 5, 4, 6, 7, 8, 8};
+    static const uint32_t equal[] = {0, 0, 1, 2, 2, 1, 0, 0}, late[] = {0, 1, 2, 1, 3, 4, 5, 4, 6, 7, 7, 6};
     static const uint32_t last[] = {0, 1, 2, 1, 0, 3, 4, 4};
+    static const uint32_t twice_back[] = {0, 1, 2, 1, 1, 0, 3, 4}, twice_there[] = {5, 6, 5, 6, 0, 1, 0, 2, 3, 4, 0, 1};
     list("quad 0,1,2,3 alone: open at quad 0, side 0", alone, 4, 0, 0, 0, 0);
     list("empty list: closed", alone, 0, 0, 1, 0, 0);
     list("length 1: 7, value 1", alone, 1, 7, 1, 0, 0);
     list("length 3: 7, value 3", alone, 3, 7, 3, 0, 0);
     list("length 6: 7, value 2", twice, 6, 7, 2, 0, 0);
-    list("a quad twice: closed", twice, 8, 0, 1, 0, 0);
+    list("a quad twice: open at quad 0, side 0", twice, 8, 0, 0, 0, 0);
+    list("the same, begun elsewhere: open", begun_elsewhere, 8, 0, 0, 0, 0);
+    list("a quad and its reverse: closed", both_ways, 8, 0, 1, 0, 0);
     list("quad 0,1,2,1: closed", folded, 4, 0, 1, 0, 0);
-    list("quad 0,1,0,1: four uses, open", narrow, 4, 0, 0, 0, 0);
-    list("equal ends used twice: open", equal, 8, 0, 0, 0, 0);
-    list("fault in quad 2", late, 12, 0, 0, 2, 0);
-    list("fault in quad 1", last, 8, 0, 0, 1, 0);
+    list("quad 0,1,0,1: twice each way, closed", narrow, 4, 0, 1, 0, 0);
+    list("equal ends, all else in order: open", equal, 8, 0, 0, 0, 0);
+    list("equal ends in quad 2, side 1", late, 12, 0, 0, 2, 1);
+    list("one way only in quad 1, side 0", last, 8, 0, 0, 1, 0);
+    list("once there, twice back: at quad 0, side 0", twice_back, 8, 0, 0, 0, 0);
+    list("twice there, once back: at quad 1, side 0", twice_there, 12, 0, 0, 1, 0);
+}
+
+/* So much work is lent, and it must hold this at its front and else what it held. */
+static void work(const char *name, const uint32_t *quads, size_t quads_len, size_t work_len, uint32_t number,
+                 uint32_t second, const uint64_t *wanted, size_t wanted_len)
+{
+    uint32_t answer[CLOSED_ANSWER];
+    uint64_t items[LIST_WORK];
+    int is_good;
+    for (size_t i = 0; i < LIST_WORK; i++)
+        items[i] = KEPT;
+    plain_closed_with(quads, quads_len, items, work_len, answer, CLOSED_ANSWER);
+    is_good = says(answer, number, second, 0) && answer[3] == 0;
+    for (size_t i = 0; i < LIST_WORK; i++)
+        is_good = is_good && items[i] == (i < wanted_len ? wanted[i] : KEPT);
+    verdict(name, is_good);
+}
+
+static void works(void)
+{
+    static const uint32_t both_ways[] = {0, 1, 2, 3, 3, 2, 1, 0}, folded[] = {4, 1, 2, 1};
+    static const uint32_t highest[] = {0, 1, 2, UINT32_MAX}, at_limit[] = {0, 1, 2, UINT32_MAX - 5};
+    static const uint64_t of_both[] = {0, 1, 2, 3, 7, 6, 5, 4, 8, 8, 8, 8};
+    static const uint64_t of_folded[] = {4, 1, 2, 4, 0, 4, 3, 4, 4};
+    work("work of a quad and its reverse", both_ways, 8, 12, 0, 1, of_both, 12);
+    work("the same with more room", both_ways, 8, 13, 0, 1, of_both, 12);
+    work("room one short: 15, value 12", both_ways, 8, 11, 15, 12, NULL, 0);
+    work("no room: 15, value 12", both_ways, 8, 0, 15, 12, NULL, 0);
+    work("work of quad 4,1,2,1", folded, 4, LIST_WORK, 0, 1, of_folded, 9);
+    work("work of the empty list", folded, 0, 0, 0, 1, NULL, 0);
+    work("length 3 without room: 7 before 15", folded, 3, 0, 7, 3, NULL, 0);
+    work("4294967295 items needed", at_limit, 4, LIST_WORK, 15, UINT32_MAX, NULL, 0);
+    work("4294967300 items needed: cut", highest, 4, LIST_WORK, 15, UINT32_MAX, NULL, 0);
+}
+
+/* ---- a pore of two samples ---- */
+
+enum { PORE_SAMPLES = 48, PORE_VERTICES = 14, PORE_QUADS = 12 };
+
+/* Where the first side stands that is not used exactly twice, whichever way it runs. */
+static size_t first_not_used_twice(const uint32_t *quads, size_t quads_len)
+{
+    for (size_t at = 0; at < quads_len; at++) {
+        unsigned uses = 0;
+        for (size_t other = 0; other < quads_len; other++) {
+            uint32_t a = quads[at], b = quads[at / 4 * 4 + (at + 1) % 4];
+            uint32_t c = quads[other], d = quads[other / 4 * 4 + (other + 1) % 4];
+            uses += (a == c && b == d) || (a == d && b == c);
+        }
+        if (uses != 2)
+            return at;
+    }
+    return quads_len;
+}
+
+/* Two samples across a face of two cubes, and all others of the other sign: four quads join two of the vertices. So
+   the mesh is closed, though a side of quad 1 is used four times. */
+static void pore_of_two(const char *name, uint16_t two, uint16_t others, size_t side)
+{
+    uint16_t samples[PORE_SAMPLES];
+    uint32_t words[2 * PORE_VERTICES], quads[4 * PORE_QUADS], answer[ANSWER];
+    double offsets[3 * PORE_VERTICES];
+    for (size_t index = 0; index < PORE_SAMPLES; index++)
+        samples[index] = others;
+    samples[1 + 4 * (1 + 4)] = samples[2 + 4 * (2 + 4)] = two;
+    plain_mesh(4, 4, 3, samples, PORE_SAMPLES, 100, words, 2 * PORE_VERTICES, offsets, 3 * PORE_VERTICES, quads,
+               4 * PORE_QUADS, answer, ANSWER);
+    verdict(name, says(answer, 0, PORE_VERTICES, PORE_QUADS) && closed(quads, PORE_QUADS) &&
+                      first_not_used_twice(quads, 4 * PORE_QUADS) == 4 * 1 + side);
 }
 
 /* ---- files ---- */
@@ -395,6 +476,9 @@ int main(void)
     refusals();
     ceilings_of_blocks();
     lists();
+    works();
+    pore_of_two("a pore of two samples: closed", 300, 0, 1);
+    pore_of_two("the same of the other sign: closed", 0, 150, 2);
     files();
     example();
     printf("plain_samples: %u differences\n", failures);

@@ -11,36 +11,11 @@ use native.Mathlib.Omega.{arith}
 use lib.ListN.{length, getD}
 use Rattle.laws.specs.Bits.{bit}
 use Rattle.laws.specs.Counting.{count}
-use Rattle.laws.proofs.Counting.{count-add}
+use Rattle.laws.proofs.Counting.{count-next, count-clear, clear-count, count-add}
 use Rattle.laws.proofs.Tests.{lt-or-ge}
 use Rattle.block.specs.Ceilings.{ceilingsBefore}
 use Rattle.block.specs.Grey.{isCeiling}
 use Rattle.block.specs.Steps.{ClearBefore, CountedTo}
-
-pub count-none : (f : ℕ → Bool) → count f 0 ≡ 0
-unfolding count
-count-none f = refl
-
-pub count-next : (f : ℕ → Bool) (n : ℕ) → count f (n + 1) ≡ count f n + bit (f n)
-unfolding count
-count-next f n = ap (count f) (add-one n)
-
--- none counted, none there
-pub count-clear : (f : ℕ → Bool) (n : ℕ) → count f n ≡ 0 → (k : ℕ) → k < n → f k ≡ false
-unfolding count
-count-clear f zero e k h = absurd (not-suc-le-zero h)
-count-clear f (suc n) e k h =
-    ⊎-elim (λ (i : k ≡ n). ap f i ∙ off (f n) (omega arith)) (λ (l : k < n). count-clear f n (omega arith) k l) (eq-or-lt-of-le (le-of-suc-le-suc h))
-  where
-    off : (b : Bool) → bit b ≡ 0 → b ≡ false
-    off true e = absurd (omega arith)
-    off false e = refl
-
--- none there, none counted
-pub clear-count : (f : ℕ → Bool) (n : ℕ) → ((k : ℕ) → k < n → f k ≡ false) → count f n ≡ 0
-unfolding count
-clear-count f zero h = refl
-clear-count f (suc n) h = rw (clear-count f n (λ k l. h k (omega arith)), h n (omega arith))
 
 -- 256 samples more
 pub clear-more : (s : List ℕ) (i : ℕ) → i + 256 ≤ length s → ClearBefore s i → count (λ (x : ℕ). isCeiling (getD s (i + x) 0)) 256 ≡ 0 → ClearBefore s (i + 256)

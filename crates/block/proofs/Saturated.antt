@@ -15,7 +15,7 @@ use Rattle.block.specs.Answer.{given}
 use Rattle.block.specs.Ceilings.{ceilingsBefore, ceilingsIn, AtCeiling, LowestCeiling}
 use Rattle.block.specs.Grey.{ceiling, isCeiling, hasCeiling}
 use Rattle.block.specs.Rows.{lowest}
-use Rattle.block.proofs.ClearRuns.{count-clear, clear-count}
+use Rattle.laws.proofs.Counting.{count-clear, clear-count}
 use Rattle.block.proofs.Lowest.{lowest-there, lowest-before}
 
 -- ---- some sample is at the ceiling

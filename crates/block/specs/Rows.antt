@@ -1,8 +1,8 @@
--- Rows 1 to 3 of the table of refusals, each as a check of its own (document 01, "Numbers of refusal").
+-- Rows 1 to 3 and 15 of the table of refusals, each as a check of its own (document 01, "Numbers of refusal"; document 02, Three and Four).
 use Prim.Native.Nat.{ℕ, suc}
 use mathlib.Core.Bool.{Bool, cond, _||_}
 use mathlib.Core.List.{List, [], _∷_}
-use lib.Dec.{ltb, eqb}
+use lib.Dec.{ltb, leb, eqb}
 use lib.ListN.{length}
 use Rattle.laws.specs.Leading.{leading}
 use Rattle.block.specs.declared.Checked.{Checked}
@@ -49,3 +49,7 @@ countRow n count = cond (eqb count (sampleCount n)) Passes (refuses 2 (sampleCou
 -- 3: t is 0 or 65,535; t
 abbrev pub thresholdRow : Cut → Checked
 thresholdRow cut = cond (noThreshold cut) (refuses 3 (cut .t)) Passes
+
+-- 15: "too little room"; what is needed
+abbrev pub roomRow : ℕ → ℕ → Checked
+roomRow needed room = cond (leb needed room) Passes (refuses 15 needed)

@@ -1,4 +1,4 @@
-// The block: its size, the threshold, refusals by number, the checks of rows 1 to 3 (document 01, "The block and its numbering" and
+// The block: its size, the threshold, refusals by number, the checks of rows 1 to 3 and 15 (document 01, "The block and its numbering" and
 // "Numbers of refusal"), and the samples at the detector's ceiling.
 ghost use mathlib.Core.Path.{_≡_};
 ghost use Prim.Native.Nat.{ℕ, _+_, _≤_};
@@ -10,7 +10,7 @@ ghost use Rattle.block.specs.Answer.{given};
 ghost use Rattle.block.specs.Ceilings.{ceilingsBefore, ceilingsIn};
 ghost use Rattle.block.specs.Grey.{isCeiling};
 ghost use Rattle.block.specs.Numbering.{sampleCount};
-ghost use Rattle.block.specs.Rows.{countRow, thresholdRow, lowest};
+ghost use Rattle.block.specs.Rows.{countRow, thresholdRow, roomRow, lowest};
 ghost use Rattle.block.specs.Steps.{ClearBefore};
 ghost use Rattle.block.specs.Size.{Limits, SizeMade};
 
@@ -155,6 +155,16 @@ pub fn refuse(number: u32, value: u32) -> Checked
         number: number,
         value: value,
     })
+}
+
+// Row 15: there is too little room.
+pub fn check_room(needed: usize, room: usize) -> Checked
+    ensures { λ r. ⌜ r ≡ roomRow needed room ⌝ }
+{
+    if needed <= room {
+        return Checked::Passes;
+    }
+    refuse(15, short(needed))
 }
 
 // A number in an answer: above 4,294,967,295 it is given as that.

@@ -1,10 +1,10 @@
--- The definitions say what document 01 says: a list is closed exactly if each side is used exactly twice and has two different ends, and
--- otherwise the answer is the first side of which that is not so. Then the examples of 01.
+-- The definitions say what documents 01 and 02 say: a list is closed exactly if each side is walked as often one way as the other and has two
+-- different ends, and otherwise the answer is the first side of which that is not so. Then the examples of 01, and those of document 02, Four.
 -- Assumes nothing.
 use mathlib.Core.Path.{_≡_, refl, ap, subst}
-use mathlib.Core.Bool.{Bool, true, false, cond, not, _&&_, _||_}
+use mathlib.Core.Bool.{Bool, true, false, cond, not, _&&_}
 use mathlib.Core.List.{List, [], _∷_}
-use mathlib.Core.Logic.{_↔_, _⊎_, inl, inr, ⊎-elim}
+use mathlib.Core.Logic.{_↔_}
 use Prim.Native.Nat.{ℕ, _+_, _*_, _/_, _%_, _<_}
 use native.Mathlib.Omega.{arith}
 use lib.Dec.{eqb}
@@ -13,9 +13,10 @@ use borrow.Author.Tests.{eqb-true, eqb-false, eq-eqb, ne-eqb}
 use Rattle.laws.specs.Leading.{leading}
 use Rattle.laws.specs.Counting.{count}
 use Rattle.laws.proofs.Leading.{leading-le, leading-holds, leading-stops}
-use Rattle.closed.specs.Closed.{from, to, sameSide, sideSound, Finding, allSound, openAt, findingOf}
-use Rattle.closed.specs.Steps.{nextPlace, usesBefore, soundSide}
-use Rattle.closed.proofs.Search.{same-forward, same-turned, finding-all, finding-open}
+use Rattle.laws.proofs.Tests.{and-both}
+use Rattle.closed.specs.Closed.{from, to, walked, walks, sideSound, Finding, allSound, openAt, findingOf}
+use Rattle.closed.specs.Steps.{nextPlace, soundSide}
+use Rattle.closed.proofs.Search.{finding-all, finding-open}
 
 -- ---- one side
 
@@ -26,29 +27,19 @@ next-is quads q s h = ap (from quads) (place q s h)
     place : (q s : ℕ) → s < 4 → nextPlace (4 * q + s) ≡ 4 * q + (s + 1) % 4
     place q s h = omega arith
 
--- two sides are the same exactly if they have the same two ends, in either order
-pub same-exactly : (a b c d : ℕ) → (sameSide a b c d ≡ true) ↔ (((a ≡ c) × (b ≡ d)) ⊎ ((a ≡ d) × (b ≡ c)))
-same-exactly a b c d = (
-  (λ t. there (eqb a c) (eqb b d) (eqb a d) (eqb b c) refl refl refl refl t),
-  ⊎-elim (λ h. same-forward a b c d (h .0) (h .1)) (λ h. same-turned a b c d (h .0) (h .1)),
+-- a side is one from a to b exactly if it starts at a and ends at b
+pub walked-exactly : (quads : List ℕ) (a b n : ℕ) → (walked quads a b n ≡ true) ↔ ((from quads n ≡ a) × (to quads n ≡ b))
+walked-exactly quads a b n = (
+  (λ t. let h = and-both (eqb (from quads n) a) (eqb (to quads n) b) t in (eqb-true _ _ (h .0), eqb-true _ _ (h .1))),
+  (λ h. simp (eq-eqb (from quads n) a (h .0), eq-eqb (to quads n) b (h .1))),
 )
-  where
-    there : (x y z w : Bool) → eqb a c ≡ x → eqb b d ≡ y → eqb a d ≡ z → eqb b c ≡ w → (x && y) || (z && w) ≡ true
-        → ((a ≡ c) × (b ≡ d)) ⊎ ((a ≡ d) × (b ≡ c))
-    there true true z w e f g h t = inl (eqb-true a c e, eqb-true b d f)
-    there true false true true e f g h t = inr (eqb-true a d g, eqb-true b c h)
-    there true false true false e f g h t = let z : _≡_ {A = ℕ} 0 1 = cc in absurd (omega arith)
-    there true false false w e f g h t = let z : _≡_ {A = ℕ} 0 1 = cc in absurd (omega arith)
-    there false y true true e f g h t = inr (eqb-true a d g, eqb-true b c h)
-    there false y true false e f g h t = let z : _≡_ {A = ℕ} 0 1 = cc in absurd (omega arith)
-    there false y false w e f g h t = let z : _≡_ {A = ℕ} 0 1 = cc in absurd (omega arith)
 
-sound-exactly : (a b uses : ℕ) → (soundSide a b uses ≡ true) ↔ ((uses ≡ 2) × (a ≡ b → ⊥))
-sound-exactly a b uses = (λ t. there (eqb a b) refl t, λ h. simp (ne-eqb a b (h .1), eq-eqb uses 2 (h .0)))
+sound-exactly : (a b there back : ℕ) → (soundSide a b there back ≡ true) ↔ ((there ≡ back) × (a ≡ b → ⊥))
+sound-exactly a b there back = (λ t. go (eqb a b) refl t, λ h. simp (ne-eqb a b (h .1), eq-eqb there back (h .0)))
   where
-    there : (x : Bool) → eqb a b ≡ x → not x && eqb uses 2 ≡ true → (uses ≡ 2) × (a ≡ b → ⊥)
-    there true e t = let z : _≡_ {A = ℕ} 0 1 = cc in absurd (omega arith)
-    there false e t = (eqb-true uses 2 t, eqb-false a b e)
+    go : (x : Bool) → eqb a b ≡ x → not x && eqb there back ≡ true → (there ≡ back) × (a ≡ b → ⊥)
+    go true e t = let z : _≡_ {A = ℕ} 0 1 = cc in absurd (omega arith)
+    go false e t = (eqb-true there back t, eqb-false a b e)
 
 -- ---- the whole list
 
@@ -74,10 +65,10 @@ found-open sides n q s e = go (eqb n sides) refl e
         (eqb-false n sides h, omega arith, omega arith)
 
 module _ (quads : List ℕ) where
-  -- "used exactly twice over all quads and has two different ends"
+  -- "walked as often one way as the other, over all quads, and has two different ends"
   pub side-exactly : (n : ℕ) → (sideSound quads n ≡ true)
-      ↔ ((count (λ (m : ℕ). sameSide (from quads n) (to quads n) (from quads m) (to quads m)) (length quads) ≡ 2) × (from quads n ≡ to quads n → ⊥))
-  side-exactly n = sound-exactly (from quads n) (to quads n) (usesBefore quads (from quads n) (to quads n) (length quads))
+      ↔ ((walks quads (from quads n) (to quads n) ≡ walks quads (to quads n) (from quads n)) × (from quads n ≡ to quads n → ⊥))
+  side-exactly n = sound-exactly (from quads n) (to quads n) (walks quads (from quads n) (to quads n)) (walks quads (to quads n) (from quads n))
 
   pub closed-exactly : (findingOf quads ≡ allSound) ↔ ((n : ℕ) → n < length quads → sideSound quads n ≡ true)
   unfolding findingOf
@@ -119,3 +110,25 @@ empty = refl
 pub six-quads : findingOf (0 ∷ 4 ∷ 6 ∷ 2 ∷ 1 ∷ 3 ∷ 7 ∷ 5 ∷ 0 ∷ 1 ∷ 5 ∷ 4 ∷ 2 ∷ 6 ∷ 7 ∷ 3 ∷ 0 ∷ 2 ∷ 3 ∷ 1 ∷ 4 ∷ 5 ∷ 7 ∷ 6 ∷ []) ≡ allSound
 unfolding findingOf leading count
 six-quads = refl
+
+-- ---- what else the rule says
+
+-- a quad and the same quad the other way round
+pub there-and-back : findingOf (0 ∷ 1 ∷ 2 ∷ 3 ∷ 3 ∷ 2 ∷ 1 ∷ 0 ∷ []) ≡ allSound
+unfolding findingOf leading count
+there-and-back = refl
+
+-- a quad that goes to and fro on one side: two walks there, two back
+pub to-and-fro : findingOf (0 ∷ 1 ∷ 0 ∷ 1 ∷ []) ≡ allSound
+unfolding findingOf leading count
+to-and-fro = refl
+
+-- two equal quads: every side is used twice, but both times the same way
+pub quad-twice : findingOf (0 ∷ 1 ∷ 2 ∷ 3 ∷ 0 ∷ 1 ∷ 2 ∷ 3 ∷ []) ≡ openAt 0 0
+unfolding findingOf leading count
+quad-twice = refl
+
+-- a side with one end, which is walked as often one way as the other
+pub one-end : findingOf (0 ∷ 0 ∷ 1 ∷ 2 ∷ 2 ∷ 1 ∷ 0 ∷ 0 ∷ []) ≡ openAt 0 0
+unfolding findingOf leading count
+one-end = refl

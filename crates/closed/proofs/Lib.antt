@@ -1,3 +1,5 @@
 pub mod Search
+pub mod Chains
+pub mod With
 pub mod Exactly
 pub mod Fixed

@@ -1,7 +1,7 @@
--- The search for the first side that is not in order: the uses that are counted, the side that is judged, and what the search answers.
+-- The search for the first side that is not in order: the walks that are counted, the side that is judged, and what the search answers.
 -- Assumes nothing.
 use mathlib.Core.Path.{_≡_, refl, sym, _∙_}
-use mathlib.Core.Bool.{Bool, true, false, _&&_, _||_}
+use mathlib.Core.Bool.{Bool, true, false, _&&_}
 use mathlib.Core.List.{List, [], _∷_}
 use Prim.Native.Nat.{ℕ, _+_, _*_, _/_, _%_, _≤_, _<_}
 use native.Mathlib.Numerals.{add-one}
@@ -19,58 +19,47 @@ use Rattle.block.specs.Answer.{accepted, inOrder, judged}
 use Rattle.block.proofs.Order.{order-refuses, order-last, judged-refused, judged-passed}
 use Rattle.lists.specs.Rows.{lengthRow}
 use Rattle.closed.specs.declared.Closure.the-variants as closure
-use Rattle.closed.specs.Closed.{sameSide, sideSound, Finding, allSound, openAt, findingOf, ClosedAnswered}
-use Rattle.closed.specs.Steps.{nextPlace, usesBefore, soundSide}
+use Rattle.closed.specs.Closed.{sideSound, Finding, allSound, openAt, findingOf, ClosedAnswered}
+use Rattle.closed.specs.Steps.{nextPlace, walksBefore, soundSide}
 
--- ---- two sides, and a side with its uses
+-- ---- a side that is one from a to b, and one that is not
 
-pub same-forward : (a b c d : ℕ) → a ≡ c → b ≡ d → sameSide a b c d ≡ true
-same-forward a b c d p q = simp (eq-eqb a c p, eq-eqb b d q)
+pub runs-both : (c d a b : ℕ) → c ≡ a → d ≡ b → 1 ≡ bit (eqb c a && eqb d b)
+runs-both c d a b p q = simp (eq-eqb c a p, eq-eqb d b q)
 
-pub same-turned : (a b c d : ℕ) → a ≡ d → b ≡ c → sameSide a b c d ≡ true
-same-turned a b c d p q = rw (eq-eqb a d p, eq-eqb b c q) (go (eqb a c) (eqb b d))
+pub runs-other : (c d a b : ℕ) → (c ≡ a → d ≡ b → ⊥) → 0 ≡ bit (eqb c a && eqb d b)
+runs-other c d a b f = go (eqb c a) (eqb d b) refl refl
   where
-    go : (x y : Bool) → (x && y) || true ≡ true
-    go true true = refl
-    go true false = refl
-    go false y = refl
+    go : (x y : Bool) → eqb c a ≡ x → eqb d b ≡ y → 0 ≡ bit (x && y)
+    go true true p q = absurd (f (eqb-true c a p) (eqb-true d b q))
+    go true false p q = refl
+    go false y p q = refl
 
-pub same-neither : (a b c d : ℕ) → (a ≡ c → b ≡ d → ⊥) → (a ≡ d → b ≡ c → ⊥) → sameSide a b c d ≡ false
-same-neither a b c d f t = go (eqb a c) (eqb b d) (eqb a d) (eqb b c) (λ x y. f (eqb-true a c x) (eqb-true b d y)) (λ x y. t (eqb-true a d x) (eqb-true b c y))
-  where
-    go : (x y z w : Bool) → (x ≡ true → y ≡ true → ⊥) → (z ≡ true → w ≡ true → ⊥) → (x && y) || (z && w) ≡ false
-    go true true z w f t = absurd (f refl refl)
-    go true false true true f t = absurd (t refl refl)
-    go true false true false f t = refl
-    go true false false w f t = refl
-    go false y true true f t = absurd (t refl refl)
-    go false y true false f t = refl
-    go false y false w f t = refl
+-- ---- a side by its ends and its walks
 
--- a side by its ends and its uses
-pub equal-ends : (a b uses : ℕ) → a ≡ b → false ≡ soundSide a b uses
-equal-ends a b uses e = simp (eq-eqb a b e)
+pub equal-ends : (a b there back : ℕ) → a ≡ b → false ≡ soundSide a b there back
+equal-ends a b there back e = simp (eq-eqb a b e)
 
-pub other-ends : (a b uses : ℕ) → (a ≡ b → ⊥) → eqb uses 2 ≡ soundSide a b uses
-other-ends a b uses h = simp (ne-eqb a b h)
+pub other-ends : (a b there back : ℕ) → (a ≡ b → ⊥) → eqb there back ≡ soundSide a b there back
+other-ends a b there back h = simp (ne-eqb a b h)
 
-pub uses-none : (quads : List ℕ) (a b : ℕ) → 0 ≡ usesBefore quads a b 0
+pub walks-none : (quads : List ℕ) (a b : ℕ) → 0 ≡ walksBefore quads a b 0
 unfolding count
-uses-none quads a b = refl
+walks-none quads a b = refl
 
 -- side m ends at the vertex in place f
-pub uses-more : (quads : List ℕ) (a b used m f s : ℕ) → used ≡ usesBefore quads a b m → f ≡ nextPlace m
-    → s ≡ bit (sameSide a b (getD quads m 0) (getD quads f 0)) → used + s ≡ usesBefore quads a b (m + 1)
+pub walks-more : (quads : List ℕ) (a b found m f s : ℕ) → found ≡ walksBefore quads a b m → f ≡ nextPlace m
+    → s ≡ bit (eqb (getD quads m 0) a && eqb (getD quads f 0) b) → found + s ≡ walksBefore quads a b (m + 1)
 unfolding count
-uses-more quads a b used m f s u g h = rw (add-one m, ← g, ← h, ← u)
+walks-more quads a b found m f s u g h = rw (add-one m, ← g, ← h, ← u)
 
--- what is answered of side n, which ends at the vertex in place e, when all uses are counted
-pub side-judged : (quads : List ℕ) (n e used m : ℕ) (r : Bool) → e ≡ nextPlace n → length quads ≤ m → m ≤ length quads
-    → used ≡ usesBefore quads (getD quads n 0) (getD quads e 0) m
-    → r ≡ soundSide (getD quads n 0) (getD quads e 0) used → sideSound quads n ≡ r
-side-judged quads n e used m r g l k u h =
+-- what is answered of side n, which ends at the vertex in place e, when all walks are counted
+pub side-judged : (quads : List ℕ) (n e there back m : ℕ) (r : Bool) → e ≡ nextPlace n → length quads ≤ m → m ≤ length quads
+    → there ≡ walksBefore quads (getD quads n 0) (getD quads e 0) m → back ≡ walksBefore quads (getD quads e 0) (getD quads n 0) m
+    → r ≡ soundSide (getD quads n 0) (getD quads e 0) there back → sideSound quads n ≡ r
+side-judged quads n e there back m r g l k u v h =
     let end : m ≡ length quads = omega arith in
-    rw (h, u, end, g)
+    rw (h, u, v, end, g)
 
 -- ---- what the search finds
 

@@ -1,7 +1,7 @@
--- When a list of quads is closed, and what the closed question answers (document 01, "The mesh"). Side s of quad q is side 4·q + s of the list.
+-- When a list of quads is closed, and what the closed question answers (document 01, "The mesh"; document 02, Four). Side s of quad q is side 4·q + s of the list.
 use Prim.Native.Nat.{ℕ, _+_, _*_, _/_, _%_}
 use mathlib.Core.Path.{_≡_}
-use mathlib.Core.Bool.{Bool, cond, not, _&&_, _||_}
+use mathlib.Core.Bool.{Bool, cond, not, _&&_}
 use mathlib.Core.List.{List, [], _∷_}
 use lib.Dec.{eqb}
 use lib.ListN.{length, getD}
@@ -19,15 +19,19 @@ from quads n = getD quads n 0
 abbrev pub to : List ℕ → ℕ → ℕ
 to quads n = getD quads (4 * (n / 4) + (n + 1) % 4) 0
 
--- a-b and c-d are the same unordered pair
-abbrev pub sameSide : ℕ → ℕ → ℕ → ℕ → Bool
-sameSide a b c d = (eqb a c && eqb b d) || (eqb a d && eqb b c)
+-- side n is walked from a to b
+abbrev pub walked : List ℕ → ℕ → ℕ → ℕ → Bool
+walked quads a b n = eqb (from quads n) a && eqb (to quads n) b
 
--- side n is "used exactly twice over all quads and has two different ends"
+-- how often a side is walked from a to b, "over all quads"
+abbrev pub walks : List ℕ → ℕ → ℕ → ℕ
+walks quads a b = count (walked quads a b) (length quads)
+
+-- side n "is walked as often one way as the other, over all quads, and has two different ends"
 abbrev pub sideSound : List ℕ → ℕ → Bool
 sideSound quads n =
     not (eqb (from quads n) (to quads n))
-    && eqb (count (λ (m : ℕ). sameSide (from quads n) (to quads n) (from quads m) (to quads m)) (length quads)) 2
+    && eqb (walks quads (from quads n) (to quads n)) (walks quads (to quads n) (from quads n))
 
 -- what is found of a list: it is closed, or it is open at a side of a quad
 pub data Finding : Type 0 where

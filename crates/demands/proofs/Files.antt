@@ -19,7 +19,7 @@ use Rattle.block.specs.declared.Size.{Size}
 use Rattle.block.specs.Answer.{accepted, refused, First}
 use Rattle.block.specs.Grey.{SixteenBit}
 use Rattle.block.specs.Numbering.{cubeCount}
-use Rattle.block.specs.Rows.{axisRow, searchRow}
+use Rattle.block.specs.Rows.{axisRow, searchRow, roomRow}
 use Rattle.block.specs.Size.{sizeOf, Limits}
 use Rattle.block.proofs.Order.{order-passes, order-last, accepted-exactly, refused-exactly, written-refused, first-has}
 use Rattle.block.proofs.Searches.{search-passes, search-exactly}
@@ -42,7 +42,7 @@ use Rattle.vertex_lists.specs.Rows.{shaped, shapeRow, cubeInside, cubeRow, from
 use Rattle.vertex_lists.proofs.Rows.{shape-passes}
 use Rattle.ply.specs.declared.Spacing.{Spacing}
 use Rattle.ply.specs.declared.Filed.{Filed}
-use Rattle.ply.specs.Rows.{spacings, badSpacing, spacingRow, roomRow}
+use Rattle.ply.specs.Rows.{spacings, badSpacing, spacingRow}
 use Rattle.ply.specs.File.{plyFile}
 use Rattle.ply.specs.Answer.{saidFile, plyRows, plyVerdict, PlyWritten}
 use Rattle.demands.specs.Answers.{MeshCall}

@@ -3,8 +3,10 @@
 use Prim.Native.Nat.{ℕ, zero, suc, _+_, _*_, _-_, _/_, _%_, _≤_, _<_}
 use mathlib.Core.Path.{_≡_, refl, ap, ap₂, _∙_}
 use mathlib.Core.Bool.{Bool, true, false, _&&_}
+use mathlib.Core.Logic.{⊎-elim}
 use mathlib.Core.List.{List}
-use native.Mathlib.Nat.{add-zero, add-suc, add-comm, zero-mul, mul-zero, mul-suc, mul-add, add-mul, add-assoc}
+use native.Mathlib.Nat.{add-zero, add-suc, add-comm, zero-mul, mul-zero, mul-suc, mul-add, add-mul, add-assoc, eq-or-lt-of-le, le-of-suc-le-suc, not-suc-le-zero}
+use native.Mathlib.Numerals.{add-one}
 use native.Mathlib.Omega.{arith}
 use lib.ListN.{length, length-append}
 use Rattle.laws.specs.Bits.{bit}
@@ -16,6 +18,45 @@ pub count-same : (f g : ℕ → Bool) (n : ℕ) → ((m : ℕ) → m < n → f m
 unfolding count
 count-same f g zero e = refl
 count-same f g (suc n) e = ap₂ (λ (a b : ℕ). a + b) (count-same f g n (λ m l. e m (omega arith))) (ap bit (e n (omega arith)))
+
+pub count-none : (f : ℕ → Bool) → count f 0 ≡ 0
+unfolding count
+count-none f = refl
+
+pub count-next : (f : ℕ → Bool) (n : ℕ) → count f (n + 1) ≡ count f n + bit (f n)
+unfolding count
+count-next f n = ap (count f) (add-one n)
+
+-- none counted, none there
+pub count-clear : (f : ℕ → Bool) (n : ℕ) → count f n ≡ 0 → (k : ℕ) → k < n → f k ≡ false
+unfolding count
+count-clear f zero e k h = absurd (not-suc-le-zero h)
+count-clear f (suc n) e k h =
+    ⊎-elim (λ (i : k ≡ n). ap f i ∙ off (f n) (omega arith)) (λ (l : k < n). count-clear f n (omega arith) k l) (eq-or-lt-of-le (le-of-suc-le-suc h))
+  where
+    off : (b : Bool) → bit b ≡ 0 → b ≡ false
+    off true e = absurd (omega arith)
+    off false e = refl
+
+-- none there, none counted
+pub clear-count : (f : ℕ → Bool) (n : ℕ) → ((k : ℕ) → k < n → f k ≡ false) → count f n ≡ 0
+unfolding count
+clear-count f zero h = refl
+clear-count f (suc n) h = rw (clear-count f n (λ k l. h k (omega arith)), h n (omega arith))
+
+-- at most one number passes
+pub count-one : (f : ℕ → Bool) (n : ℕ) → ((i k : ℕ) → i < n → k < n → f i ≡ true → f k ≡ true → i ≡ k) → count f n ≤ 1
+unfolding count
+count-one f zero h = omega arith
+count-one f (suc n) h = go (f n) refl (count-one f n (λ i k a b. h i k (omega arith) (omega arith)))
+  where
+    other : f n ≡ true → (i : ℕ) → i < n → (b : Bool) → f i ≡ b → f i ≡ false
+    other e i l false p = p
+    other e i l true p = let q : i ≡ n = h i n (omega arith) (omega arith) p e in absurd (omega arith)
+
+    go : (b : Bool) → f n ≡ b → count f n ≤ 1 → count f n + bit b ≤ 1
+    go false e one = omega arith
+    go true e one = omega (arith, clear-count f n (λ i l. other e i l (f i) refl))
 
 -- a narrower test
 pub count-le : (f g : ℕ → Bool) (n : ℕ) → ((m : ℕ) → m < n → bit (f m) ≤ bit (g m)) → count f n ≤ count g n
@@ -41,6 +82,10 @@ pub count-add : (f : ℕ → Bool) (n m : ℕ) → count f (n + m) ≡ count f n
 unfolding count
 count-add f n zero = simp add-zero
 count-add f n (suc m) = rw (add-suc, count-add f n m) (add-assoc (count f n) (count (λ (x : ℕ). f (n + x)) m) (bit (f (n + m))))
+
+-- none of k further numbers
+pub count-still : (f : ℕ → Bool) (m k : ℕ) → ((i : ℕ) → i < k → f (m + i) ≡ false) → count f (m + k) ≡ count f m
+count-still f m k h = count-add f m k ∙ rw (clear-count (λ (i : ℕ). f (m + i)) k h) (add-zero (count f m))
 
 bit-and : (a b : Bool) → bit (a && b) ≡ bit a * bit b
 bit-and true true = refl

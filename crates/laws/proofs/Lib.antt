@@ -13,5 +13,6 @@ pub mod Stores
 pub mod Puts
 pub mod Pack
 pub mod Words
+pub mod Sums
 pub mod Visit
 pub mod Leading

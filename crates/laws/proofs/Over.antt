@@ -1,14 +1,14 @@
 -- A buffer whose front is written place by place: its length, what stands in each place, and one place more.
 -- Assumes nothing.
-use mathlib.Core.Path.{_≡_, refl, sym, _∙_}
+use mathlib.Core.Path.{_≡_, refl, ap, sym, _∙_}
 use mathlib.Core.Logic.{_⊎_, inl, inr}
 use mathlib.Core.List.{List, [], _∷_, _++_, append-assoc}
-use Prim.Native.Nat.{ℕ, zero, suc, _+_, _≤_, _<_}
+use Prim.Native.Nat.{ℕ, zero, suc, _+_, _-_, _≤_, _<_}
 use native.Mathlib.Nat.{eq-or-lt-of-le, le-of-suc-le-suc, not-suc-le-zero}
 use native.Mathlib.Numerals.{add-one}
 use native.Mathlib.Omega.{arith}
 use lib.ListN.{length, getD, set, take, drop, length-append, length-drop, List·getD-append}
-use lib.Seq.{drop-cons, take-at, set-at, getD-at}
+use lib.Seq.{drop-cons, take-at, set-at, getD-at, getD-append-add, getD-drop}
 use Rattle.laws.specs.Below.{below, over}
 
 pub over-length : {A : Type 0} (xs b : List A) → length xs ≤ length b → length (over xs b) ≡ length b
@@ -63,3 +63,13 @@ module _ {A : Type 0} (f : ℕ → A) where
     pub over-at : (n i : ℕ) (d : A) → i < n → getD (over (each n) b) i d ≡ f i
     unfolding over
     over-at n i d h = List·getD-append (each n) (drop (length (each n)) b) d i (rw (each-length n) h) ∙ each-at n i d h
+
+-- what stands behind is kept
+pub over-behind : {A : Type 0} (xs b : List A) (k : ℕ) (d : A) → length xs ≤ k → getD (over xs b) k d ≡ getD b k d
+unfolding over
+over-behind xs b k d h =
+    let back : length xs + (k - length xs) ≡ k = omega arith in
+    ap (λ (i : ℕ). getD (xs ++ drop (length xs) b) i d) (sym back)
+    ∙ getD-append-add xs (drop (length xs) b) (k - length xs) d
+    ∙ getD-drop (length xs) b (k - length xs) d
+    ∙ ap (λ (i : ℕ). getD b i d) back

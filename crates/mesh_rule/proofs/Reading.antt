@@ -91,10 +91,14 @@ module _ (loopsOf : Cut → List ℕ → List ℕ) (n : Size) (s : List ℕ) (cu
         at-z = rw is (index-z (n .nx - 1) (n .ny - 1) x y z (c .0) (c .1));
       }
 
+  -- the vertices round a crossed inner edge are in the cubes of 01's table
+  pub round-in : {D : Decider} → CubeLaws D loopsOf → (a : Axis) (i j k : ℕ) → Inner n a i j k → crossedFrom n s cut a i j k ≡ true
+      → Round (λ x y z e. In n cubes (vertexAt loopsOf n s cut x y z e) x y z) a i j k
+  round-in laws a i j k h x =
+      map-round (λ x y z e c. in-cube (vertexAt loopsOf n s cut x y z e) x y z e (c .cube-in) (vertex-at loopsOf n s cut laws x y z e c)) a i j k
+      (crossed-round n s cut a i j k h x)
+
   -- what is read from the quad of a crossed inner edge is the edge
   pub read-quad : {D : Decider} → CubeLaws D loopsOf → (a : Axis) (i j k : ℕ) (b : Bool) → Inner n a i j k → crossedFrom n s cut a i j k ≡ true
       → read n cubes (turned b (around loopsOf n s cut a i j k)) ≡ told a i j k b
-  read-quad laws a i j k b h x =
-      read-turned a i j k b (four-cubes n a i j k h .0)
-      (map-round (λ x y z e c. in-cube (vertexAt loopsOf n s cut x y z e) x y z e (c .cube-in) (vertex-at loopsOf n s cut laws x y z e c)) a i j k
-      (crossed-round n s cut a i j k h x))
+  read-quad laws a i j k b h x = read-turned a i j k b (four-cubes n a i j k h .0) (round-in laws a i j k h x)

@@ -20,12 +20,12 @@ use Rattle.mesh.specs.Answer.{saidCounts}
 use Rattle.mesh.proofs.Verdicts.{counts-fixed, mesh-fixed}
 use Rattle.closed.specs.declared.Closure.{Closure}
 use Rattle.closed.specs.Closed.{saidClosure}
-use Rattle.closed.proofs.Fixed.{closed-fixed}
+use Rattle.closed.proofs.Fixed.{closed-fixed, closed-with-fixed}
 use Rattle.ply.specs.declared.Spacing.{Spacing}
 use Rattle.ply.specs.declared.Filed.{Filed}
 use Rattle.ply.specs.Answer.{saidFile}
 use Rattle.ply.proofs.Fixed.{ply-fixed}
-use Rattle.parsniprow_c.specs.Told.{tellOver, toldCeilings, toldEdge, toldFraction, toldCube, toldCounts, toldClosed, toldLength, toldFile, CeilingsTold, EdgeTold, CubeTold, CountsTold, MeshTold, ClosedTold, PlyTold}
+use Rattle.parsniprow_c.specs.Told.{tellOver, toldCeilings, toldEdge, toldFraction, toldCube, toldCounts, toldClosed, toldLength, toldFile, CeilingsTold, EdgeTold, CubeTold, CountsTold, MeshTold, ClosedTold, ClosedWithTold, PlyTold}
 
 pub ceilings-told-fixed : (samples place : List ℕ) → Fixes (CeilingsTold samples place)
 ceilings-told-fixed samples place = equation-fixes (tellOver (toldCeilings (accepted (ceilingsIn samples))) place)
@@ -74,6 +74,13 @@ closed-told-fixed quads place a b p q =
     p .is-told
     ∙ ap (λ (x : Closure). tellOver (toldClosed (saidClosure x)) place) (closed-fixed quads (p .answer) (q .answer) (p .answered) (q .answered))
     ∙ sym (q .is-told)
+
+-- the lent memory and the answer
+pub closed-with-told-fixed : (quads work place : List ℕ) → Fixes (λ (f : List ℕ × List ℕ). ClosedWithTold quads work place (f .0) (f .1))
+closed-with-told-fixed quads work place a b p q =
+    ap (λ (u : List ℕ). (a .0, u)) (p .is-told)
+    ∙ ap (λ (x : Closure × List ℕ). (x .1, tellOver (toldClosed (saidClosure (x .0))) place)) (closed-with-fixed quads work (p .answer, a .0) (q .answer, b .0) (p .answered) (q .answered))
+    ∙ ap (λ (u : List ℕ). (b .0, u)) (sym (q .is-told))
 
 -- the file buffer, the length and the answer
 abbrev fileFound : List ℕ → List ℕ → Filed × List ℕ → List ℕ × List ℕ × List ℕ

@@ -21,6 +21,7 @@ use Rattle.mesh.specs.declared.Counted.{Counted}
 use Rattle.mesh.specs.Answer.{saidCounts, CountsAnswered, Meshed}
 use Rattle.closed.specs.declared.Closure.{Closure}
 use Rattle.closed.specs.Closed.{Finding, allSound, openAt, saidClosure, ClosedAnswered}
+use Rattle.closed.specs.Chains.{ClosedWith}
 use Rattle.ply.specs.declared.Spacing.{Spacing}
 use Rattle.ply.specs.declared.Filed.{Filed}
 use Rattle.ply.specs.Answer.{saidFile, PlyWritten}
@@ -98,6 +99,12 @@ pub record MeshTold (nx ny nz : ℕ) (s : List ℕ) (t : ℕ) (w : List ℕ) (o 
 pub record ClosedTold (quads place place′ : List ℕ) : Type 0 where
   pub answer : Closure
   pub answered : ClosedAnswered quads answer
+  pub is-told : place′ ≡ tellOver (toldClosed (saidClosure answer)) place
+
+-- the memory is that of `closed_with`
+pub record ClosedWithTold (quads work place work′ place′ : List ℕ) : Type 0 where
+  pub answer : Closure
+  pub answered : ClosedWith quads work answer work′
   pub is-told : place′ ≡ tellOver (toldClosed (saidClosure answer)) place
 
 -- the buffer is that of `write`

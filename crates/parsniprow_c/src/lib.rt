@@ -19,7 +19,7 @@ ghost use Rattle.mesh_rule.specs.Buffers.{triples};
 ghost use Rattle.mesh.specs.Answer.{saidCounts};
 ghost use Rattle.closed.specs.Closed.{saidClosure};
 ghost use Rattle.ply.specs.Answer.{saidFile};
-ghost use Rattle.parsniprow_c.specs.Told.{tellOver, toldCeilings, toldEdge, toldFraction, toldCube, toldCounts, toldClosed, toldLength, toldFile, CeilingsTold, EdgeTold, CubeTold, CountsTold, MeshTold, ClosedTold, PlyTold};
+ghost use Rattle.parsniprow_c.specs.Told.{tellOver, toldCeilings, toldEdge, toldFraction, toldCube, toldCounts, toldClosed, toldLength, toldFile, CeilingsTold, EdgeTold, CubeTold, CountsTold, MeshTold, ClosedTold, ClosedWithTold, PlyTold};
 
 // How many samples are at the detector's ceiling, and the lowest index of one.
 #[no_mangle]
@@ -115,6 +115,16 @@ pub extern "C" fn parsniprow_closed(quads: &[u32], answer: &mut [u32])
     ensures { λ _. ⌜ ClosedTold (now (quads .entry)) (now (answer .entry)) (now (answer .exit)) ⌝ }
 {
     let closure = closed::closed(quads);
+    let told = tell_closed(closure);
+    put(answer, &told);
+}
+
+// Whether a list of quads is closed, with lent memory.
+#[no_mangle]
+pub extern "C" fn parsniprow_closed_with(quads: &[u32], work: &mut [u64], answer: &mut [u32])
+    ensures { λ _. ⌜ ClosedWithTold (now (quads .entry)) (now (work .entry)) (now (answer .entry)) (now (work .exit)) (now (answer .exit)) ⌝ }
+{
+    let closure = closed::closed_with(quads, work);
     let told = tell_closed(closure);
     put(answer, &told);
 }

@@ -6,14 +6,14 @@ use lib.ListN.{length}
 use lib.Ieee.{Float}
 use Rattle.block.specs.declared.Checked.{Checked}
 use Rattle.block.specs.Answer.{Answer, accepted, refused, inOrder, judged, written}
-use Rattle.block.specs.Rows.{axisRow}
+use Rattle.block.specs.Rows.{axisRow, roomRow}
 use Rattle.block.specs.Size.{sizeOf}
 use Rattle.lists.specs.Rows.{lengthRow, numberRow}
 use Rattle.vertex_lists.specs.Rows.{vertexRows}
 use Rattle.ply.specs.declared.Spacing.{Spacing}
 use Rattle.ply.specs.declared.Filed.{Filed}
 use Rattle.ply.specs.declared.Filed.the-variants.{Bytes, Refused}
-use Rattle.ply.specs.Rows.{spacingRow, roomRow}
+use Rattle.ply.specs.Rows.{spacingRow}
 use Rattle.ply.specs.File.{plyFile}
 
 -- the length of the file, or a refusal's number and value

@@ -1,12 +1,9 @@
--- Rows 13 and 15 of the table of refusals: the spacings, and the room for the file (document 02, Three).
+-- Row 13 of the table of refusals: the spacings (document 02, Three).
 use Prim.Native.Nat.{ℕ}
-use mathlib.Core.Bool.{Bool, cond, not, _&&_}
+use mathlib.Core.Bool.{Bool, not, _&&_}
 use mathlib.Core.List.{List, [], _∷_}
-use lib.Dec.{leb}
 use lib.Ieee.{Float, lt, le}
 use Rattle.block.specs.declared.Checked.{Checked}
-use Rattle.block.specs.declared.Checked.the-variants.{Passes}
-use Rattle.block.specs.Answer.{refuses}
 use Rattle.block.specs.Rows.{lowestRow}
 use Rattle.place.specs.Crossing.{float}
 use Rattle.place.specs.Place.{plusZero}
@@ -27,7 +24,3 @@ badSpacing s = not (goodSpacing s)
 -- 13: "a bad spacing"; the lowest such axis, 0 to 2
 abbrev pub spacingRow : Spacing → Checked
 spacingRow s = lowestRow 13 badSpacing (spacings s)
-
--- 15: "too little room"; the bytes needed
-abbrev pub roomRow : ℕ → ℕ → Checked
-roomRow needed room = cond (leb needed room) Passes (refuses 15 needed)

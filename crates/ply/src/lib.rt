@@ -11,7 +11,7 @@ ghost use Rattle.laws.specs.Put.{Put};
 ghost use Rattle.block.specs.declared.Checked.the-variants.{Passes};
 ghost use Rattle.block.specs.Answer.{inOrder};
 ghost use Rattle.block.specs.Size.{sizeOf};
-ghost use Rattle.ply.specs.Rows.{goodSpacing, spacingRow, roomRow};
+ghost use Rattle.ply.specs.Rows.{goodSpacing, spacingRow};
 ghost use Rattle.ply.specs.File.{header, millimetres, double, vertexBytes, faceBytes, plyFile};
 ghost use Rattle.ply.specs.Answer.{faceRows, plyVerdict, PlyWritten};
 ghost use Rattle.ply.specs.Words.{headerLength, fileLength};
@@ -66,16 +66,6 @@ fn bytes_needed(vertices: usize, faces: usize) -> usize
     170 + a + b + 24 * vertices + 17 * faces
 }
 
-// Row 15: there is too little room.
-fn check_room(needed: usize, room: usize) -> Checked
-    ensures { λ r. ⌜ r ≡ roomRow needed room ⌝ }
-{
-    if needed <= room {
-        return Checked::Passes;
-    }
-    block::refuse(15, block::short(needed))
-}
-
 // Rows 7, 13, 14 and 15, of a mesh with so many vertices.
 fn check_faces(vertices: usize, quads: &[u32], spacing: Spacing, room: usize) -> Checked
     requires { ⌜ vertices ≤ 66325500 ⌝ }
@@ -93,7 +83,7 @@ fn check_faces(vertices: usize, quads: &[u32], spacing: Spacing, room: usize) ->
     if let Checked::Refuses(r) = known {
         return Checked::Refuses(r);
     }
-    check_room(bytes_needed(vertices, quads.len() / 4), room)
+    block::check_room(bytes_needed(vertices, quads.len() / 4), room)
 }
 
 // All rows that are tried, in their order.

@@ -7,7 +7,7 @@ use lib.ListN.{getD}
 use borrow.Author.Needs.{needs}
 use Rattle.laws.specs.Counting.{count}
 use Rattle.block.specs.Grey.{isCeiling}
-use Rattle.block.proofs.ClearRuns.{count-none, count-next}
+use Rattle.laws.proofs.Counting.{count-none, count-next}
 use Rattle.block.proofs.ceilings_in_run.Statement.{statement}
 use Rattle.block.proofs.ceilings_in_run.Tie as tie
 use Rattle.block.proofs.ceilings_in_run.Reads as reads

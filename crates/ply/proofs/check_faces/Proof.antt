@@ -3,7 +3,7 @@
 use Prim.Native.Nat.{ℕ}
 use mathlib.Core.Path.{sym, ap, _∙_}
 use Rattle.block.proofs.Order.{order-refuses, order-passes, order-last}
-use Rattle.ply.specs.Rows.{roomRow}
+use Rattle.block.specs.Rows.{roomRow}
 use borrow.Author.Needs.{needs}
 use Rattle.ply.proofs.check_faces.Statement.{statement}
 use Rattle.ply.proofs.check_faces.Tie as tie
@@ -12,7 +12,7 @@ use Rattle.ply.proofs.check_faces.Lts as lts
 use Rattle.lists.proofs.check_length.Reads as check-length-reads
 use Rattle.lists.proofs.check_numbers.Reads as check-numbers-reads
 use Rattle.ply.proofs.bytes_needed.Reads as bytes-needed-reads
-use Rattle.ply.proofs.check_room.Reads as check-room-reads
+use Rattle.block.proofs.check_room.Reads as check-room-reads
 use Rattle.ply.proofs.check_spacing.Reads as check-spacing-reads
 
 check-length-requires : tie.Need-check-length-requires

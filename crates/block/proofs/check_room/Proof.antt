@@ -2,14 +2,14 @@
 -- Assumes nothing.
 use mathlib.Core.Path.{_∙_}
 use borrow.Author.Tests.{le-leb, lt-leb}
 use Rattle.block.proofs.Rows.{unless-passes, unless-refuses}
 use borrow.Author.Needs.{needs}
-use Rattle.ply.proofs.check_room.Statement.{statement}
-use Rattle.ply.proofs.check_room.Tie as tie
-use Rattle.ply.proofs.check_room.Reads as reads
-use Rattle.ply.proofs.check_room.Lts as lts
+use Rattle.block.proofs.check_room.Statement.{statement}
+use Rattle.block.proofs.check_room.Tie as tie
+use Rattle.block.proofs.check_room.Reads as reads
+use Rattle.block.proofs.check_room.Lts as lts
 use Rattle.block.proofs.short.Reads as short-reads
 use Rattle.block.proofs.refuse.Reads as refuse-reads
 
 returns : tie.Need-returns
 returns c = unless-passes _ 15 _ (le-leb _ _ (c .if1 .taken))
