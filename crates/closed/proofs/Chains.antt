@@ -21,7 +21,7 @@ use Rattle.laws.proofs.Leading.{HoldsTo, before-more, leading-le, leading-holds
 use Rattle.laws.proofs.Over.{each, each-length, each-at, over-length, over-front, over-behind}
 use Rattle.laws.proofs.Tests.{lt-or-ge}
 use Rattle.closed.specs.Closed.{from, to, walked, walks}
-use Rattle.closed.specs.Chains.{topNumber, firstFrom, chains}
+use Rattle.closed.specs.Chains.{topNumber, firstFrom, chains, wordsNeeded}
 use Rattle.closed.specs.Steps.{nextPlace, walksBefore, Chained, Followed}
 
 -- ---- one more than the highest number
@@ -184,15 +184,16 @@ module _ {quads : List ℕ} {top : ℕ} where
   pub chains-followed : {old new : List ℕ} → top + length quads ≤ length old → Chained quads top 0 old new → Followed quads top new
   chains-followed room c = record { room = omega (arith, room, c .long); heads = c .heads; links = λ i h. c .links i (omega arith) h }
 
--- and the words are those of the promise
-module _ (quads old new : List ℕ) (room : topNumber quads + length quads ≤ length old) (c : Chained quads (topNumber quads) 0 old new) where
+-- ---- the words of the promise
+
+module _ (quads : List ℕ) where
   abbrev headOf : ℕ → ℕ
   headOf v = firstFrom quads v 0
 
   abbrev linkOf : ℕ → ℕ
   linkOf i = firstFrom quads (from quads i) (i + 1)
 
-  chains-length : length (chains quads) ≡ topNumber quads + length quads
+  pub chains-length : length (chains quads) ≡ wordsNeeded quads
   chains-length = length-append (each headOf (topNumber quads)) (each linkOf (length quads)) ∙ rw (each-length headOf (topNumber quads), each-length linkOf (length quads))
 
   at-head : (p : ℕ) → p < topNumber quads → getD (chains quads) p 0 ≡ headOf p
@@ -206,19 +207,21 @@ module _ (quads old new : List ℕ) (room : topNumber quads + length quads ≤ l
       ∙ getD-append-add (each headOf (topNumber quads)) (each linkOf (length quads)) i 0
       ∙ each-at linkOf (length quads) i 0 h
 
+-- all sides are chained: the memory holds these words
+module _ (quads old new : List ℕ) (room : topNumber quads + length quads ≤ length old) (c : Chained quads (topNumber quads) 0 old new) where
   place : (p : ℕ) → (p < topNumber quads) ⊎ (topNumber quads ≤ p) → (p < topNumber quads + length quads) ⊎ (topNumber quads + length quads ≤ p)
       → getD new p 0 ≡ getD (over (chains quads) old) p 0
-  place p (inl h) _ = c .heads p h ∙ sym (over-front (chains quads) old p 0 (omega (arith, chains-length, h)) ∙ at-head p h)
+  place p (inl h) _ = c .heads p h ∙ sym (over-front (chains quads) old p 0 (omega (arith, chains-length quads, h)) ∙ at-head quads p h)
   place p (inr g) (inl h) =
       let back : topNumber quads + (p - topNumber quads) ≡ p = omega arith in
       subst (λ (k : ℕ). getD new k 0 ≡ getD (over (chains quads) old) k 0) back
       (c .links (p - topNumber quads) (omega arith) (omega arith)
-      ∙ sym (over-front (chains quads) old (topNumber quads + (p - topNumber quads)) 0 (omega (arith, chains-length, h, g)) ∙ at-link (p - topNumber quads) (omega arith)))
-  place p (inr _) (inr h) = c .behind p h ∙ sym (over-behind (chains quads) old p 0 (omega (arith, chains-length, h)))
+      ∙ sym (over-front (chains quads) old (topNumber quads + (p - topNumber quads)) 0 (omega (arith, chains-length quads, h, g)) ∙ at-link quads (p - topNumber quads) (omega arith)))
+  place p (inr _) (inr h) = c .behind p h ∙ sym (over-behind (chains quads) old p 0 (omega (arith, chains-length quads, h)))
 
   all-written : new ≡ over (chains quads) old
   all-written =
-      ext-getD 0 new (over (chains quads) old) (c .long ∙ sym (over-length (chains quads) old (omega (arith, chains-length, room))))
+      ext-getD 0 new (over (chains quads) old) (c .long ∙ sym (over-length (chains quads) old (omega (arith, chains-length quads, room))))
       (λ p _. place p (lt-or-ge p (topNumber quads)) (lt-or-ge p (topNumber quads + length quads)))
 
 pub chains-written : (quads : List ℕ) (top : ℕ) (old new : List ℕ) → top ≡ topNumber quads → top + length quads ≤ length old → Chained quads top 0 old new → new ≡ over (chains quads) old

@@ -1,3 +1,4 @@
+pub mod Samples
 pub mod Face
 pub mod Surface
 pub mod Parts
@@ -5,3 +6,6 @@ pub mod Balance
 pub mod Ends
 pub mod Sides
 pub mod Closing
+pub mod Twelve
+pub mod Needed
+pub mod Example

@@ -22,7 +22,7 @@ use Rattle.closure.proofs.Parts.{walksOver}
 use Rattle.closure.proofs.Ends.{Proper}
 
 -- behind the first quad
-past : (q : Quad) (qs : List Quad) (n : ℕ) → from (flat (q ∷ qs)) (4 + n) ≡ from (flat qs) n
+pub past : (q : Quad) (qs : List Quad) (n : ℕ) → from (flat (q ∷ qs)) (4 + n) ≡ from (flat qs) n
 past q qs n = getD-append-add (q .v0 ∷ q .v1 ∷ q .v2 ∷ q .v3 ∷ []) (flat qs) n 0
 
 past-end : (q : Quad) (qs : List Quad) (n : ℕ) → to (flat (q ∷ qs)) (4 + n) ≡ to (flat qs) n
@@ -31,7 +31,7 @@ past-end q qs n = ap (from (flat (q ∷ qs))) (next n) ∙ past q qs (nextPlace 
     next : (n : ℕ) → nextPlace (4 + n) ≡ 4 + nextPlace n
     next n = omega arith
 
-four-more : (n : ℕ) → suc (suc (suc (suc n))) ≡ 4 + n
+pub four-more : (n : ℕ) → suc (suc (suc (suc n))) ≡ 4 + n
 four-more n = omega arith
 
 -- how many sides of a quad pass a test of their two ends

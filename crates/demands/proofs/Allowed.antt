@@ -6,7 +6,9 @@ use mathlib.Core.Path.{_≡_, refl, sym}
 use mathlib.Core.Bool.{Bool, true, false, cond}
 use mathlib.Core.List.{List, [], _∷_, map}
 use lib.Ieee.{Float}
+use lib.Dec.{leb}
 use lib.ListN.{length}
+use borrow.Author.Tests.{leb-true}
 use Rattle.laws.specs.Below.{over}
 use Rattle.laws.specs.Filled.{filled}
 use Rattle.laws.proofs.Over.{over-length}
@@ -21,7 +23,8 @@ use Rattle.block.specs.Grey.{cutOf, apart}
 use Rattle.block.specs.Rows.{outOfLimits, thresholdRow}
 use Rattle.block.specs.Size.{sizeOf, SizeMade}
 use Rattle.block.proofs.Sizes.{first-bad, second-bad, third-bad, none-bad}
-use Rattle.block.proofs.Order.{accepted-exactly, judged-passed, written-passed}
+use Rattle.block.proofs.Order.{order-first, order-rest, accepted-exactly, judged-passed, written-passed}
+use Rattle.block.proofs.Rows.{unless-none}
 use Rattle.cube_rule.specs.Decider.{loopsOf}
 use Rattle.place.specs.declared.Crossing.{Crossing}
 use Rattle.place.specs.declared.Crossing.the-variants as crossing-is
@@ -39,6 +42,8 @@ use Rattle.mesh.specs.Answer.{countsOf, countsVerdict, saidCounts, CountsAnswer
 use Rattle.closed.specs.declared.Closure.{Closure}
 use Rattle.closed.specs.declared.Closure.the-variants as closure-is
 use Rattle.closed.specs.Closed.{Finding, allSound, openAt, findingOf, saidClosure, ClosedAnswered}
+use Rattle.closed.specs.Chains.{chains, wordsNeeded, workRows, ClosedWith}
+use Rattle.closed.proofs.Chains.{chains-length}
 use Rattle.lists.specs.Rows.{lengthRow}
 use Rattle.ply.specs.declared.Spacing.{Spacing}
 use Rattle.ply.specs.declared.Filed.{Filed}
@@ -48,7 +53,7 @@ use Rattle.ply.specs.Answer.{saidFile, plyVerdict, PlyWritten}
 use Rattle.ply.proofs.Written.{file-refused, file-fits}
 use Rattle.lines.specs.Output.{outputOf, Ran}
 use Rattle.lines.proofs.Outputs.{output-fits}
-use Rattle.parsniprow_c.specs.Told.{tellOver, toldCeilings, toldEdge, toldFraction, toldCube, toldCounts, toldClosed, toldLength, toldFile, CeilingsTold, EdgeTold, CubeTold, CountsTold, MeshTold, ClosedTold, PlyTold}
+use Rattle.parsniprow_c.specs.Told.{tellOver, toldCeilings, toldEdge, toldFraction, toldCube, toldCounts, toldClosed, toldLength, toldFile, CeilingsTold, EdgeTold, CubeTold, CountsTold, MeshTold, ClosedTold, ClosedWithTold, PlyTold}
 use Rattle.demands.specs.Answers.{MeshCall}
 
 -- ---- the size: a refusal is row 1's, so it has the number that is told
@@ -134,13 +139,27 @@ module _ (nx ny nz : ℕ) (s : List ℕ) (cut : Cut) (w : List ℕ) (o : List Fl
 
 -- ---- the closed question
 
+closure-of : (b : Answer Finding) → (r : Closure) × (saidClosure r ≡ b)
+closure-of (accepted allSound) = (closure-is.Closed, refl)
+closure-of (accepted (openAt q s)) = (closure-is.Open q s, refl)
+closure-of (refused x) = (closure-is.Refused x, refl)
+
 pub closed-allows : (quads : List ℕ) → (r : Closure) × ClosedAnswered quads r
-closed-allows quads = go (judged (inOrder (lengthRow quads ∷ [])) (findingOf quads))
-  where
-    go : (b : Answer Finding) → (r : Closure) × (saidClosure r ≡ b)
-    go (accepted allSound) = (closure-is.Closed, refl)
-    go (accepted (openAt q s)) = (closure-is.Open q s, refl)
-    go (refused x) = (closure-is.Refused x, refl)
+closed-allows quads = closure-of (judged (inOrder (lengthRow quads ∷ [])) (findingOf quads))
+
+-- with lent memory, which keeps its length
+work-kept : (quads work : List ℕ) (k : Checked) → inOrder (workRows quads (length work)) ≡ k → length (written k (chains quads) work) ≡ length work
+unfolding decided
+work-kept quads work (Refuses x) e = refl
+work-kept quads work Passes e =
+    let room = order-first _ _ (order-rest (lengthRow quads) _ e) in
+    over-length (chains quads) work (rw (chains-length quads) (leb-true _ _ (unless-none (leb (wordsNeeded quads) (length work)) 15 (wordsNeeded quads) room)))
+
+pub closed-with-allows : (quads work : List ℕ) → (r : Closure) × (work′ : List ℕ) × ClosedWith quads work r work′ × (length work′ ≡ length work)
+closed-with-allows quads work =
+    let k = inOrder (workRows quads (length work)) in
+    let r = closure-of (judged k (findingOf quads)) in
+    (r .0, written k (chains quads) work, record { answer = r .1; chained = refl }, work-kept quads work k refl)
 
 -- ---- a PLY file: the buffer keeps its length
 
@@ -195,6 +214,10 @@ mesh-told-allows nx ny nz s t w o q place =
 pub closed-told-allows : (quads place : List ℕ) → (place′ : List ℕ) × ClosedTold quads place place′
 closed-told-allows quads place =
     let r = closed-allows quads in (tellOver (toldClosed (saidClosure (r .0))) place, record { answer = r .0; answered = r .1; is-told = refl })
+
+pub closed-with-told-allows : (quads work place : List ℕ) → (work′ : List ℕ) × (place′ : List ℕ) × ClosedWithTold quads work place work′ place′
+closed-with-told-allows quads work place =
+    let r = closed-with-allows quads work in (r .1, tellOver (toldClosed (saidClosure (r .0))) place, record { answer = r .0; answered = r .2; is-told = refl })
 
 pub ply-told-allows : (nx ny nz : ℕ) (words : List ℕ) (offsets : List Float) (quads : List ℕ) (s : Spacing) (file bytes place : List ℕ)
     → (file′ : List ℕ) × (bytes′ : List ℕ) × (place′ : List ℕ) × PlyTold nx ny nz words offsets quads s file bytes place file′ bytes′ place′

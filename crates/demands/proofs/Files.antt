@@ -35,9 +35,8 @@ use Rattle.mesh_rule.specs.Mesh.{vertices, quads}
 use Rattle.mesh_rule.proofs.Counts.{most-vertices}
 use Rattle.mesh_rule.proofs.Numbers.{vertex-is-loop}
 use Rattle.mesh_rule.proofs.Offsets.{offsets-in-unit, mesh-offsets-length}
-use Rattle.mesh_rule.proofs.Quads.{quad-numbers, quad-inside}
+use Rattle.mesh_rule.proofs.Quads.{flat-length, quad-numbers, quad-inside}
 use Rattle.mesh_rule.proofs.Words.{mesh-words-length, words-at}
-use Rattle.mesh.proofs.PlaneQuads.{flat-length}
 use Rattle.vertex_lists.specs.Rows.{shaped, shapeRow, cubeInside, cubeRow, fromZeroToOne, offsetInside, offsetRow}
 use Rattle.vertex_lists.proofs.Rows.{shape-passes}
 use Rattle.ply.specs.declared.Spacing.{Spacing}

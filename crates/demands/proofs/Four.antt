@@ -15,14 +15,16 @@ use Rattle.place.specs.declared.Crossing.{Crossing}
 use Rattle.place.specs.Crossing.{saidEdge, edgeAnswer, EdgeAnswered}
 use Rattle.cell.specs.Answer.{saidCube}
 use Rattle.mesh.specs.Answer.{saidCounts}
+use Rattle.closed.specs.declared.Closure.{Closure}
 use Rattle.closed.specs.Closed.{saidClosure}
+use Rattle.closed.specs.Chains.{ClosedWith}
 use Rattle.ply.specs.declared.Spacing.{Spacing}
 use Rattle.ply.specs.declared.Filed.{Filed}
 use Rattle.ply.specs.Answer.{saidFile, PlyWritten}
 use Rattle.reading.proofs.Verdicts.{run-numbers}
 use Rattle.demands.specs.Marks.{NotFour, FourNever}
 use Rattle.demands.proofs.Files.{PlyNumber, ply-numbers}
-use Rattle.demands.proofs.Numbers.{size-numbers, edge-numbers, cube-numbers, counts-numbers, mesh-numbers, closed-numbers}
+use Rattle.demands.proofs.Numbers.{size-numbers, edge-numbers, cube-numbers, counts-numbers, mesh-numbers, closed-numbers, closed-with-numbers}
 use Rattle.demands.proofs.Places.{four-untold}
 use Rattle.demands.proofs.Refusals.{run-refuses}
 
@@ -45,6 +47,13 @@ of-ply n (inr (inl h)) e = omega (arith, h, e)
 of-ply n (inr (inr (inl h))) e = omega (arith, h .0, e)
 of-ply n (inr (inr (inr h))) e = omega (arith, h .0, e)
 
+of-closed : (n : ℕ) → (n ≡ 7) ⊎ (n ≡ 15) → n ≡ 4 → ⊥
+of-closed n (inl h) e = omega (arith, h, e)
+of-closed n (inr h) e = omega (arith, h, e)
+
+closed-with-other : (quads work : List ℕ) (r : Closure) (work′ : List ℕ) → ClosedWith quads work r work′ → NotFour (saidClosure r)
+closed-with-other quads work r work′ m x e = of-closed (x .number) (closed-with-numbers quads (length work) x (refused-exactly _ _ _ (m .answer) x .0 e))
+
 ply-other : (nx ny nz : ℕ) (words : List ℕ) (offsets : List Float) (quads : List ℕ) (s : Spacing) (file : List ℕ) (r : Filed) (file′ : List ℕ)
     → PlyWritten nx ny nz words offsets quads s file r file′ → NotFour (saidFile r)
 ply-other nx ny nz words offsets quads s file r file′ m x e = of-ply (x .number) (ply-numbers nx ny nz words offsets quads s (length file) x (refused-exactly _ _ _ (m .answer) x .0 e))
@@ -57,6 +66,7 @@ four-never = record {
   counts = λ nx ny nz s cut r m x e f. omega (arith, f, counts-numbers nx ny nz s cut x (refused-exactly _ _ _ m x .0 e) .1);
   mesh = λ nx ny nz s cut w o q r w′ o′ q′ m x e. of-mesh (x .number) (mesh-numbers nx ny nz s cut (length w) (length o) (length q) x (refused-exactly _ _ _ (m .answer) x .0 e));
   closed = λ quads r m x e f. omega (arith, f, closed-numbers quads x (refused-exactly _ _ _ m x .0 e));
+  closed-with = closed-with-other;
   ply = ply-other;
   run = λ bytes out r out′ m v h p. of-run 4 (run-numbers bytes _ (run-refuses bytes out r out′ m (record { number = 4; value = v }) (omega arith) h .0 p)) refl;
   ceilings-told = λ s place place′ m. four-untold 3 (λ (c : CeilingCount). c .count ∷ c .lowest ∷ []) (accepted (ceilingsIn s)) place place′ m (λ x e f. let z : _≡_ {A = ℕ} 0 1 = cc in omega arith);
@@ -65,5 +75,6 @@ four-never = record {
   counts-told = λ nx ny nz s t place place′ m. four-untold 3 _ (saidCounts (m .answer)) place place′ (m .is-told) (λ x e f. omega (arith, f, counts-numbers nx ny nz s (cutOf t) x (refused-exactly _ _ _ (m .answered) x .0 e) .1));
   mesh-told = λ nx ny nz s t w o q place w′ o′ q′ place′ m. four-untold 3 _ (saidCounts (m .answer)) place place′ (m .is-told) (λ x e. of-mesh (x .number) (mesh-numbers nx ny nz s (cutOf t) (length w) (length o) (length q) x (refused-exactly _ _ _ (m .meshed .answer) x .0 e)));
   closed-told = λ quads place place′ m. four-untold 4 _ (saidClosure (m .answer)) place place′ (m .is-told) (λ x e f. omega (arith, f, closed-numbers quads x (refused-exactly _ _ _ (m .answered) x .0 e)));
+  closed-with-told = λ quads work place work′ place′ m. four-untold 4 _ (saidClosure (m .answer)) place place′ (m .is-told) (closed-with-other quads work (m .answer) work′ (m .answered));
   ply-told = λ nx ny nz words offsets quads s file bytes place file′ bytes′ place′ m. four-untold 3 _ (saidFile (m .answer)) place place′ (m .is-told) (ply-other nx ny nz words offsets quads s file (m .answer) file′ (m .written));
 }

@@ -9,6 +9,7 @@ pub mod TextMarks
 pub mod Places
 pub mod Files
 pub mod Told
+pub mod Closing
 pub mod Four
 pub mod StandIn
 pub mod Idle

@@ -1,5 +1,5 @@
 -- Which numbers an entry point gives: counting a mesh gives 1 to 3 only, the mesh 5 and 6 besides, cube and edge questions give 3, the closed question
--- only 7. And that no value of counting or meshing is cut.
+-- only 7, with lent memory 15 besides. And that no value of counting or meshing is cut.
 use Prim.Native.Nat.{ℕ, _*_, _%_, _≤_, _<_}
 use mathlib.Core.Path.{_≡_, sym, ap, _∙_}
 use mathlib.Core.Bool.{Bool, cond, _&&_}
@@ -28,6 +28,7 @@ use Rattle.cell.specs.Answer.{cubeVerdict}
 use Rattle.mesh_rule.proofs.Counts.{most-vertices, most-quads}
 use Rattle.mesh.specs.Answer.{vertexCount, quadCount, countsOf, blockRows, roomRows, vertexRow, quadRow, countsVerdict, meshVerdict}
 use Rattle.lists.specs.Rows.{lengthRow}
+use Rattle.closed.specs.Chains.{wordsNeeded, workRows}
 
 -- ---- numbers
 
@@ -93,9 +94,18 @@ mesh-numbers nx ny nz s cut words offsets room =
       ),
     )
 
+length-number : (quads : List ℕ) (x : Refusal) → lengthRow quads ≡ Refuses x → x .number ≡ 7
+length-number quads = unless-number (eqb (length quads % 4) 0) 7 (length quads % 4)
+
 pub closed-numbers : (quads : List ℕ) (x : Refusal) → inOrder (lengthRow quads ∷ []) ≡ Refuses x → x .number ≡ 7
-closed-numbers quads =
-    first-has (λ (x : Refusal). x .number ≡ 7) _ (unless-number (eqb (length quads % 4) 0) 7 (length quads % 4), tt)
+closed-numbers quads = first-has (λ (x : Refusal). x .number ≡ 7) _ (length-number quads, tt)
+
+pub closed-with-numbers : (quads : List ℕ) (room : ℕ) (x : Refusal) → inOrder (workRows quads room) ≡ Refuses x → (x .number ≡ 7) ⊎ (x .number ≡ 15)
+closed-with-numbers quads room =
+    first-has (λ (x : Refusal). (x .number ≡ 7) ⊎ (x .number ≡ 15)) _ (
+      λ x e. inl (length-number quads x e),
+      (λ x e. inr (unless-number (leb (wordsNeeded quads) room) 15 (wordsNeeded quads) x e), tt),
+    )
 
 -- ---- values
 

@@ -29,6 +29,7 @@ use Rattle.mesh.specs.declared.Counted.{Counted}
 use Rattle.mesh.specs.Answer.{countsOf, saidCounts, blockRows, countsVerdict, CountsAnswered, roomRows, meshVerdict, Meshed}
 use Rattle.closed.specs.declared.Closure.{Closure}
 use Rattle.closed.specs.Closed.{Finding, findingOf, saidClosure, ClosedAnswered}
+use Rattle.closed.specs.Chains.{workRows, ClosedWith}
 use Rattle.lists.specs.Rows.{lengthRow}
 use Rattle.reading.specs.Input.{sizeRead, cutRead, samplesRead, inputVerdict}
 use Rattle.reading.proofs.Verdicts.{run-numbers, run-values}
@@ -92,6 +93,17 @@ module _ (quads : List ℕ) (r : Closure) (promise : ClosedAnswered quads r) whe
 
   pub closed-accepts : (f : Finding) → (saidClosure r ≡ accepted f) ↔ ((lengthRow quads ≡ Passes) × (f ≡ findingOf quads))
   closed-accepts = accepts-by _ _ _ promise
+
+-- the same with lent memory, which a refusal keeps
+module _ (quads work : List ℕ) (r : Closure) (work′ : List ℕ) (promise : ClosedWith quads work r work′) where
+  pub closed-with-refuses : (x : Refusal) → (saidClosure r ≡ refused x) ↔ First (workRows quads (length work)) x
+  closed-with-refuses = refuses-by _ _ _ (promise .answer)
+
+  pub closed-with-accepts : (f : Finding) → (saidClosure r ≡ accepted f) ↔ ((inOrder (workRows quads (length work)) ≡ Passes) × (f ≡ findingOf quads))
+  closed-with-accepts = accepted-exactly _ _ _ (promise .answer)
+
+  pub closed-with-keeps : (x : Refusal) → saidClosure r ≡ refused x → work′ ≡ work
+  closed-with-keeps x e = promise .chained ∙ written-refused _ _ work x (refused-exactly _ _ _ (promise .answer) x .0 e)
 
 -- ---- meshing
 

@@ -17,7 +17,7 @@ use Rattle.mesh_rule.specs.Grid.{metal, OffEdges, AtLeastThree}
 use Rattle.mesh_rule.specs.Mesh.{Vertex, Quad, flat, vertices, vertexOf, quads}
 use Rattle.mesh_rule.proofs.StandIn.{demand3, demand3-alike}
 use Rattle.mesh_rule.proofs.Words.{words-at}
-use Rattle.mesh.proofs.PlaneQuads.{flat-length}
+use Rattle.mesh_rule.proofs.Quads.{flat-length}
 use Rattle.demands.specs.Answers.{MeshCall, SameMesh}
 use Rattle.demands.proofs.TheMesh.{mesh-given, quads-are, word-at, number-at}
 

@@ -1,4 +1,5 @@
 -- The mark in the program's text: the fields of a vertex's line are read back as they were written, so the word's bit 12 says what it says in the mesh.
+-- So are the fields of the first line: the number of vertices, and whether the mesh is closed.
 use Prim.Native.Nat.{ℕ, zero, suc, _+_, _*_, _-_, _%_, _^_, _≤_, _<_}
 use mathlib.Core.Path.{_≡_, refl, sym, ap, ap₂, _∙_, subst}
 use mathlib.Core.Bool.{true, false}
@@ -28,7 +29,7 @@ use Rattle.mesh_rule.specs.Buffers.{meshWords, meshOffsets, meshQuads}
 use Rattle.mesh_rule.specs.Grid.{cornersOf}
 use Rattle.mesh_rule.proofs.Small.{few-vertices}
 use Rattle.mesh.specs.Answer.{vertexCount, quadCount}
-use Rattle.closed.specs.Closed.{findingOf}
+use Rattle.closed.specs.Closed.{Finding, allSound, openAt, findingOf}
 use Rattle.reading.specs.Text.{ended, readAt, digitOf, numberAt, hexOf, LF}
 use Rattle.reading.specs.Input.{firstLineRow, sizeRead, cutRead, samplesRead, inputVerdict}
 use Rattle.reading.proofs.Axes.{AtMostEight, at-most-eight}
@@ -106,34 +107,50 @@ module _ (vs qs : ℕ) (words : List ℕ) (offsets : List Float) (quads : List �
   abbrev lines : List ℕ
   lines = below (vertexLine words offsets) vs
 
-  -- the number of vertices in the first line
-  text-count : vs < 16 ^ 8 → numberAt (meshText vs qs words offsets quads) 2 8 ≡ vs
+  abbrev closed : ℕ
+  closed = closedField (findingOf quads)
+
+  -- up to the vertices, up to the quads, and up to the last field
+  to-quads : length (hexOf 2 0 ++ hexOf 8 vs) ≡ 10
+  to-quads = simp (length-append, hex-length)
+
+  to-closed : length (hexOf 2 0 ++ hexOf 8 vs ++ hexOf 8 qs) ≡ 18
+  to-closed = simp (length-append, hex-length)
+
+  to-end : length (hexOf 2 0 ++ hexOf 8 vs ++ hexOf 8 qs ++ hexOf 2 closed) ≡ 20
+  to-end = simp (length-append, hex-length)
+
+  -- a field of the first line
+  head-field : (p k : ℕ) → p + k ≤ 20 → numberAt (meshText vs qs words offsets quads) p k ≡ numberAt (hexOf 2 0 ++ hexOf 8 vs ++ hexOf 8 qs ++ hexOf 2 closed) p k
   unfolding meshText headLine
+  head-field p k h =
+      number-before (head ++ lines) (below (quadLine quads) qs) p k (omega (arith, h, head-length vs qs closed, length-append head lines))
+      ∙ number-before head lines p k (omega (arith, h, head-length vs qs closed))
+      ∙ number-before (hexOf 2 0 ++ hexOf 8 vs ++ hexOf 8 qs ++ hexOf 2 closed) (LF ∷ []) p k (omega (arith, h, to-end))
+
+  -- the number of vertices, and whether the mesh is closed
+  text-count : vs < 16 ^ 8 → numberAt (meshText vs qs words offsets quads) 2 8 ≡ vs
   text-count h =
-      number-before (head ++ lines) (below (quadLine quads) qs) 2 8 (omega (arith, head-length vs qs (closedField (findingOf quads)), length-append head lines))
-      ∙ number-before head lines 2 8 (omega (arith, head-length vs qs (closedField (findingOf quads))))
-      ∙ number-before (hexOf 2 0 ++ hexOf 8 vs ++ hexOf 8 qs ++ hexOf 2 (closedField (findingOf quads))) (LF ∷ []) 2 8 (omega (arith, all))
-      ∙ number-before (hexOf 2 0 ++ hexOf 8 vs ++ hexOf 8 qs) (hexOf 2 (closedField (findingOf quads))) 2 8 (omega (arith, three))
-      ∙ number-before (hexOf 2 0 ++ hexOf 8 vs) (hexOf 8 qs) 2 8 (omega (arith, two))
+      head-field 2 8 (omega arith)
+      ∙ number-before (hexOf 2 0 ++ hexOf 8 vs ++ hexOf 8 qs) (hexOf 2 closed) 2 8 (omega (arith, to-closed))
+      ∙ number-before (hexOf 2 0 ++ hexOf 8 vs) (hexOf 8 qs) 2 8 (omega (arith, to-quads))
       ∙ number-there (hexOf 2 0) 2 8 vs (hex-length 2 0) h
+
+  text-closed : numberAt (meshText vs qs words offsets quads) 18 2 ≡ closed
+  text-closed = head-field 18 2 (omega arith) ∙ number-there (hexOf 2 0 ++ hexOf 8 vs ++ hexOf 8 qs) 18 2 closed to-closed (small (findingOf quads))
     where
-      two : length (hexOf 2 0 ++ hexOf 8 vs) ≡ 10
-      two = simp (length-append, hex-length)
-
-      three : length (hexOf 2 0 ++ hexOf 8 vs ++ hexOf 8 qs) ≡ 18
-      three = simp (length-append, hex-length)
-
-      all : length (hexOf 2 0 ++ hexOf 8 vs ++ hexOf 8 qs ++ hexOf 2 (closedField (findingOf quads))) ≡ 20
-      all = simp (length-append, hex-length)
+      small : (f : Finding) → closedField f < 16 ^ 2
+      small allSound = omega arith
+      small (openAt q s) = omega arith
 
   -- a field of the line of vertex v
   text-field : (v p k : ℕ) → v < vs → p + k ≤ 63 → numberAt (meshText vs qs words offsets quads) (vertexPlace v + p) k ≡ numberAt (vertexLine words offsets v) p k
   unfolding meshText
   text-field v p k l h =
       number-before (head ++ lines) (below (quadLine quads) qs) (vertexPlace v + p) k
-      (omega (arith, h, l, head-length vs qs (closedField (findingOf quads)), length-append head lines, length-constant (vertexLine words offsets) 63 vs (λ i l. vertex-line-length words offsets i)))
+      (omega (arith, h, l, head-length vs qs closed, length-append head lines, length-constant (vertexLine words offsets) 63 vs (λ i l. vertex-line-length words offsets i)))
       ∙ ap (λ (m : ℕ). numberAt (head ++ lines) m k) (place v)
-      ∙ number-behind head lines 21 (length (below (vertexLine words offsets) v) + p) k (head-length vs qs (closedField (findingOf quads)))
+      ∙ number-behind head lines 21 (length (below (vertexLine words offsets) v) + p) k (head-length vs qs closed)
       ∙ number-line (vertexLine words offsets) vs v p k l (omega (arith, h, vertex-line-length words offsets v))
     where
       place : (v : ℕ) → 21 + 63 * v + p ≡ 21 + (length (below (vertexLine words offsets) v) + p)
@@ -185,6 +202,10 @@ module _ (bytes out : List ℕ) (r : ℕ) (out′ : List ℕ) (promise : Ran byt
   pub run-counts : numberAt out′ 2 8 ≡ vertexCount n s cut
   run-counts =
       read 2 8 (omega arith) ∙ text-count (vertexCount n s cut) (quadCount n s cut) (meshWords loopsOf n s cut) (meshOffsets loopsOf n s cut) (meshQuads loopsOf n s cut) (omega (arith, few))
+
+  -- the last field of the first line says whether the mesh is closed
+  pub run-field : numberAt out′ 18 2 ≡ closedField (findingOf (meshQuads loopsOf n s cut))
+  run-field = read 18 2 (omega arith) ∙ text-closed (vertexCount n s cut) (quadCount n s cut) (meshWords loopsOf n s cut) (meshOffsets loopsOf n s cut) (meshQuads loopsOf n s cut)
 
   module _ (v : ℕ) (h : v < numberAt out′ 2 8) where
     there : v < vertexCount n s cut

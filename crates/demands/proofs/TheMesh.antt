@@ -28,12 +28,11 @@ use Rattle.mesh_rule.specs.Orientation.{QuadOf}
 use Rattle.mesh_rule.proofs.Counts.{most-vertices, most-quads}
 use Rattle.mesh_rule.proofs.Offsets.{offsets-in-unit, mesh-offsets-length}
 use Rattle.mesh_rule.proofs.Orientation.{each-quad}
-use Rattle.mesh_rule.proofs.Quads.{quad-count}
+use Rattle.mesh_rule.proofs.Quads.{flat-length, quad-count}
 use Rattle.mesh_rule.proofs.Numbers.{vertex-is-loop}
 use Rattle.mesh_rule.proofs.Words.{mesh-words-length, words-at}
 use Rattle.mesh.specs.declared.Totals.{Totals}
 use Rattle.mesh.specs.Answer.{countsOf, meshVerdict}
-use Rattle.mesh.proofs.PlaneQuads.{flat-length}
 use Rattle.demands.specs.Answers.{MeshCall}
 use Rattle.demands.specs.Given.{MeshGiven}
 
@@ -49,7 +48,7 @@ module _ {nx ny nz : ℕ} {s : List ℕ} {cut : Cut} (a : MeshCall nx ny nz s cu
   both : (verdict ≡ Passes) × (a .counts ≡ countsOf size s cut)
   both = accepted-exactly verdict (countsOf size s cut) _ (a .promise .answer) (a .counts) .0 (a .accepts)
 
-  vertices-are : a .counts .vertices ≡ length (vertices loopsOf size s cut)
+  pub vertices-are : a .counts .vertices ≡ length (vertices loopsOf size s cut)
   vertices-are = ap (λ (x : Totals). x .vertices) (both .1)
 
   pub quads-are : a .counts .quads ≡ length (quads loopsOf size s cut)
@@ -61,7 +60,7 @@ module _ {nx ny nz : ℕ} {s : List ℕ} {cut : Cut} (a : MeshCall nx ny nz s cu
   quads-in : a .quads-after ≡ over (meshQuads loopsOf size s cut) (a .quads)
   quads-in = a .promise .quads ∙ written-passed verdict (meshQuads loopsOf size s cut) (a .quads) (both .0)
 
-  flat-long : length (meshQuads loopsOf size s cut) ≡ 4 * a .counts .quads
+  pub flat-long : length (meshQuads loopsOf size s cut) ≡ 4 * a .counts .quads
   unfolding meshQuads
   flat-long = flat-length (quads loopsOf size s cut) ∙ omega (arith, quads-are)
 

@@ -3,7 +3,7 @@ use Prim.Native.Nat.{ℕ, _*_, _<_}
 use mathlib.Core.Path.{_≡_}
 use mathlib.Core.List.{List}
 use lib.Ieee.{Float}
-use lib.ListN.{getD}
+use lib.ListN.{getD, take}
 use Rattle.block.specs.declared.Cut.{Cut}
 use Rattle.block.specs.declared.Refusal.{Refusal}
 use Rattle.block.specs.Answer.{Answer, accepted, refused}
@@ -27,6 +27,10 @@ pub record MeshCall (nx ny nz : ℕ) (s : List ℕ) (cut : Cut) : Type 0 where
   pub promise : Meshed nx ny nz s cut words offsets quads answer words-after offsets-after quads-after
   pub counts : Totals
   pub accepts : saidCounts answer ≡ accepted counts
+
+-- the quads that it wrote
+abbrev pub quadsWritten : {nx ny nz : ℕ} {s : List ℕ} {cut : Cut} → MeshCall nx ny nz s cut → List ℕ
+quadsWritten a = take (4 * a .counts .quads) (a .quads-after)
 
 -- two meshes as the buffers hold them: the same cube for every vertex, and the same quads
 pub record SameMesh {nx ny nz : ℕ} {s s′ : List ℕ} {cut cut′ : Cut} (a : MeshCall nx ny nz s cut) (b : MeshCall nx ny nz s′ cut′) : Type 0 where

@@ -25,6 +25,11 @@ unfolding total
 total-plus f g zero = refl
 total-plus f g (suc n) = omega (arith, total-plus f g n)
 
+pub total-four : (f g k l : ℕ → ℕ) (n : ℕ) → total (λ (x : ℕ). f x + g x + k x + l x) n ≡ total f n + total g n + total k n + total l n
+unfolding total
+total-four f g k l zero = refl
+total-four f g k l (suc n) = omega (arith, total-four f g k l n)
+
 total-nothing : (n : ℕ) → total (λ (x : ℕ). 0) n ≡ 0
 unfolding total
 total-nothing zero = refl

@@ -24,10 +24,6 @@ flat-append : (p q : List Quad) → flat (p ++ q) ≡ flat p ++ flat q
 flat-append [] q = refl
 flat-append (a ∷ p) q = ap (λ (l : List ℕ). a .v0 ∷ a .v1 ∷ a .v2 ∷ a .v3 ∷ l) (flat-append p q)
 
-pub flat-length : (p : List Quad) → length (flat p) ≡ 4 * length p
-flat-length [] = refl
-flat-length (a ∷ p) = omega (arith, flat-length p)
-
 flat-below : (f : ℕ → List Quad) (m : ℕ) → flat (below f m) ≡ below (λ (p : ℕ). flat (f p)) m
 unfolding below
 flat-below f zero = refl

@@ -24,7 +24,8 @@ use Rattle.mesh.specs.declared.Totals.{Totals}
 use Rattle.mesh.specs.Answer.{vertexCount, quadCount, countsOf}
 use Rattle.mesh.specs.Steps.{quadsUpTo, MarkedTo, Marking, Counting, Tallied, RowMoved}
 use Rattle.mesh.proofs.Layers.{layers-all}
-use Rattle.mesh.proofs.PlaneQuads.{flat-length, mesh-quads, planes-quads-all}
+use Rattle.mesh_rule.proofs.Quads.{flat-length}
+use Rattle.mesh.proofs.PlaneQuads.{mesh-quads, planes-quads-all}
 use Rattle.mesh.proofs.Rows.{next-cube, next-layer-cube, cube-in, row-next, row-last, quads-room, row-vertices, vertices-le}
 
 module _ (n : Size) (s : List ℕ) (cut : Cut) where

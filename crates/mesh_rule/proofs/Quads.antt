@@ -26,6 +26,11 @@ use Rattle.mesh_rule.specs.Layers.{vertexAt}
 use Rattle.mesh_rule.proofs.Inner.{inner-facts, inner-sample, Round, map-round, crossed-round}
 use Rattle.mesh_rule.proofs.Numbers.{vertex-at}
 
+-- four numbers a quad
+pub flat-length : (qs : List Quad) → length (flat qs) ≡ 4 * length qs
+flat-length [] = refl
+flat-length (q ∷ qs) = omega (arith, flat-length qs)
+
 -- equal buffers hold equal quads
 pub flat-injective : (p q : List Quad) → flat p ≡ flat q → p ≡ q
 flat-injective [] [] h = refl

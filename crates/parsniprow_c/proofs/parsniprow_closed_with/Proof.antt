@@ -28,12 +28,15 @@ put-requires c κs = search needs
 same-length : tie.Need-same-length
 same-length c = search needs
 
+same-length-2 : tie.Need-same-length-2
+same-length-2 c = search needs
+
 returns : tie.Need-returns
 returns c =
     let answer-put = c .before .before in
     let answer-made = answer-put .before .before .before in
-    let asked = answer-made .before in
-    let a = asked .before .before .before .args in
+    let asked = answer-made .before .before .before in
+    let a = asked .before .before .before .before .before .args in
     record {
       answer = asked .closed-with .result;
       answered = asked .closed-with .ensures;
@@ -49,4 +52,5 @@ parsniprow-closed-with-spec =
     slice-aggregate-put
     put-requires
     same-length
+    same-length-2
     returns)
