@@ -13,7 +13,7 @@ use Rattle.block.specs.declared.Size.{Size}
 use Rattle.block.specs.Numbering.{sampleCount}
 use Rattle.block.specs.Answer.{given}
 use Rattle.block.specs.Ceilings.{ceilingsIn}
-use Rattle.block.specs.Rows.{countRow, thresholdRow}
+use Rattle.block.specs.Rows.{countRow, thresholdRow, roomRow}
 
 -- of `Size::nx`, `Size::ny` and `Size::nz`
 pub nx-fixed : (n : Size) → Fixes (λ (r : ℕ). r ≡ n .nx)
@@ -29,12 +29,15 @@ nz-fixed n = equation-fixes (n .nz)
 pub samples-fixed : (n : Size) → Fixes (λ (r : ℕ). (r ≡ sampleCount n) × (r ≤ 16777216))
 samples-fixed n a b p q = equation-fixes (sampleCount n) a b (p .0) (q .0)
 
--- of `check_count` and `check_threshold`
+-- of `check_count`, `check_threshold` and `check_room`
 pub check-count-fixed : (n : Size) (count : ℕ) → Fixes (λ (r : Checked). r ≡ countRow n count)
 check-count-fixed n count = equation-fixes (countRow n count)
 
 pub check-threshold-fixed : (cut : Cut) → Fixes (λ (r : Checked). r ≡ thresholdRow cut)
 check-threshold-fixed cut = equation-fixes (thresholdRow cut)
+
+pub check-room-fixed : (needed room : ℕ) → Fixes (λ (r : Checked). r ≡ roomRow needed room)
+check-room-fixed needed room = equation-fixes (roomRow needed room)
 
 -- of `refuse`, `short` and `ceilings`
 pub refuse-fixed : (number value : ℕ) → Fixes (λ (r : Checked). r ≡ Refuses (record { number = number; value = value }))

@@ -1,26 +1,25 @@
 -- The chains of sides: what a vertex's and a side's word is, one side more at the front, a chain that is followed, and the answer.
 -- Assumes nothing.
-use Prim.Native.Nat.{ℕ, zero, suc, _+_, _-_, _*_, _/_, _%_, _≤_, _<_}
+use Prim.Native.Nat.{ℕ, zero, suc, _+_, _-_, _≤_, _<_}
 use mathlib.Core.Path.{_≡_, refl, ap, sym, _∙_, subst}
 use mathlib.Core.Bool.{Bool, true, false, not, _&&_}
 use mathlib.Core.Logic.{_⊎_, inl, inr}
-use mathlib.Core.List.{List, [], _∷_, _++_}
+use mathlib.Core.List.{List, [], _∷_}
 use native.Mathlib.Nat.{not-suc-le-zero}
-use native.Mathlib.Numerals.{add-one}
 use native.Mathlib.Omega.{arith}
 use lib.Dec.{eqb}
-use lib.ListN.{length, getD, set, length-set, length-append, drop, List·getD-append}
+use lib.ListN.{length, getD, set, length-set, length-append, List·getD-append}
 use lib.Seq.{getD-set-same, getD-set-other, ext-getD, getD-append-add}
 use borrow.Author.Tests.{eqb-true, eqb-false, eq-eqb, ne-eqb}
-use Rattle.laws.specs.Below.{below, over}
+use Rattle.laws.specs.Below.{over}
 use Rattle.laws.specs.Bits.{bit}
 use Rattle.laws.specs.Counting.{count}
 use Rattle.laws.specs.Leading.{leading}
-use Rattle.laws.proofs.Counting.{clear-count, count-next, count-still}
+use Rattle.laws.proofs.Counting.{count-next, count-still}
 use Rattle.laws.proofs.Leading.{HoldsTo, before-more, leading-le, leading-holds, leading-stops, leading-at, leading-all}
 use Rattle.laws.proofs.Over.{each, each-length, each-at, over-length, over-front, over-behind}
 use Rattle.laws.proofs.Tests.{lt-or-ge}
-use Rattle.closed.specs.Closed.{from, to, walked, walks}
+use Rattle.closed.specs.Closed.{from, walked, walks}
 use Rattle.closed.specs.Chains.{topNumber, firstFrom, chains, wordsNeeded}
 use Rattle.closed.specs.Steps.{nextPlace, walksBefore, Chained, Followed}
 

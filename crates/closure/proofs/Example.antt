@@ -18,7 +18,7 @@ use Rattle.cube_rule.specs.Decider.{joined, loopsOf}
 use Rattle.mesh_rule.specs.Buffers.{meshQuads}
 use Rattle.mesh_rule.specs.Grid.{cornersOf}
 use Rattle.mesh_rule.specs.Mesh.{verticesOf, verticesBefore, vertices, vertexNumber, quadAt, quadsBefore, quads}
-use Rattle.closed.specs.Closed.{walks, Finding, allSound, findingOf}
+use Rattle.closed.specs.Closed.{walks, allSound, findingOf}
 
 abbrev size : Size
 size = record { nx = 4; ny = 4; nz = 3 }

@@ -1,20 +1,20 @@
 -- The sides of a list of quads, one quad after the other: what is counted over them, and what is so of each.
 -- Assumes nothing.
-use Prim.Native.Nat.{ℕ, zero, suc, _+_, _*_, _/_, _%_, _<_}
+use Prim.Native.Nat.{ℕ, zero, suc, _+_, _<_}
 use mathlib.Core.Path.{_≡_, refl, ap, ap₂, sym, _∙_}
 use mathlib.Core.Bool.{Bool, _&&_}
 use mathlib.Core.List.{List, [], _∷_, List·Memᴰ, List·Memᴰ·head, List·Memᴰ·tail}
 use native.Mathlib.Nat.{not-suc-le-zero}
 use native.Mathlib.Omega.{arith}
 use lib.Dec.{eqb}
-use lib.ListN.{length, getD}
+use lib.ListN.{length}
 use lib.Seq.{getD-append-add}
 use Rattle.laws.specs.Bits.{bit}
 use Rattle.laws.specs.Counting.{count}
 use Rattle.laws.proofs.Counting.{count-same, count-none, count-add}
 use Rattle.laws.proofs.Sums.{summed}
 use Rattle.mesh_rule.specs.Mesh.{Quad, flat}
-use Rattle.closed.specs.Closed.{from, to, walks, Finding, allSound, findingOf}
+use Rattle.closed.specs.Closed.{from, to, walks, allSound, findingOf}
 use Rattle.closed.specs.Steps.{nextPlace}
 use Rattle.closed.proofs.Exactly.{side-exactly, closed-exactly}
 use Rattle.closure.proofs.Face.{hit}

@@ -1,14 +1,13 @@
 -- If the faces of the box are of one sign, a crossed edge is an inner one.
 -- Assumes nothing.
-use Prim.Native.Nat.{ℕ, zero, suc, _+_, _-_, _≤_, _<_}
-use mathlib.Core.Path.{_≡_, refl, ap, ap₂, sym, _∙_}
-use mathlib.Core.Bool.{Bool, true, false, not, cond, _&&_, _||_, false≢true, true≢false}
+use Prim.Native.Nat.{ℕ, _+_, _≤_, _<_}
+use mathlib.Core.Path.{_≡_, refl, ap₂, sym, _∙_}
+use mathlib.Core.Bool.{Bool, true, false, not, _&&_, _||_, false≢true, true≢false}
 use mathlib.Core.Logic.{_⊎_, inl, inr}
 use mathlib.Core.List.{List}
 use native.Mathlib.Omega.{arith}
-use native.Mathlib.Decide.{decLt}
-use lib.Dec.{eqb, ltb}
-use borrow.Author.Tests.{eq-eqb, ne-eqb, lt-ltb, le-ltb, ltb-true}
+use lib.Dec.{ltb}
+use borrow.Author.Tests.{eq-eqb, ne-eqb, lt-ltb, le-ltb}
 use Rattle.block.specs.declared.Cut.{Cut}
 use Rattle.block.specs.declared.Size.{Size}
 use Rattle.laws.specs.Bits.{differ}
@@ -62,13 +61,13 @@ module _ (n : Size) (s : List ℕ) (cut : Cut) (b : Bool) (faces : FacesAre b n 
   -- an edge of the box that is no inner one lies on a face of the box, with both its ends
   flat : (a : Axis) (i j k : ℕ) → InBox n a i j k → inner n a i j k ≡ false → crossedFrom n s cut a i j k ≡ false
   flat X i j k h e =
-      let on : (x : ℕ) → onBoxFace n x j k ≡ true = λ x. rw (at-out (n .ny) j (h .1), at-out (n .nz) k (h .2)) (yz (ltb (i + 1) (n .nx)) (between (n .ny) j) (between (n .nz) k) (atEnd (n .nx) x) (lt-ltb _ _ (h .0)) e) in
+      let on : (x : ℕ) → onBoxFace n x j k ≡ true = λ x. ap₂ (λ (p q : Bool). atEnd (n .nx) x || p || q) (at-out (n .ny) j (h .1)) (at-out (n .nz) k (h .2)) ∙ yz (ltb (i + 1) (n .nx)) (between (n .ny) j) (between (n .nz) k) (atEnd (n .nx) x) (lt-ltb _ _ (h .0)) e in
       level (metal n s cut i j k) (metal n s cut (i + 1) j k) b (faces i j k (omega arith) (h .1) (h .2) (on i)) (faces (i + 1) j k (h .0) (h .1) (h .2) (on (i + 1)))
   flat Y i j k h e =
-      let on : (y : ℕ) → onBoxFace n i y k ≡ true = λ y. rw (at-out (n .nx) i (h .0), at-out (n .nz) k (h .2)) (xz (between (n .nx) i) (ltb (j + 1) (n .ny)) (between (n .nz) k) (atEnd (n .ny) y) (lt-ltb _ _ (h .1)) e) in
+      let on : (y : ℕ) → onBoxFace n i y k ≡ true = λ y. ap₂ (λ (p q : Bool). p || atEnd (n .ny) y || q) (at-out (n .nx) i (h .0)) (at-out (n .nz) k (h .2)) ∙ xz (between (n .nx) i) (ltb (j + 1) (n .ny)) (between (n .nz) k) (atEnd (n .ny) y) (lt-ltb _ _ (h .1)) e in
       level (metal n s cut i j k) (metal n s cut i (j + 1) k) b (faces i j k (h .0) (omega arith) (h .2) (on j)) (faces i (j + 1) k (h .0) (h .1) (h .2) (on (j + 1)))
   flat Z i j k h e =
-      let on : (z : ℕ) → onBoxFace n i j z ≡ true = λ z. rw (at-out (n .nx) i (h .0), at-out (n .ny) j (h .1)) (xy (between (n .nx) i) (between (n .ny) j) (ltb (k + 1) (n .nz)) (atEnd (n .nz) z) (lt-ltb _ _ (h .2)) e) in
+      let on : (z : ℕ) → onBoxFace n i j z ≡ true = λ z. ap₂ (λ (p q : Bool). p || q || atEnd (n .nz) z) (at-out (n .nx) i (h .0)) (at-out (n .ny) j (h .1)) ∙ xy (between (n .nx) i) (between (n .ny) j) (ltb (k + 1) (n .nz)) (atEnd (n .nz) z) (lt-ltb _ _ (h .2)) e in
       level (metal n s cut i j k) (metal n s cut i j (k + 1)) b (faces i j k (h .0) (h .1) (omega arith) (on k)) (faces i j (k + 1) (h .0) (h .1) (h .2) (on (k + 1)))
 
   pub crossed-inner : (a : Axis) (i j k : ℕ) → InBox n a i j k → (inner n a i j k && crossedFrom n s cut a i j k) ≡ crossedFrom n s cut a i j k

@@ -1,8 +1,8 @@
 -- At most 12 quads of a mesh meet at a vertex, and at most 12 sides start there. The cube of the vertex tells the edge: along each axis there is at most
 -- one edge whose quad has the vertex in its first place, one in its second, one in its third and one in its fourth.
 -- Assumes nothing.
-use Prim.Native.Nat.{ℕ, _+_, _*_, _/_, _%_, _≤_, _<_}
-use mathlib.Core.Path.{_≡_, refl, ap, ap₂, sym, _∙_}
+use Prim.Native.Nat.{ℕ, _+_, _*_, _/_, _%_, _≤_}
+use mathlib.Core.Path.{_≡_, refl, ap, sym, _∙_}
 use mathlib.Core.Bool.{Bool, true, false, cond, _&&_, _||_}
 use mathlib.Core.List.{List, [], _∷_, _++_}
 use native.Mathlib.Nat.{le-trans}
@@ -31,7 +31,7 @@ use Rattle.mesh_rule.proofs.Reading.{round-in}
 use Rattle.closure.specs.Quads.{hasVertex, quadsAt, sidesFrom}
 use Rattle.closure.proofs.Parts.{first, second, third, fourth}
 use Rattle.closure.proofs.Ends.{one-cube, Lies}
-use Rattle.closure.proofs.Sides.{past, four-more, sidesIn, sides-summed}
+use Rattle.closure.proofs.Sides.{past, sidesIn, sides-summed}
 
 -- ---- of any list: a quad that has the vertex has a side that starts there
 

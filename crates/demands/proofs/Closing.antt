@@ -11,18 +11,15 @@ use lib.ListN.{length, getD, take}
 use Rattle.laws.specs.Filled.{filled}
 use Rattle.block.specs.declared.Cut.{Cut}
 use Rattle.block.specs.declared.Checked.the-variants.{Passes}
-use Rattle.block.specs.Answer.{accepted}
 use Rattle.block.specs.Grey.{cutOf}
 use Rattle.block.specs.Size.{sizeOf}
-use Rattle.cube_rule.specs.Decider.{loopsOf}
-use Rattle.mesh_rule.specs.Buffers.{meshQuads}
 use Rattle.mesh_rule.specs.Mesh.{vertices, quads}
 use Rattle.lists.specs.Rows.{lengthRow}
 use Rattle.lists.proofs.Rows.{length-exactly}
 use Rattle.closed.specs.declared.Closure.{Closure}
 use Rattle.closed.specs.declared.Closure.the-variants.{Closed}
 use Rattle.closed.specs.Chains.{wordsNeeded, ClosedWith}
-use Rattle.closed.specs.Closed.{Finding, allSound, findingOf, saidClosure, ClosedAnswered}
+use Rattle.closed.specs.Closed.{allSound, findingOf, saidClosure, ClosedAnswered}
 use Rattle.closed.proofs.Fixed.{said-closure-injective, same-answer}
 use Rattle.closure.specs.Faces.{FacesAre}
 use Rattle.closure.specs.Quads.{quadsAt, sidesFrom}

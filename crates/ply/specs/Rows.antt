@@ -1,5 +1,4 @@
 -- Row 13 of the table of refusals: the spacings (document 02, Three).
-use Prim.Native.Nat.{ℕ}
 use mathlib.Core.Bool.{Bool, not, _&&_}
 use mathlib.Core.List.{List, [], _∷_}
 use lib.Ieee.{Float, lt, le}

@@ -2,7 +2,7 @@
 -- Assumes nothing.
 use mathlib.Core.Path.{_≡_, refl, sym, ap, _∙_}
 use mathlib.Core.List.{List}
-use Prim.Native.Nat.{ℕ, _/_, _%_, _+_}
+use Prim.Native.Nat.{ℕ, _+_}
 use native.Mathlib.Omega.{arith}
 use lib.Dec.{leb}
 use lib.ListN.{length}
@@ -13,7 +13,7 @@ use Rattle.block.specs.Rows.{roomRow}
 use Rattle.block.proofs.Rows.{unless-none}
 use Rattle.lists.specs.Rows.{lengthRow}
 use Rattle.lists.proofs.Rows.{length-exactly}
-use Rattle.closed.specs.Closed.{sideSound, allSound, openAt}
+use Rattle.closed.specs.Closed.{sideSound}
 use Rattle.closed.specs.Chains.{wordsNeeded}
 use Rattle.closed.proofs.With.{finding-at, finding-none, length-refused, room-refused, found-with}
 use borrow.Author.Needs.{needs}

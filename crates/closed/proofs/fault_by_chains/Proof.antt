@@ -1,7 +1,5 @@
 -- `fault_by_chains` meets its contract.
 -- Assumes nothing.
-use mathlib.Core.Path.{_≡_, ap, _∙_}
-use native.Mathlib.Omega.{arith}
 use Rattle.closed.proofs.Chains.{chained-then, chains-followed, chains-written}
 use borrow.Author.Needs.{needs}
 use Rattle.closed.proofs.fault_by_chains.Statement.{statement}

@@ -1,9 +1,6 @@
 -- `runs` meets its contract: by cases on its two tests.
 -- Assumes nothing.
-use mathlib.Core.Path.{sym, ap}
-use borrow.Author.Tests.{eq-eqb, ne-eqb}
 use borrow.Author.Needs.{needs}
-use Rattle.laws.specs.Bits.{bit}
 use Rattle.closed.proofs.Search.{runs-both, runs-other}
 use Rattle.closed.proofs.runs.Statement.{statement}
 use Rattle.closed.proofs.runs.Tie as tie

@@ -1,10 +1,9 @@
 -- `walks_from` meets its contract: the chain of a is followed.
 -- Assumes nothing.
-use mathlib.Core.Path.{_≡_, refl, sym, _∙_}
-use Prim.Native.Nat.{ℕ, _+_, _-_, _≤_, _<_}
+use Prim.Native.Nat.{_+_, _-_}
 use native.Mathlib.Omega.{arith}
 use borrow.Author.Needs.{needs}
-use lib.ListN.{length, getD}
+use lib.ListN.{length}
 use Rattle.closed.specs.Closed.{from}
 use Rattle.closed.proofs.Chains.{first-ge, Following, follow-first, follow-next, follow-end}
 use Rattle.closed.proofs.walks_from.Statement.{statement}
