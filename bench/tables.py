@@ -265,8 +265,8 @@ edges, which are those of one quad, and for non-manifold edges, which are those 
 - VTK has the same vertices, as doubles, and the same quads as its own polygons before the time begins, and only its
   call Update() is timed. It takes the memory for its links and its edges within that time. It goes through all quads.
 - The library goes through all sides of a closed list. Of an open list it links all sides and then stops at the first
-  at fault, so the ratio there tells little. The meshes of noise are open at the faces of the box. `sealed` is the same
-  block with all samples on those faces set to 0, and its mesh is closed.
+  at fault, so the ratio there tells little. With noise the surface reaches the faces of the box, and the mesh is open
+  there. `sealed` is the same block with all samples on those faces set to 0, and its mesh is closed.
 - The two do not ask the same. The library's rule is that each side is walked as often one way as the other. VTK does
   not look at the way. A side that four quads walk, twice each way, is in order here and non-manifold for VTK.
 - No memory: VTK 9.1.0 first asks for room for a tenth of the vertices times a twentieth of them, 8 bytes each. Where it

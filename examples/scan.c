@@ -1,6 +1,6 @@
 /* The scan tool: reads a raw block of 16-bit grey values, has the library draw the surface between metal and hollow,
-   and writes how many vertices and quads it has, on request also the vertices and quads themselves: as plain text, as
-   a PLY file for a viewer, or both.
+   and writes how many vertices and quads it has and whether it is closed, on request also the vertices and quads
+   themselves: as plain text, as a PLY file for a viewer, or both.
    Usage: scan FILE NX NY NZ THRESHOLD BYTE-ORDER [--mesh OUT] [--ply OUT --spacing X Y Z]; "scan --help" says what each
    of them is.
    Assumes a POSIX system, and the library linked in (include/parsniprow.h).
@@ -11,6 +11,7 @@
      values LEAST to GREATEST             the grey values in the file
      ceiling COUNT                        how many of them are 65535, the detector's ceiling
      vertices COUNT, quads COUNT          the mesh
+     closed yes, closed no                whether each side of its quads is walked as often one way as the other
      marked COUNT                         how many vertices have a corner of their cube at the ceiling
      ply BYTES                            how long the PLY file is, where one is asked for
      refused NUMBER value VALUE           there is no mesh, and no line of values or counts
@@ -45,7 +46,8 @@
 #include <time.h>
 #include <unistd.h>
 
-enum { ANSWER = 3, AXES = 3, BYTES_A_SAMPLE = 2, WORDS_A_VERTEX = 2, OFFSETS_A_VERTEX = 3, VERTICES_A_QUAD = 4 };
+enum { ANSWER = 3, CLOSED_ANSWER = 4, AXES = 3 };
+enum { BYTES_A_SAMPLE = 2, WORDS_A_VERTEX = 2, OFFSETS_A_VERTEX = 3, VERTICES_A_QUAD = 4 };
 enum { NO_REFUSAL, BAD_AXIS, BAD_COUNT, BAD_THRESHOLD, BAD_SPACING = 13, NO_ROOM = 15 };
 enum { STATUS_MESH, STATUS_FAILED, STATUS_ARGUMENTS, STATUS_REFUSED };
 enum { ARGUMENTS = 6, LENGTH = 1, MOST_AT_ONCE = 1 << 20, MEGABYTE = 1000000 };
@@ -69,6 +71,7 @@ struct block {
 
 struct mesh {
     uint32_t *words, *quads, vertex_count, quad_count, marked_count;
+    int is_closed;
     double *offsets;
     uint8_t *ply;
     uint64_t ply_len;
@@ -76,11 +79,11 @@ struct mesh {
 
 /* ---- progress, told by a clock, so that it is told within a long call too ---- */
 
-enum stage { OPENING, READING, COUNTING, MESHING, DRAWING, WRITING };
+enum stage { OPENING, READING, COUNTING, MESHING, CHECKING, DRAWING, WRITING };
 enum { WHOLE = 100, NO_PERCENT = 127, STAGE_STEP = 128 };
 
 static const char *const stage_names[] = {"opening the file", "reading", "counting", "making the mesh",
-                                          "making the PLY file", "writing"};
+                                          "checking its sides", "making the PLY file", "writing"};
 /* stage and percent in one number, so that the clock never sees the one change without the other */
 static volatile sig_atomic_t progress;
 static struct timespec started;
@@ -252,7 +255,7 @@ static void help(void)
     puts("target/scan FILE NX NY NZ THRESHOLD BYTE-ORDER [--mesh OUT] [--ply OUT --spacing X Y Z]\n"
          "\n"
          "Draws the surface between metal and hollow in a scan as a mesh of quads, and writes how many vertices and\n"
-         "quads it has. Nothing is smoothed.\n"
+         "quads it has, and whether it is closed. Nothing is smoothed.\n"
          "\n"
          "  FILE        the scan: 16-bit grey values and nothing else, along x first, then y, then z\n"
          "  NX NY NZ    how many values there are along x, y and z, each 2 to 256. FILE must have 2 x NX x NY x NZ\n"
@@ -272,8 +275,8 @@ static void help(void)
          "  target/scan housing.raw 256 256 200 23000 little --mesh housing-mesh.txt\n"
          "  target/scan housing.raw 256 256 200 23000 little --ply housing.ply --spacing 0.125 0.125 0.2\n"
          "\n"
-         "Standard output has what was asked, then the lines \"values\", \"ceiling\", \"vertices\", \"quads\" and\n"
-         "\"marked\", and with --ply the line \"ply\" with the bytes of the file; or the line\n"
+         "Standard output has what was asked, then the lines \"values\", \"ceiling\", \"vertices\", \"quads\",\n"
+         "\"closed\" and \"marked\", and with --ply the line \"ply\" with the bytes of the file; or the line\n"
          "\"refused NUMBER value VALUE\", no count, and what to do. The file of --mesh has the same lines, then a\n"
          "line for each vertex, in steps of the grid at I+X, J+Y, K+Z, with the mask of the edges of cube I J K that\n"
          "it joins; then a line for each quad:\n"
@@ -281,6 +284,10 @@ static void help(void)
          "  v NUMBER I J K X Y Z MASK\n"
          "  q VERTEX VERTEX VERTEX VERTEX");
     puts("\n"
+         "The line \"closed\" says yes if each side of a quad is walked as often one way as the other, over all\n"
+         "quads. It is always so where the values on the six sides of the box are all metal, or all hollow. It says\n"
+         "no only where a side of the box cuts a surface off. That is no finding about the part.\n"
+         "\n"
          "A value of 65535 is the detector's ceiling. What the detector saw there is not known. It is drawn as\n"
          "metal. The line \"ceiling\" says how many such values there are. A vertex is marked if a corner of its\n"
          "cube is at the ceiling. The line \"marked\" says how many vertices are. The MASK of a marked vertex begins\n"
@@ -413,6 +420,7 @@ static void put_counts(FILE *to, const struct block *block, const struct mesh *m
     fprintf(to, "ceiling %" PRIu32 "\n", block->ceiling_count);
     fprintf(to, "vertices %" PRIu32 "\n", mesh->vertex_count);
     fprintf(to, "quads %" PRIu32 "\n", mesh->quad_count);
+    fprintf(to, "closed %s\n", mesh->is_closed ? "yes" : "no");
     fprintf(to, "marked %" PRIu32 "\n", mesh->marked_count);
     if (outs[PLY_FILE].name)
         fprintf(to, "ply %" PRIu64 "\n", mesh->ply_len);
@@ -473,6 +481,9 @@ static void report(const struct request *request, const struct block *block, con
     put_counts(stdout, block, mesh);
     if (block->ceiling_count > 0)
         note_ceilings(request, block, mesh);
+    if (!mesh->is_closed)
+        printf("note Closed no is no finding: a side of the box cuts a surface off. With a margin round the part, of "
+               "nothing but metal or nothing but air, the mesh is closed.\n");
     if (mesh->quad_count == 0) {
         printf("note No quads does not mean no pore: a pore at the edge of the box has none. Scan the part with a "
                "margin round it.\n");
@@ -635,6 +646,21 @@ static void make_mesh(const struct request *request, const struct block *block, 
         mesh->marked_count += (mesh->words[WORDS_A_VERTEX * vertex + 1] & MARK) != 0;
 }
 
+/* The library works in memory with an item for each vertex and one for each number of the quads. */
+static void check_closed(const struct request *request, struct mesh *mesh)
+{
+    size_t quads_len = (size_t)VERTICES_A_QUAD * mesh->quad_count, work_len = mesh->vertex_count + quads_len;
+    uint64_t *work, needed = work_len * sizeof *work;
+    uint32_t answer[CLOSED_ANSWER];
+    enter(CHECKING);
+    work = room(needed, needed, "The check whether the mesh is closed");
+    parsniprow_closed_with(mesh->quads, quads_len, work, work_len, answer, CLOSED_ANSWER);
+    free(work);
+    if (answer[0] != NO_REFUSAL)
+        refuse(request, answer);
+    mesh->is_closed = answer[1] == 1;
+}
+
 /* The first answer says how much room is needed. It is not cut: the largest mesh needs 2430842766 bytes. */
 static void make_ply(const struct request *request, struct mesh *mesh)
 {
@@ -785,6 +811,7 @@ int main(int argc, char **argv)
     mesh = count_mesh(&request, &block);
     count_ceilings(&block);
     make_mesh(&request, &block, &mesh);
+    check_closed(&request, &mesh);
     if (outs[PLY_FILE].name)
         make_ply(&request, &mesh);
     write_files(&request, &block, &mesh);

@@ -129,8 +129,8 @@ void parsniprow_mesh(uint32_t nx, uint32_t ny, uint32_t nz, const uint16_t *samp
 void parsniprow_closed(const uint32_t *quads, size_t quads_len, uint32_t *answer, size_t answer_len);
 
 /* The same question and the same answer, with lent memory to work in. Its time grows with the list, and with the number
-   of sides that start at one vertex; in a mesh of parsniprow_mesh these are at most 12. A list in which most sides
-   start at the same vertex still takes the square of its length.
+   of sides that start at one vertex; in a mesh of parsniprow_mesh these are at most 12. A list in which a large part of
+   the sides start at one vertex still takes the square of its length.
      quads   as of parsniprow_closed
      work    one item for each vertex number from 0 to the highest in the list, then one for each item of quads. For a
              mesh of parsniprow_mesh vertices + 4 * quads items are enough. More room is allowed

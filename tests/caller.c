@@ -1,4 +1,4 @@
-/* A caller of the installed library, in the words that C and C++ share: the paper's samples through each of the seven
+/* A caller of the installed library, in the words that C and C++ share: the paper's samples through each of the eight
    functions, in a thread with a stack of 64 KiB, which the header says is enough. Prints what is wrong and ends with
    status 1, or ends with status 0.
    Assumes the installed header and archive, and POSIX threads. */
@@ -11,7 +11,7 @@
 #include <string.h>
 
 enum { STACK = 65536, SAMPLES = 27, VERTICES = 8, MARKED_VERTICES = 9, QUADS = 6, MARK = 4096 };
-enum { FILE_BYTES = 466, HEAD_BYTES = 172 };
+enum { WORK = VERTICES + 4 * QUADS, FILE_BYTES = 466, HEAD_BYTES = 172 };
 
 static int faults;
 
@@ -92,6 +92,26 @@ static void ask_closed(const uint32_t *quads)
     expect("three numbers", answers(answer, 7, 3, 0) && answer[3] == 0);
 }
 
+static void ask_closed_with(const uint32_t *quads)
+{
+    static const uint32_t alone[4] = {0, 1, 2, 3};
+    uint32_t answer[4] = {9, 9, 9, 9};
+    uint64_t work[WORK + 1];
+    for (size_t at = 0; at <= WORK; at++)
+        work[at] = 99;
+    parsniprow_closed_with(quads, 4 * QUADS, work, WORK - 1, answer, 4);
+    expect("too little work", answers(answer, 15, WORK, 0) && answer[3] == 0 && work[0] == 99 && work[WORK - 2] == 99);
+    parsniprow_closed_with(alone, 3, work, 0, answer, 4);
+    expect("three numbers and no work", answers(answer, 7, 3, 0) && answer[3] == 0 && work[0] == 99);
+    parsniprow_closed_with(quads, 4 * QUADS, work, WORK + 1, answer, 4);
+    expect("closed with work", answers(answer, 0, 1, 0) && answer[3] == 0);
+    /* sides 0, 8 and 16 start at vertex 0, and side 1 is the first that starts at vertex 4 */
+    expect("its work", work[0] == 0 && work[4] == 1 && work[VERTICES] == 8 && work[VERTICES + 8] == 16 &&
+                           work[VERTICES + 16] == 4 * QUADS && work[WORK - 1] == 4 * QUADS && work[WORK] == 99);
+    parsniprow_closed_with(alone, 4, work, 8, answer, 4);
+    expect("a quad alone with work", answers(answer, 0, 0, 0) && answer[3] == 0 && work[3] == 3 && work[7] == 4);
+}
+
 static void ask_ply(void)
 {
     static const unsigned char vertex[8] = {0x34, 0x33, 0x33, 0x33, 0x33, 0x33, 0xB3, 0x3F};
@@ -140,6 +160,7 @@ static void *ask(void *unused)
     ask_cube();
     ask_block(quads);
     ask_closed(quads);
+    ask_closed_with(quads);
     ask_ply();
     ask_large();
     return unused;

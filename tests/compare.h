@@ -94,6 +94,9 @@ struct closure {
 /* Asks, without work and with enough of it, whether the quads of a mesh with so many vertices are closed. */
 struct closure try_list_of_mesh(struct chance *chance, const uint32_t *quads, size_t quad_count, size_t vertex_count);
 
+/* Asks the same of a copy in which one quad is damaged. There is at least one quad, and at most 1000. */
+void try_damaged_mesh(struct chance *chance, const uint32_t *quads, size_t quad_count, int was_closed);
+
 /* What is asked once, whatever the blocks. */
 void try_fixed_blocks(void);
 void try_fixed_edges(void);

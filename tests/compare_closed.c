@@ -1,5 +1,6 @@
 /* Compares the closed question, without work and with it, with the plain implementation: some lists once; with each
-   block random ones, the mesh's own list, and a damaged copy of that. The work is compared in all its items.
+   block random ones, the mesh's own list, and a damaged copy of that. The work is compared in all its items. A damaged
+   copy of a closed mesh must be open.
    Assumes nothing more than compare.h. */
 #include "compare.h"
 
@@ -52,7 +53,7 @@ static uint64_t work_needed(const struct question *question)
 /* ---- what occurred ---- */
 
 static struct {
-    uint64_t lists, kinds[LIST_KINDS], damaged[DAMAGES], own_closed, own_open, own_long, own_damaged[DAMAGES][2];
+    uint64_t lists, kinds[LIST_KINDS], damaged[DAMAGES], own_closed, own_open, own_long, mesh_damaged[DAMAGES][2];
     uint64_t empty, closed, once, oftener_one_way, more_there, more_back, even_uses, equal_ends;
     uint64_t first_quad, late_quad, side[4], rest[4];
 } tally;
@@ -364,21 +365,28 @@ struct closure try_list_of_mesh(struct chance *chance, const uint32_t *quads, si
     return closure;
 }
 
-/* The mesh's own list, and a copy of it in which one quad is damaged. */
-static void try_own_list(const struct trial *trial, struct chance *chance)
+/* A number may be changed to what it was, so only the other kinds of damage surely open a closed mesh: the four vertices
+   of its quads are of four cubes. */
+void try_damaged_mesh(struct chance *chance, const uint32_t *quads, size_t quad_count, int was_closed)
 {
     static uint32_t copy[4 * MOST_QUADS + 4];
     enum damage damage = (enum damage)chance_below(chance, DAMAGES);
-    size_t length = 4 * trial->quad_count;
     struct question question;
+    memcpy(copy, quads, 4 * quad_count * sizeof *copy);
+    question = choose_question(chance, copy, damage_list(chance, damage, copy, 4 * quad_count));
+    try_list(&question);
+    if (was_closed && damage != NUMBER_CHANGED && answer[1] == 1 && first_to_fail("a damaged mesh is closed"))
+        print_list(&question);
+    tally.mesh_damaged[damage][was_closed && answer[1] == 0]++;
+}
+
+static void try_own_list(const struct trial *trial, struct chance *chance)
+{
     int is_closed = try_list_of_mesh(chance, trial->quads, trial->quad_count, trial->vertex_count).is_closed;
     tally.own_closed += is_closed;
     tally.own_open += !is_closed;
     tally.own_long += trial->quad_count > SQUARE_QUADS;
-    memcpy(copy, trial->quads, length * sizeof *copy);
-    question = choose_question(chance, copy, damage_list(chance, damage, copy, length));
-    try_list(&question);
-    tally.own_damaged[damage][is_closed && answer[1] == 0]++;
+    try_damaged_mesh(chance, trial->quads, trial->quad_count, is_closed);
 }
 
 static void try_random_list(struct chance *chance)
@@ -421,9 +429,10 @@ static void tally_kinds(void)
     tally_case("closed", tally.own_closed);
     tally_case("open", tally.own_open);
     tally_case("long", tally.own_long);
+    tally_title("damaged meshes");
     for (unsigned damage = 0; damage < DAMAGES; damage++) {
-        tally_case(damage_names[damage], tally.own_damaged[damage][0] + tally.own_damaged[damage][1]);
-        tally_case("and so no more closed", tally.own_damaged[damage][1]);
+        tally_case(damage_names[damage], tally.mesh_damaged[damage][0] + tally.mesh_damaged[damage][1]);
+        tally_case("and so no more closed", tally.mesh_damaged[damage][1]);
     }
 }
 

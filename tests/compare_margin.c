@@ -1,5 +1,6 @@
 /* Blocks with a margin: all samples on the six faces of the box are metal, or all are hollow, and within they are of
-   any kind. The library meshes them, and the mesh must be closed, whether it is asked without work or with it.
+   any kind. The library meshes them, and the mesh must be closed, whether it is asked without work or with it. A copy
+   of it in which one quad is damaged is asked too.
    Assumes nothing more than compare.h. */
 #include "compare.h"
 
@@ -44,7 +45,7 @@ static void print_margin(const struct margin *margin, const uint32_t answer[ANSW
     printf("\n");
 }
 
-/* Has the library mesh the block, into the answer, and asks whether the mesh is closed. */
+/* Has the library mesh the block, into the answer, and asks whether the mesh is closed, then of a damaged copy. */
 static void try_closed(struct chance *chance, const struct margin *margin, uint32_t answer[ANSWER])
 {
     static uint32_t words[2 * MOST_VERTICES], quads[4 * MOST_QUADS];
@@ -58,6 +59,8 @@ static void try_closed(struct chance *chance, const struct margin *margin, uint3
         closure = try_list_of_mesh(chance, quads, answer[2], answer[1]);
     if (!closure.is_closed && first_to_fail("a block with a margin is not meshed, or its mesh is open"))
         print_margin(margin, answer);
+    if (answer[0] == 0 && answer[2] > 0)
+        try_damaged_mesh(chance, quads, answer[2], closure.is_closed);
     tally.no_quad[margin->is_metal] += answer[2] == 0;
     tally.quads[margin->is_metal] += answer[2] > 0;
     tally.walked_again[margin->is_metal] += closure.is_walked_again;

@@ -221,12 +221,13 @@ def quads_of(axes, t, samples, vertices):
 
 
 def closed(quads):
-    uses = {}
+    """Whether each side is walked as often one way as the other, over all quads, and has two different ends."""
+    walks = {}
     for quad in quads:
         for side in range(4):
-            ends = tuple(sorted((quad[side], quad[(side + 1) % 4])))
-            uses[ends] = uses.get(ends, 0) + 1
-    return all(one != other and count == 2 for (one, other), count in uses.items())
+            way = (quad[side], quad[(side + 1) % 4])
+            walks[way] = walks.get(way, 0) + 1
+    return all(one != other and walks.get((other, one)) == count for (one, other), count in walks.items())
 
 
 # ---- writing

@@ -549,11 +549,8 @@ fn blocks() {
     orders(&block, &bright, &less, &dark);
 }
 
-fn ask_closed(quads: &[u32]) {
-    io::write_all(STDOUT_FILENO, b"closed ");
-    number(quads.len() as u64, 8);
-    io::write_all(STDOUT_FILENO, b"- ");
-    match closed::closed(quads) {
+fn closure_is(closure: Closure) {
+    match closure {
         Closure::Closed => {
             io::write_all(STDOUT_FILENO, b"closed ");
         }
@@ -566,6 +563,14 @@ fn ask_closed(quads: &[u32]) {
             refusal(r);
         }
     }
+}
+
+fn ask_closed(quads: &[u32]) {
+    io::write_all(STDOUT_FILENO, b"closed ");
+    number(quads.len() as u64, 8);
+    io::write_all(STDOUT_FILENO, b"- ");
+    let closure = closed::closed(quads);
+    closure_is(closure);
     end_line();
     words_of(quads);
 }
@@ -614,22 +619,113 @@ fn six_quads() {
     ask_closed(&[0, 4, 6, 2, 1, 3, 7, 5, 0, 1, 5, 4, 2, 6, 7, 3, 0, 2, 3, 1]);
 }
 
-// Sides with two equal ends, which are used twice.
+// Sides with two equal ends, while every side is walked as often one way as the other.
 fn equal_ends() {
-    ask_closed(&[0, 0, 1, 2, 0, 0, 1, 2]);
-    ask_closed(&[0, 1, 2, 2, 0, 1, 2, 2]);
+    ask_closed(&[0, 0, 1, 2, 2, 1, 0, 0]);
+    ask_closed(&[0, 1, 2, 2, 2, 2, 1, 0]);
     ask_closed(&[7, 7, 7, 7]);
 }
 
-// A side used twice in either direction, within one quad too; used three and four times; the first fault in a later quad or side.
-fn uses() {
+// A side walked twice one way; once each way, within one quad too; twice each way; oftener one way than the other; the first fault in a later quad or
+// side.
+fn walks() {
     ask_closed(&[0, 1, 2, 3, 0, 1, 2, 3]);
     ask_closed(&[0, 1, 2, 3, 3, 2, 1, 0]);
     ask_closed(&[5, 6, 5, 7]);
     ask_closed(&[0, 1, 0, 1]);
-    ask_closed(&[0, 1, 2, 3, 0, 1, 2, 3, 0, 1, 2, 3]);
-    ask_closed(&[0, 1, 2, 3, 0, 1, 2, 3, 4, 5, 6, 7]);
-    ask_closed(&[0, 1, 2, 3, 0, 1, 2, 4294967295]);
+    ask_closed(&[0, 1, 2, 3, 3, 2, 1, 0, 0, 1, 2, 3]);
+    ask_closed(&[0, 1, 2, 3, 3, 2, 1, 0, 3, 2, 1, 0]);
+    ask_closed(&[0, 1, 2, 3, 3, 2, 1, 0, 4, 5, 6, 7]);
+    ask_closed(&[0, 1, 2, 3, 2, 1, 0, 4294967295]);
+}
+
+// The pore of two, across a face whose four edges are all crossed: its mesh is closed, and one side is walked twice each way.
+fn pore_of_two() {
+    let mut samples = [0u16; 48];
+    samples[21] = 300;
+    samples[26] = 300;
+    let mut words = [2779096485u32; 28];
+    let mut offsets = [0.125; 42];
+    let mut quads = [1515870810u32; 48];
+    ask_mesh(4, 4, 3, &samples, 100, &mut words, &mut offsets, &mut quads);
+    ask_closed(&quads);
+}
+
+fn work_of(work: [u64; 14]) {
+    io::write_all(STDOUT_FILENO, b"  ");
+    number(work[0], 16);
+    number(work[1], 16);
+    number(work[2], 16);
+    number(work[3], 16);
+    number(work[4], 16);
+    number(work[5], 16);
+    number(work[6], 16);
+    number(work[7], 16);
+    number(work[8], 16);
+    number(work[9], 16);
+    number(work[10], 16);
+    number(work[11], 16);
+    number(work[12], 16);
+    number(work[13], 16);
+    end_line();
+}
+
+// The answer to a list with so much of the work lent; then the list, and all of the work afterwards.
+fn told_with(quads: &[u32], room: usize, closure: Closure, work: [u64; 14]) {
+    io::write_all(STDOUT_FILENO, b"closed_with ");
+    number(quads.len() as u64, 8);
+    number(room as u64, 8);
+    io::write_all(STDOUT_FILENO, b"- ");
+    closure_is(closure);
+    end_line();
+    words_of(quads);
+    work_of(work);
+}
+
+// None of the work lent, eleven words of it, twelve, and all fourteen.
+fn with_none(quads: &[u32]) {
+    let mut work = [11936128518282651045u64; 14];
+    let closure = closed::closed_with(quads, &mut work[..0]);
+    told_with(quads, 0, closure, work);
+}
+
+fn with_eleven(quads: &[u32]) {
+    let mut work = [11936128518282651045u64; 14];
+    let closure = closed::closed_with(quads, &mut work[..11]);
+    told_with(quads, 11, closure, work);
+}
+
+fn with_twelve(quads: &[u32]) {
+    let mut work = [11936128518282651045u64; 14];
+    let closure = closed::closed_with(quads, &mut work[..12]);
+    told_with(quads, 12, closure, work);
+}
+
+fn with_all(quads: &[u32]) {
+    let mut work = [11936128518282651045u64; 14];
+    let closure = closed::closed_with(quads, &mut work);
+    told_with(quads, 14, closure, work);
+}
+
+// A quad and its reverse, which need 12 words: as many, more, one less and none. A quad that is folded, and one that is open.
+fn works() {
+    with_twelve(&[0, 1, 2, 3, 3, 2, 1, 0]);
+    with_all(&[0, 1, 2, 3, 3, 2, 1, 0]);
+    with_eleven(&[0, 1, 2, 3, 3, 2, 1, 0]);
+    with_none(&[0, 1, 2, 3, 3, 2, 1, 0]);
+    with_all(&[4, 1, 2, 1]);
+    with_all(&[0, 1, 2, 3, 2, 1, 0, 4]);
+}
+
+// No quad, without room and with it; 7 alone, and before 15; as many words needed as an answer can say, and more.
+fn short_works() {
+    let none = [0u32; 0];
+    with_none(&none);
+    with_all(&none);
+    with_all(&[0, 1, 2]);
+    with_none(&[0, 1, 2, 3, 0, 1]);
+    with_all(&[0, 1, 2, 4294967290]);
+    with_all(&[0, 1, 2, 4294967295]);
 }
 
 fn main() {
@@ -642,5 +738,8 @@ fn main() {
     short_lists();
     six_quads();
     equal_ends();
-    uses();
+    walks();
+    pore_of_two();
+    works();
+    short_works();
 }

@@ -1,4 +1,4 @@
--- Across each face of a block as many sides run one way as the other.
+-- Across each face between two cubes as many sides run one way as the other, where no side of the box cuts the surface off.
 -- Assumes nothing.
 use Prim.Native.Nat.{ℕ, _+_, _-_, _<_}
 use mathlib.Core.Path.{_≡_, ap, ap₂, sym, _∙_}
@@ -20,9 +20,9 @@ use Rattle.mesh_rule.specs.Layers.{vertexAt}
 use Rattle.mesh_rule.specs.Mesh.{verticesBefore, vertexNumber, quads}
 use Rattle.mesh_rule.proofs.Inner.{Inner}
 use Rattle.mesh_rule.proofs.Numbers.{corners-of-number}
-use Rattle.closure.specs.Faces.{FacesAre}
+use Rattle.closure.specs.Faces.{EdgeIn}
 use Rattle.closure.proofs.Face.{crossing, face-balanced}
-use Rattle.closure.proofs.Surface.{InBox, crossed-inner, not-inner, four}
+use Rattle.closure.proofs.Surface.{Uncut, crossed-inner, not-inner, four}
 use Rattle.closure.proofs.Parts.{walksOver, faceX, faceY, faceZ, by-faces}
 
 up : (a : ℕ) → a + 1 - 1 ≡ a
@@ -63,9 +63,9 @@ module _ (D : Decider) (loopsOf : Cut → List ℕ → List ℕ) (laws : CubeLaw
   abbrev hasQuad : Axis → ℕ → ℕ → ℕ → Bool
   hasQuad a i j k = inner n a i j k && crossedFrom n s cut a i j k
 
-  module _ (b : Bool) (faces : FacesAre b n s cut) (i j k : ℕ) (hi : i < n .nx) (hj : j < n .ny) (hk : k < n .nz) where
-    abbrev in-order : (a : Axis) (x y z : ℕ) → InBox n a x y z → hasQuad a x y z ≡ crossedFrom n s cut a x y z
-    in-order = crossed-inner n s cut b faces
+  module _ (uncut : Uncut n s cut) (i j k : ℕ) (hi : i < n .nx) (hj : j < n .ny) (hk : k < n .nz) where
+    abbrev in-order : (a : Axis) (x y z : ℕ) → EdgeIn n a x y z → hasQuad a x y z ≡ crossedFrom n s cut a x y z
+    in-order = crossed-inner n s cut uncut
 
     abbrev no-quad : (a : Axis) (x y z : ℕ) → (Inner n a x y z → ⊥) → hasQuad a x y z ≡ false
     no-quad a x y z = not-inner n a x y z (crossedFrom n s cut a x y z)
@@ -106,12 +106,12 @@ module _ (D : Decider) (loopsOf : Cut → List ℕ → List ℕ) (laws : CubeLaw
         (λ h p q hp hq e. (linked-vertex 5 i j (k - 1) p q (omega arith) (omega arith) (omega arith) hp hq (rw (back k (h .2)) e), linked-vertex 4 i j k p q (omega arith) (omega arith) (omega arith) hp hq e))
         (λ f. (no-quad X i j k (λ h. f (omega arith)), no-quad Y (i + 1) j k (λ h. f (omega arith)), no-quad X i (j + 1) k (λ h. f (omega arith)), no-quad Y i j k (λ h. f (omega arith)))) u v)
 
-  pub all-balanced : (b : Bool) → FacesAre b n s cut → (u v : ℕ) → walksOver u v (quads loopsOf n s cut) ≡ walksOver v u (quads loopsOf n s cut)
-  all-balanced b faces u v =
+  pub all-balanced : Uncut n s cut → (u v : ℕ) → walksOver u v (quads loopsOf n s cut) ≡ walksOver v u (quads loopsOf n s cut)
+  all-balanced uncut u v =
       by-faces loopsOf n s cut u v
       ∙ ap₂ (λ (x y : ℕ). x + y)
       (ap₂ (λ (x y : ℕ). x + y)
-      (boxed-same _ _ (n .nx) (n .ny) (n .nz) (λ i j k hi hj hk. balance-x b faces i j k hi hj hk u v))
-      (boxed-same _ _ (n .nx) (n .ny) (n .nz) (λ i j k hi hj hk. balance-y b faces i j k hi hj hk u v)))
-      (boxed-same _ _ (n .nx) (n .ny) (n .nz) (λ i j k hi hj hk. balance-z b faces i j k hi hj hk u v))
+      (boxed-same _ _ (n .nx) (n .ny) (n .nz) (λ i j k hi hj hk. balance-x uncut i j k hi hj hk u v))
+      (boxed-same _ _ (n .nx) (n .ny) (n .nz) (λ i j k hi hj hk. balance-y uncut i j k hi hj hk u v)))
+      (boxed-same _ _ (n .nx) (n .ny) (n .nz) (λ i j k hi hj hk. balance-z uncut i j k hi hj hk u v))
       ∙ sym (by-faces loopsOf n s cut v u)

@@ -33,12 +33,12 @@ use Rattle.cell.specs.Answer.{wordOf, cubeVerdict, saidCube, loopsAnswered, Cub
 use Rattle.cell.proofs.Answers.{accepted-loops}
 use Rattle.cell.proofs.Words.{word-mark, word-mask, word-small}
 use Rattle.mesh_rule.specs.Buffers.{meshWords}
-use Rattle.mesh_rule.specs.Grid.{sampleAt, cornersAt, cornersOf, ahead, crossedFrom}
+use Rattle.mesh_rule.specs.Grid.{InBox, sampleAt, cornersAt, cornersOf, ahead, crossedFrom}
 use Rattle.mesh_rule.specs.Mesh.{Vertex, cubeLoops, verticesBefore, vertices, vertexOf}
 use Rattle.mesh_rule.proofs.Numbers.{corners-of-number, loop-lt, loop-stands, vertex-is-loop}
 use Rattle.mesh_rule.proofs.Words.{words-at}
 use Rattle.demands.specs.Answers.{MeshCall}
-use Rattle.demands.specs.Marks.{hasMark, wordAfter, cornersAfter, Unmarked, BothSigns, InBox}
+use Rattle.demands.specs.Marks.{hasMark, wordAfter, cornersAfter, Unmarked, BothSigns}
 use Rattle.demands.proofs.TheMesh.{limits, mesh-given, word-at}
 
 -- ---- a ceiling is metal, whatever the threshold

@@ -20,14 +20,14 @@ use Rattle.cell.specs.declared.Found.the-variants as found-is
 use Rattle.cell.specs.declared.Found.{Found}
 use Rattle.cell.specs.Answer.{wordOf, saidCube}
 use Rattle.cell.proofs.Answers.{verdict-is, accepted-loops}
-use Rattle.mesh_rule.specs.Grid.{sampleAt, cornersOf, ahead, crossedFrom}
+use Rattle.mesh_rule.specs.Grid.{InBox, sampleAt, cornersOf, ahead, crossedFrom}
 use Rattle.mesh.specs.declared.Counted.{Counted}
 use Rattle.mesh.specs.declared.Counted.the-variants as counted
 use Rattle.mesh.specs.declared.Totals.{Totals}
 use Rattle.mesh.specs.Answer.{saidCounts}
 use Rattle.parsniprow_c.specs.Told.{tellOver, toldCeilings, toldCube, toldCounts, CeilingsTold, CubeTold, MeshTold}
 use Rattle.demands.specs.Answers.{NotRefused, MeshCall}
-use Rattle.demands.specs.Marks.{hasMark, BothSigns, InBox}
+use Rattle.demands.specs.Marks.{hasMark, BothSigns}
 use Rattle.demands.proofs.Numbers.{cube-numbers, mesh-numbers}
 use Rattle.cube_rule.specs.Decider.{loopsOf}
 use Rattle.demands.proofs.Refusals.{cube-accepts}

@@ -54,10 +54,6 @@ pub record BothSigns (cut : Cut) (corners : List ℕ) : Type 0 where
   pub other-there : other < 8
   pub apart-there : apart cut (cornerSample corners one) (cornerSample corners other) ≡ true
 
--- (i,j,k) is a sample of the block
-abbrev pub InBox : Size → ℕ → ℕ → ℕ → Type 0
-InBox n i j k = (i < n .nx) × (j < n .ny) × (k < n .nz)
-
 -- where the line of vertex v begins in the program's text: behind the first line, which has 21 bytes, and 63 bytes for each vertex before it
 abbrev pub vertexPlace : ℕ → ℕ
 vertexPlace v = 21 + 63 * v

@@ -64,6 +64,16 @@ lt-or-ge a b = go (decLt a b)
     go (yes l) = inl l
     go (no g) = inr (omega arith)
 
+-- a number below n passes, or none does
+pub some-or-none : (f : ℕ → Bool) (n : ℕ) → ((k : ℕ) × (k < n) × (f k ≡ true)) ⊎ ((k : ℕ) → k < n → f k ≡ false)
+some-or-none f zero = inr (λ k h. absurd (not-suc-le-zero h))
+some-or-none f (suc n) = go (f n) refl (some-or-none f n)
+  where
+    go : (b : Bool) → f n ≡ b → ((k : ℕ) × (k < n) × (f k ≡ true)) ⊎ ((k : ℕ) → k < n → f k ≡ false) → ((k : ℕ) × (k < suc n) × (f k ≡ true)) ⊎ ((k : ℕ) → k < suc n → f k ≡ false)
+    go true e _ = inl (n, le-refl (suc n), e)
+    go false e (inl s) = inl (s .0, le-trans (s .1) (le-suc n), s .2)
+    go false e (inr a) = inr (λ k h. ⊎-elim (λ (i : k ≡ n). subst (λ (x : ℕ). f x ≡ false) (sym i) e) (a k) (eq-or-lt-of-le (le-of-suc-le-suc h)))
+
 -- f passes at true and at false
 abbrev pub either-way : (Bool → Bool) → Bool
 either-way f = both (f true) (f false)

@@ -12,6 +12,10 @@ use Rattle.block.specs.declared.Size.{Size}
 use Rattle.block.specs.Grey.{positive}
 use Rattle.block.specs.Numbering.{Axis, X, Y, Z, sampleIndex, atSample, atCube}
 
+-- (i,j,k) is a sample of the block
+abbrev pub InBox : Size → ℕ → ℕ → ℕ → Type 0
+InBox n i j k = (i < n .nx) × (j < n .ny) × (k < n .nz)
+
 -- the sample (i,j,k), and whether it is positive (metal)
 abbrev pub sampleAt : Size → List ℕ → ℕ → ℕ → ℕ → ℕ
 sampleAt n s i j k = getD s (sampleIndex n i j k) 0
