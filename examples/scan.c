@@ -482,8 +482,8 @@ static void report(const struct request *request, const struct block *block, con
     if (block->ceiling_count > 0)
         note_ceilings(request, block, mesh);
     if (!mesh->is_closed)
-        printf("note Closed no is no finding: a side of the box cuts a surface off. With a margin round the part, of "
-               "nothing but metal or nothing but air, the mesh is closed.\n");
+        printf("note The mesh is open, which is no finding: a side of the box cuts a surface off. With a margin round "
+               "the part, of nothing but metal or nothing but air, the mesh is closed.\n");
     if (mesh->quad_count == 0) {
         printf("note No quads does not mean no pore: a pore at the edge of the box has none. Scan the part with a "
                "margin round it.\n");

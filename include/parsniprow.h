@@ -33,7 +33,8 @@
              not there
      15      file_len is under the bytes of    bytes or items needed
              the file, or work_len under the
-             items that are worked in
+             items that the closed question
+             needs
      22      words_len and offsets_len are     words_len
              not twice and three times one
              count of at most 66325500
@@ -119,8 +120,8 @@ void parsniprow_mesh(uint32_t nx, uint32_t ny, uint32_t nz, const uint16_t *samp
                      size_t quads_len, uint32_t *answer, size_t answer_len);
 
 /* Whether a list of quads is closed: each side is walked as often one way as the other, over all quads, and has two
-   different ends. The mesh of a block is closed where all samples on the six faces of the box are metal, and where all
-   are hollow. The empty list is closed.
+   different ends. The mesh of a block is closed if all samples on the six faces of the box are metal, or all are
+   hollow. The empty list is closed.
    ITS TIME GROWS WITH THE SQUARE OF THE LIST, unless a fault is found early: 10000 quads take some two seconds, 100000
    some minutes. For the list of a mesh ask parsniprow_closed_with.
      quads   4 vertex numbers a quad, any numbers; side s of a quad runs from its vertex s to the next, 3 back to 0
@@ -133,7 +134,8 @@ void parsniprow_closed(const uint32_t *quads, size_t quads_len, uint32_t *answer
    the sides start at one vertex still takes the square of its length.
      quads   as of parsniprow_closed
      work    one item for each vertex number from 0 to the highest in the list, then one for each item of quads. For a
-             mesh of parsniprow_mesh vertices + 4 * quads items are enough. More room is allowed
+             mesh of parsniprow_mesh vertices + 4 * quads items are enough. More room is allowed. It
+             need not be initialised
      answer  answer place, 4 items: as of parsniprow_closed; or refusal (7 or 15, tried in this order), its value, 0, 0
    At exit item v of work is the first side that starts at vertex v. The item of a side, behind those of the vertices,
    is the next side that starts where it does. Side s of quad q is 4 * q + s here, and quads_len stands where there is

@@ -1,6 +1,6 @@
 /* Compares the closed question, without work and with it, with the plain implementation: some lists once; with each
-   block random ones, the mesh's own list, and a damaged copy of that. The work is compared in all its items. A damaged
-   copy of a closed mesh must be open.
+   block random ones, the mesh's own list, and a damaged copy of that. The work is compared in all its items. A copy of
+   a closed mesh in which a quad is turned round, left out or doubled must be open.
    Assumes nothing more than compare.h. */
 #include "compare.h"
 
@@ -296,7 +296,8 @@ static void try_small_lists(void)
     }
 }
 
-/* A star: half of all sides start at one vertex. Its last quad is turned so that one side is at fault, the last. */
+/* A star: half of all sides start at one vertex. Then the same with another last vertex, which is closed too, and with
+   a last quad that is open. */
 static void try_star(void)
 {
     enum { STAR_QUADS = 200 };

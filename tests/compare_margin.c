@@ -124,7 +124,7 @@ static void try_pore_of_two(uint16_t two, uint16_t others)
         margin.samples[index] = others;
     margin.samples[1 + NX * (1 + NY)] = margin.samples[2 + NX * (2 + NY)] = two;
     try_closed(&chance, &margin, answer);
-    if ((answer[1] != VERTICES || answer[2] != QUADS) && first_to_fail("a pore of two has another mesh"))
+    if ((answer[1] != VERTICES || answer[2] != QUADS) && first_to_fail("a pair of samples has another mesh"))
         print_margin(&margin, answer);
 }
 

@@ -1,6 +1,6 @@
 /* Runs the plain implementation on the paper's samples: the example block with its whole output, the nine cubes, the
    edges, the refusals, lists of quads and the table of faces; on samples at the ceiling, which are metal and leave a
-   mark; on a pore of two samples, whose mesh is closed; on the work of the closed question; and on files of the
+   mark; on two samples that are joined across a face, whose mesh is closed; on the work of the closed question; and on files of the
    example's mesh and of the empty one. Prints each sample and its verdict; exits with 1 if one differs.
    Assumes nothing of the library. */
 #include "bench_cubes.h"
@@ -364,7 +364,7 @@ static void works(void)
     work("4294967300 items needed: cut", highest, 4, LIST_WORK, 15, UINT32_MAX, NULL, 0);
 }
 
-/* ---- a pore of two samples ---- */
+/* ---- two samples, joined across a face ---- */
 
 enum { PORE_SAMPLES = 48, PORE_VERTICES = 14, PORE_QUADS = 12 };
 
@@ -477,8 +477,8 @@ int main(void)
     ceilings_of_blocks();
     lists();
     works();
-    pore_of_two("a pore of two samples: closed", 300, 0, 1);
-    pore_of_two("the same of the other sign: closed", 0, 150, 2);
+    pore_of_two("two samples of metal: closed", 300, 0, 1);
+    pore_of_two("a pore of two samples: closed", 0, 150, 2);
     files();
     example();
     printf("plain_samples: %u differences\n", failures);

@@ -639,7 +639,7 @@ fn walks() {
     ask_closed(&[0, 1, 2, 3, 2, 1, 0, 4294967295]);
 }
 
-// The pore of two, across a face whose four edges are all crossed: its mesh is closed, and one side is walked twice each way.
+// Two samples of metal, joined across a face whose four edges are all crossed: its mesh is closed, and one side is walked twice each way.
 fn pore_of_two() {
     let mut samples = [0u16; 48];
     samples[21] = 300;

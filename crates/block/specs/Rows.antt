@@ -1,4 +1,4 @@
--- Rows 1 to 3 and 15 of the table of refusals, each as a check of its own (document 01, "Numbers of refusal"; document 02, Three and Four).
+-- Rows 1 to 3 and 15 of the table of refusals, each as a check of its own (document 01, "Numbers of refusal"; document 02, Three).
 use Prim.Native.Nat.{ℕ, suc}
 use mathlib.Core.Bool.{Bool, cond, _||_}
 use mathlib.Core.List.{List, [], _∷_}

@@ -10,7 +10,7 @@ use native.Mathlib.Omega.{arith}
 use lib.Dec.{eqb}
 use lib.ListN.{length, getD, set, length-set, length-append, List·getD-append}
 use lib.Seq.{getD-set-same, getD-set-other, ext-getD, getD-append-add}
-use borrow.Author.Tests.{eqb-true, eqb-false, eq-eqb, ne-eqb}
+use borrow.Author.Tests.{eqb-true, eqb-false, eq-eqb, ne-eqb, not-true, not-false}
 use Rattle.laws.specs.Below.{over}
 use Rattle.laws.specs.Bits.{bit}
 use Rattle.laws.specs.Counting.{count}
@@ -18,7 +18,7 @@ use Rattle.laws.specs.Leading.{leading}
 use Rattle.laws.proofs.Counting.{count-next, count-still}
 use Rattle.laws.proofs.Leading.{HoldsTo, before-more, leading-le, leading-holds, leading-stops, leading-at, leading-all}
 use Rattle.laws.proofs.Over.{each, each-length, each-at, over-length, over-front, over-behind}
-use Rattle.laws.proofs.Tests.{lt-or-ge}
+use Rattle.laws.proofs.Tests.{lt-or-ge, and-fails}
 use Rattle.closed.specs.Closed.{from, walked, walks}
 use Rattle.closed.specs.Chains.{topNumber, firstFrom, chains, wordsNeeded}
 use Rattle.closed.specs.Steps.{nextPlace, walksBefore, Chained, Followed}
@@ -38,14 +38,6 @@ top-least (v ∷ l) t h = omega (arith, h 0 (omega arith), top-least l t (λ i k
 
 -- ---- the first side from m on that starts at v
 
-not-off : (b : Bool) → not b ≡ true → b ≡ false
-not-off true e = absurd (let z : _≡_ {A = ℕ} 0 1 = cc in omega arith)
-not-off false e = refl
-
-not-on : (b : Bool) → not b ≡ false → b ≡ true
-not-on true e = refl
-not-on false e = absurd (let z : _≡_ {A = ℕ} 0 1 = cc in omega arith)
-
 module _ (quads : List ℕ) (v m : ℕ) where
   abbrev other : ℕ → Bool
   other i = not (eqb (from quads (m + i)) v)
@@ -61,12 +53,12 @@ module _ (quads : List ℕ) (v m : ℕ) where
   -- it starts there
   pub first-starts : firstFrom quads v m < length quads → from quads (firstFrom quads v m) ≡ v
   unfolding firstFrom
-  first-starts h = eqb-true _ _ (not-on _ (leading-stops other (length quads - m) (omega arith)))
+  first-starts h = eqb-true _ _ (not-false _ (leading-stops other (length quads - m) (omega arith)))
 
   -- and none between does
   pub first-between : (i : ℕ) → i < firstFrom quads v m - m → eqb (from quads (m + i)) v ≡ false
   unfolding firstFrom
-  first-between i h = not-off _ (leading-holds other (length quads - m) i (omega arith))
+  first-between i h = not-true _ (leading-holds other (length quads - m) i (omega arith))
 
   -- there is no other such side
   pub first-is : (x : ℕ) → m ≤ x → x ≤ length quads → ((i : ℕ) → m ≤ i → i < x → from quads i ≡ v → ⊥) → (x < length quads → from quads x ≡ v) → firstFrom quads v m ≡ x
@@ -236,16 +228,11 @@ pub record Following (quads : List ℕ) (a b found m : ℕ) : Type 0 where
   pub starts : m < length quads → from quads m ≡ a
 
 module _ (quads : List ℕ) (a b : ℕ) where
-  -- sides that do not start at a are not walked from a
-  off : (x y : Bool) → x ≡ false → (x && y) ≡ false
-  off true y e = absurd (let z : _≡_ {A = ℕ} 0 1 = cc in omega arith)
-  off false y e = refl
-
   still : (m : ℕ) → m ≤ length quads → walksBefore quads a b (firstFrom quads a m) ≡ walksBefore quads a b m
   still m h =
       let more : firstFrom quads a m ≡ m + (firstFrom quads a m - m) = omega (arith, first-ge quads a m) in
       ap (walksBefore quads a b) more
-      ∙ count-still (walked quads a b) m (firstFrom quads a m - m) (λ i l. off _ _ (first-between quads a m i l))
+      ∙ count-still (walked quads a b) m (firstFrom quads a m - m) (λ i l. sym (and-fails _ (first-between quads a m i l)))
 
   pub follow-first : (m : ℕ) → m ≡ firstFrom quads a 0 → Following quads a b 0 m
   unfolding count

@@ -1,5 +1,5 @@
--- The closed question with lent memory: what it writes there, and its promise (document 02, Four). The sides that start at a vertex stand in a
--- chain: the vertex has the first of them, and each side has the next.
+-- The closed question with lent memory: what it writes there, and its promise. The sides that start at a vertex stand in a chain: the vertex has the
+-- first of them, and each side has the next.
 use Prim.Native.Nat.{ℕ, _+_, _-_, max}
 use mathlib.Core.Path.{_≡_}
 use mathlib.Core.Bool.{not}
@@ -33,7 +33,7 @@ chains quads = below (λ (v : ℕ). firstFrom quads v 0 ∷ []) (topNumber quads
 abbrev pub wordsNeeded : List ℕ → ℕ
 wordsNeeded quads = topNumber quads + length quads
 
--- "rows 7, 15", with so much room
+-- 7, then 15, with so much room
 abbrev pub workRows : List ℕ → ℕ → List Checked
 workRows quads room = lengthRow quads ∷ roomRow (wordsNeeded quads) room ∷ []
 

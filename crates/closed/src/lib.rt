@@ -1,6 +1,6 @@
 // The closed question: whether each side of a list of quads is in order, and the first side that is not (document 01, "The mesh"; document 02,
-// Four). `closed` compares every side with every other, so its cost grows with the square of the list's length. `closed_with` is lent memory, in
-// which the sides that start at a vertex stand in a chain, so it compares a side with those that start at its two ends.
+// Four). `closed` compares every side with every other, so its cost grows with the square of the list's length. `closed_with` works in lent
+// memory, where the sides that start at a vertex stand in a chain. So it compares a side with those that start at its two ends.
 use block::Checked;
 use block::Refusal;
 ghost use mathlib.Core.Path.{_≡_};
@@ -155,7 +155,7 @@ fn wide(v: u32) -> usize
     v as usize
 }
 
-// No side starts at a vertex: the word of each says that there is none.
+// No side is chained yet: the word of each vertex says that there is none.
 fn clear_heads(quads: &[u32], top: usize, work: &mut [u64])
     requires { ⌜ top + length (now quads) ≤ length (now work) ⌝ }
     ensures { λ _. ⌜ Chained (now (quads .entry)) top (length (now (quads .entry))) (now (work .entry)) (now (work .exit)) ⌝ }
@@ -168,7 +168,7 @@ fn clear_heads(quads: &[u32], top: usize, work: &mut [u64])
     }
 }
 
-// From the last side to the first: the side comes before those that start at its vertex.
+// From the last side to the first: each side is put before those that start at its vertex.
 fn chain_sides(quads: &[u32], top: usize, work: &mut [u64])
     requires { ⌜ (top ≡ topNumber (now quads)) × (top + length (now quads) ≤ length (now work)) × Chained (now quads) top (length (now quads)) (now work) (now work) ⌝ }
     ensures { λ _. ⌜ Chained (now (quads .entry)) top 0 (now (work .entry)) (now (work .exit)) ⌝ }

@@ -1,4 +1,4 @@
--- Across each face between two cubes as many sides run one way as the other, where no side of the box cuts the surface off.
+-- Across each face between two cubes as many sides run one way as the other, where no face of the box cuts the surface off.
 -- Assumes nothing.
 use Prim.Native.Nat.{ℕ, _+_, _-_, _<_}
 use mathlib.Core.Path.{_≡_, ap, ap₂, sym, _∙_}
@@ -59,7 +59,7 @@ module _ (D : Decider) (loopsOf : Cut → List ℕ → List ℕ) (laws : CubeLaw
       ap (λ (x : ℕ). length (verticesBefore loopsOf n s cut c) + x)
       (laws .linked cut (cornersOf n s c) f p q hf hp hq (rw (corners-of-number n s i j k hi hj) e))
 
-  -- whether the edge from (i,j,k) along the axis has a quad, and what decides the face with these corners
+  -- whether the edge from (i,j,k) along the axis has a quad
   abbrev hasQuad : Axis → ℕ → ℕ → ℕ → Bool
   hasQuad a i j k = inner n a i j k && crossedFrom n s cut a i j k
 

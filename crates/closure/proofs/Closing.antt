@@ -1,4 +1,4 @@
--- If all samples on the six faces of the box are of one sign, the mesh is closed. If it is open, a side of the box cuts the surface off.
+-- If all samples on the six faces of the box are of one sign, the mesh is closed. If it is open, a face of the box cuts the surface off.
 -- Assumes nothing.
 use Prim.Native.Nat.{ℕ}
 use mathlib.Core.Path.{_≡_, sym, _∙_}

@@ -2,7 +2,7 @@
 -- Assumes nothing.
 use Prim.Native.Nat.{ℕ, _+_, _<_}
 use mathlib.Core.Path.{_≡_, refl, ap}
-use mathlib.Core.Bool.{Bool, true, false, cond, _&&_}
+use mathlib.Core.Bool.{Bool, true, false, cond, _&&_, and-comm}
 use native.Mathlib.Omega.{arith}
 use lib.Dec.{eqb}
 use Rattle.laws.specs.Bits.{bit, differ}
@@ -21,23 +21,17 @@ side false x y u v = hit y x u v
 abbrev pub term : Bool → Bool → ℕ → ℕ → ℕ → ℕ → ℕ
 term c b x y u v = cond c (side b x y u v) 0
 
-and-swap : (a b : Bool) → (a && b) ≡ (b && a)
-and-swap true true = refl
-and-swap true false = refl
-and-swap false true = refl
-and-swap false false = refl
-
 pub hit-turn : (x y u v : ℕ) → hit x y u v ≡ hit y x v u
 unfolding hit
-hit-turn x y u v = ap bit (and-swap (eqb x u) (eqb y v))
+hit-turn x y u v = ap bit (and-comm (eqb x u) (eqb y v))
 
--- The four edges of a face, with the vertices of the cubes below it and above it: the sides of the quads of those edges that have one. The corners 0, 1 and 3
--- have these signs. Edge 0 runs from corner 0 to 1, edge 1 from 1 to 2, edge 2 from 3 to 2, edge 3 from 0 to 3.
+-- How many sides across a face run from u to v. Each of its four edges that has a quad (c₀ to c₃) gives one side, between its vertices in the cubes below and
+-- above the face (lo and hi). The corners 0, 1 and 3 have the signs a, b and d. Edge 0 runs from corner 0 to 1, edge 1 from 1 to 2, edge 2 from 3 to 2, edge 3 from 0 to 3.
 abbrev pub crossing : Bool → Bool → Bool → Bool → Bool → Bool → Bool → (ℕ → ℕ) → (ℕ → ℕ) → ℕ → ℕ → ℕ
 crossing c₀ c₁ c₂ c₃ a b d lo hi u v =
     term c₀ a (lo 0) (hi 0) u v + term c₁ b (lo 1) (hi 1) u v + term c₂ d (hi 2) (lo 2) u v + term c₃ a (hi 3) (lo 3) u v
 
--- each edge that is crossed has one
+-- the same where each crossed edge has a quad
 abbrev pub across : Bool → Bool → Bool → Bool → (ℕ → ℕ) → (ℕ → ℕ) → ℕ → ℕ → ℕ
 across a b c d = crossing (differ a b) (differ b c) (differ d c) (differ a d) a b d
 

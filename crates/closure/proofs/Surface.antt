@@ -1,4 +1,4 @@
--- Either a side of the box cuts the surface off, or each crossed edge is an inner one. It is so where the faces of the box are of one sign.
+-- Either a face of the box cuts the surface off, or each crossed edge is an inner one. The second is so where the faces of the box are of one sign.
 -- Assumes nothing.
 use Prim.Native.Nat.{ℕ, _+_, _/_, _%_, _≤_, _<_}
 use mathlib.Core.Path.{_≡_, refl, ap₂, sym, _∙_}
@@ -7,7 +7,7 @@ use mathlib.Core.Logic.{_⊎_, inl, inr}
 use mathlib.Core.List.{List}
 use native.Mathlib.Omega.{arith}
 use lib.Dec.{ltb}
-use borrow.Author.Tests.{eq-eqb, ne-eqb, lt-ltb, le-ltb, ltb-true}
+use borrow.Author.Tests.{eq-eqb, ne-eqb, lt-ltb, le-ltb, ltb-true, not-true}
 use Rattle.block.specs.declared.Cut.{Cut}
 use Rattle.block.specs.declared.Size.{Size}
 use Rattle.laws.specs.Bits.{differ}
@@ -88,10 +88,6 @@ in-stays : (n : Size) (a : Axis) (i j k : ℕ) → EdgeIn n a i j k → stays n 
 in-stays n X i j k h = lt-ltb _ _ (h .1 .0)
 in-stays n Y i j k h = lt-ltb _ _ (h .1 .1)
 in-stays n Z i j k h = lt-ltb _ _ (h .1 .2)
-
-not-true : (b : Bool) → not b ≡ true → b ≡ false
-not-true true e = absurd (false≢true e)
-not-true false e = refl
 
 last-off : (a b c : Bool) → a ≡ true → b ≡ false → (a && not b && c) ≡ false → c ≡ false
 last-off true false c p q e = e

@@ -1,4 +1,4 @@
--- All samples on the six faces of the box are of one sign, and where they are not: a side of the box cuts the surface off (document 02, Four).
+-- What it means that all samples on the six faces of the box are of one sign, and that a face of the box cuts the surface off (document 02, Four).
 use Prim.Native.Nat.{ℕ}
 use mathlib.Core.Path.{_≡_}
 use mathlib.Core.Bool.{Bool, true, false, _||_}
@@ -20,7 +20,7 @@ FacesAre sign n s cut = (i j k : ℕ) → InBox n i j k → onBoxFace n i j k �
 abbrev pub EdgeIn : Size → Axis → ℕ → ℕ → ℕ → Type 0
 EdgeIn n a i j k = InBox n i j k × ahead (InBox n) a i j k
 
--- an edge of the block that is no inner one, so that it lies on a face of the box, is crossed: there a side of the box cuts the surface off
+-- an edge of the block that is no inner one, so that it lies on a face of the box, is crossed: there the face cuts the surface off
 pub record CutOff (n : Size) (s : List ℕ) (cut : Cut) : Type 0 where
   pub axis : Axis
   pub i : ℕ

@@ -1,4 +1,4 @@
--- How many quads of a list meet at a vertex, and how many of its sides start there (document 02, Four).
+-- How many quads of a list meet at a vertex, and how many of its sides start there.
 use Prim.Native.Nat.{ℕ, _+_, _*_, _/_}
 use mathlib.Core.Bool.{Bool, _||_}
 use mathlib.Core.List.{List}
@@ -12,9 +12,10 @@ abbrev pub hasVertex : List ℕ → ℕ → ℕ → Bool
 hasVertex quads v q =
     eqb (getD quads (4 * q) 0) v || eqb (getD quads (4 * q + 1) 0) v || eqb (getD quads (4 * q + 2) 0) v || eqb (getD quads (4 * q + 3) 0) v
 
+-- how many quads of the list meet at v
 abbrev pub quadsAt : List ℕ → ℕ → ℕ
 quadsAt quads v = count (hasVertex quads v) (length quads / 4)
 
--- the sides of the chain that `closed_with` follows from v
+-- how many sides of the list start at v: the chain that `closed_with` follows
 abbrev pub sidesFrom : List ℕ → ℕ → ℕ
 sidesFrom quads v = count (λ (n : ℕ). eqb (from quads n) v) (length quads)

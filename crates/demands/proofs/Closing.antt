@@ -5,7 +5,6 @@ use mathlib.Core.Path.{_≡_, refl, sym, ap, ap₂, _∙_, subst}
 use mathlib.Core.Bool.{Bool}
 use mathlib.Core.Logic.{_⊎_, inl, inr, ⊎-elim}
 use mathlib.Core.List.{List, [], _∷_}
-use native.Mathlib.Nat.{le-trans}
 use native.Mathlib.Omega.{arith}
 use lib.Ieee.{Float}
 use lib.ListN.{length, getD, take}
@@ -59,7 +58,7 @@ module _ {nx ny nz : ℕ} {s : List ℕ} {cut : Cut} (a : MeshCall nx ny nz s cu
   length-passes : lengthRow (quadsWritten a) ≡ Passes
   length-passes = length-exactly (quadsWritten a) .1 (rw (quads-front a) (omega (arith, flat-long a)))
 
-  -- open: a side of the box cuts the surface off
+  -- open: a face of the box cuts the surface off
   pub open-after : (q r : ℕ) → ClosedAnswered (quadsWritten a) (Open q r) → CutOff (sizeOf nx ny nz) s cut
   open-after q r p = open-cut (sizeOf nx ny nz) s cut q r (sym (ap findingOf (quads-front a)) ∙ sym (closed-accepts (quadsWritten a) (Open q r) p (openAt q r) .0 refl .1))
 
@@ -76,10 +75,10 @@ module _ {nx ny nz : ℕ} {s : List ℕ} {cut : Cut} (a : MeshCall nx ny nz s cu
     pub closed-after : (r : Closure) → ClosedAnswered (quadsWritten a) r → r ≡ Closed
     closed-after r p = said-closure-injective r Closed (closed-accepts (quadsWritten a) r p allSound .1 (length-passes, sym found))
 
-    pub closed-with-after : (work : List ℕ) (r : Closure) (work′ : List ℕ) → a .counts .vertices + 4 * a .counts .quads ≤ length work → ClosedWith (quadsWritten a) work r work′ → r ≡ Closed
+    pub closed-with-after : (work : List ℕ) (r : Closure) (work′ : List ℕ) → wordsNeeded (quadsWritten a) ≤ length work → ClosedWith (quadsWritten a) work r work′ → r ≡ Closed
     closed-with-after work r work′ room p =
         let c = closed-allows (quadsWritten a) in
-        sym (same-answer (quadsWritten a) work work′ (c .0) r (le-trans enough-after room) (c .1) p) ∙ closed-after (c .0) (c .1)
+        sym (same-answer (quadsWritten a) work work′ (c .0) r room (c .1) p) ∙ closed-after (c .0) (c .1)
 
 -- ---- what a C caller finds: 0 and 1 for closed, 0 and 0 for open
 
@@ -115,13 +114,17 @@ module _ (nx ny nz : ℕ) (s : List ℕ) (t : ℕ) (w : List ℕ) (o : List Floa
   unfolding call
   is-written = ap₂ (λ (k : ℕ) (l : List ℕ). take (4 * k) l) quads-found (sym (mesh-told-call nx ny nz s t w o q place w′ o′ q′ place′ m z .2 .2))
 
+  -- a word for each vertex and one for each side are memory enough
+  pub mesh-told-enough : wordsNeeded (take (4 * getD place′ 2 0) q′) ≤ getD place′ 1 0 + 4 * getD place′ 2 0
+  mesh-told-enough = subst (λ (l : List ℕ). wordsNeeded l ≤ getD place′ 1 0 + 4 * getD place′ 2 0) (sym is-written) (omega (arith, enough-after call, vertices-found, quads-found))
+
   asked : {p p′ : List ℕ} (c : ClosedTold (take (4 * getD place′ 2 0) q′) p p′) → ClosedAnswered (quadsWritten call) (c .answer)
   asked c = subst (λ (l : List ℕ). ClosedAnswered l (c .answer)) is-written (c .answered)
 
   asked-with : {work p work′ p′ : List ℕ} (c : ClosedWithTold (take (4 * getD place′ 2 0) q′) work p work′ p′) → ClosedWith (quadsWritten call) work (c .answer) work′
   asked-with {work} {p} {work′} {p′} c = subst (λ (l : List ℕ). ClosedWith l work (c .answer) work′) is-written (c .answered)
 
-  -- open: a side of the box cuts the surface off
+  -- open: a face of the box cuts the surface off
   pub mesh-told-open : (p p′ : List ℕ) → ClosedTold (take (4 * getD place′ 2 0) q′) p p′ → getD p′ 0 1 ≡ 0 → getD p′ 1 1 ≡ 0 → CutOff (sizeOf nx ny nz) s (cutOf t)
   mesh-told-open p p′ c first second =
       told-open p p′ (c .answer) (c .is-told)
@@ -143,10 +146,10 @@ module _ (nx ny nz : ℕ) (s : List ℕ) (t : ℕ) (w : List ℕ) (o : List Floa
     pub mesh-told-closed : (p p′ : List ℕ) → ClosedTold (take (4 * getD place′ 2 0) q′) p p′ → p′ ≡ tellOver (0 ∷ 1 ∷ 0 ∷ 0 ∷ []) p
     mesh-told-closed p p′ c = is-closed p p′ (c .answer) (c .is-told) (closed-after call sign faces (c .answer) (asked c))
 
-    pub mesh-told-closed-with : (work p work′ p′ : List ℕ) → getD place′ 1 0 + 4 * getD place′ 2 0 ≤ length work → ClosedWithTold (take (4 * getD place′ 2 0) q′) work p work′ p′
+    pub mesh-told-closed-with : (work p work′ p′ : List ℕ) → wordsNeeded (take (4 * getD place′ 2 0) q′) ≤ length work → ClosedWithTold (take (4 * getD place′ 2 0) q′) work p work′ p′
         → p′ ≡ tellOver (0 ∷ 1 ∷ 0 ∷ 0 ∷ []) p
     mesh-told-closed-with work p work′ p′ room c =
-        is-closed p p′ (c .answer) (c .is-told) (closed-with-after call sign faces work (c .answer) work′ (omega (arith, room, vertices-found, quads-found)) (asked-with c))
+        is-closed p p′ (c .answer) (c .is-told) (closed-with-after call sign faces work (c .answer) work′ (subst (λ (l : List ℕ). wordsNeeded l ≤ length work) is-written room) (asked-with c))
 
 -- ---- the program: the last field of its first line is 01 for such a block, and if it is 00 the surface is cut off
 

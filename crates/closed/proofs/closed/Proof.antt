@@ -1,5 +1,5 @@
 -- `closed` meets its promise. The side in hand is 4·quad + side, and every side before it is in order; `there` and `back` are how many of the
--- first m sides are walked from one end to the other, and from that to the one. The measures are the quads, the sides and the walks that are left.
+-- first m sides are walked from one end to the other, and how many the other way. The measures are the quads, the sides and the walks that are left.
 -- Assumes nothing.
 use mathlib.Core.Path.{_≡_, sym, _∙_}
 use mathlib.Core.Bool.{true, false}
