@@ -14,7 +14,7 @@ use Rattle.cube_rule.specs.Decider.{joined, loopsOf}
 use Rattle.cube_rule.proofs.Laws.{cube-laws}
 use Rattle.mesh_rule.specs.Buffers.{meshQuads}
 use Rattle.mesh_rule.specs.Mesh.{quads, flat}
-use Rattle.closed.specs.Closed.{Finding, allSound, openAt, findingOf}
+use Rattle.closed.specs.Closed.{allSound, openAt, findingOf}
 use Rattle.closure.specs.Faces.{FacesAre, CutOff}
 use Rattle.closure.proofs.Surface.{Uncut, faces-uncut, cut-or-uncut}
 use Rattle.closure.proofs.Balance.{all-balanced}

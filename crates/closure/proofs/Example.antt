@@ -22,7 +22,7 @@ use Rattle.cube_rule.specs.Decider.{joined, loopsOf}
 use Rattle.mesh_rule.specs.Buffers.{meshQuads}
 use Rattle.mesh_rule.specs.Grid.{metal, cornersOf}
 use Rattle.mesh_rule.specs.Mesh.{verticesOf, verticesBefore, vertices, vertexNumber, quadAt, quadsBefore, quads}
-use Rattle.closed.specs.Closed.{walks, Finding, allSound, openAt, findingOf}
+use Rattle.closed.specs.Closed.{walks, allSound, openAt, findingOf}
 use Rattle.closure.specs.Faces.{onBoxFace, FacesAre}
 
 abbrev size : Size
