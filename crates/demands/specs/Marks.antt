@@ -8,7 +8,6 @@ use lib.ListN.{getD}
 use Rattle.laws.specs.Bits.{holds}
 use Rattle.block.specs.declared.Cut.{Cut}
 use Rattle.block.specs.declared.Refusal.{Refusal}
-use Rattle.block.specs.declared.Size.{Size}
 use Rattle.block.specs.declared.Sized.{Sized}
 use Rattle.block.specs.Answer.{Answer, refused}
 use Rattle.block.specs.Grey.{apart}
