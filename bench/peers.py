@@ -185,6 +185,14 @@ def ply_writer(mesh, name):
     return writer
 
 
+def library_mesh(name):
+    """The places and faces of the library's PLY file, and the mesh in VTK's own form. VTK has one thread from then on."""
+    one_vtk_thread()
+    with open(name, "rb") as file:
+        places, faces = ply_parts(file.read(), "<f8")
+    return places, faces, vtk_mesh(places, faces["quad"])
+
+
 def ply_time(mesh, name=None):
     """The seconds of writing to the file of that name, or to a string if there is none."""
     def next_run():
@@ -201,10 +209,7 @@ def print_ply_times(name):
         from vtkmodules import vtkIOPLY  # only to see that it is there
     except ImportError:
         return
-    one_vtk_thread()
-    with open(name, "rb") as file:
-        places, faces = ply_parts(file.read(), "<f8")
-    mesh = vtk_mesh(places, faces["quad"])
+    places, faces, mesh = library_mesh(name)
     with tempfile.TemporaryDirectory(dir="/dev/shm") as folder:
         written = os.path.join(folder, "mesh.ply")
         memory_time, file_time = ply_time(mesh), ply_time(mesh, written)
@@ -244,10 +249,7 @@ def print_edge_times(name):
         vtk_version()
     except ImportError:
         return
-    one_vtk_thread()
-    with open(name, "rb") as file:
-        places, faces = ply_parts(file.read(), "<f8")
-    mesh = vtk_mesh(places, faces["quad"])
+    mesh = library_mesh(name)[2]
 
     def next_run():
         edges = feature_edges(mesh, True)

@@ -10,11 +10,13 @@ use native.Mathlib.Omega.{arith}
 use lib.Dec.{eqb}
 use lib.ListN.{length}
 use borrow.Author.Tests.{eqb-true, eqb-false, eq-eqb, ne-eqb}
+use Rattle.laws.specs.Below.{below}
 use Rattle.laws.specs.Leading.{leading}
 use Rattle.laws.specs.Counting.{count}
 use Rattle.laws.proofs.Leading.{leading-le, leading-holds, leading-stops}
 use Rattle.laws.proofs.Tests.{and-both}
 use Rattle.closed.specs.Closed.{from, to, walked, walks, sideSound, Finding, allSound, openAt, findingOf}
+use Rattle.closed.specs.Chains.{topNumber, firstFrom, chains}
 use Rattle.closed.specs.Steps.{nextPlace, soundSide}
 use Rattle.closed.proofs.Search.{finding-all, finding-open}
 
@@ -132,3 +134,9 @@ quad-twice = refl
 pub one-end : findingOf (0 ∷ 0 ∷ 1 ∷ 2 ∷ 2 ∷ 1 ∷ 0 ∷ 0 ∷ []) ≡ openAt 0 0
 unfolding findingOf leading count
 one-end = refl
+
+-- ---- the lent memory of a quad and its reverse: vertex v has side v, each side of the first quad has one of the second as its next, and these have none
+
+pub two-chained : chains (0 ∷ 1 ∷ 2 ∷ 3 ∷ 3 ∷ 2 ∷ 1 ∷ 0 ∷ []) ≡ 0 ∷ 1 ∷ 2 ∷ 3 ∷ 7 ∷ 6 ∷ 5 ∷ 4 ∷ 8 ∷ 8 ∷ 8 ∷ 8 ∷ []
+unfolding below topNumber firstFrom leading
+two-chained = refl

@@ -35,21 +35,38 @@ cut = record { t = 100 }
 abbrev pair : ℕ → ℕ → List ℕ
 pair two others = replicate 21 others ++ two ∷ replicate 4 others ++ two ∷ replicate 21 others
 
--- ---- two samples of metal
+-- ---- three meshes
 
+-- of two samples of metal
 abbrev twelve : List ℕ
 twelve =
     0 ∷ 7 ∷ 9 ∷ 2 ∷ 1 ∷ 3 ∷ 10 ∷ 8 ∷ 3 ∷ 10 ∷ 12 ∷ 5 ∷ 4 ∷ 6 ∷ 13 ∷ 11
     ∷ 0 ∷ 1 ∷ 8 ∷ 7 ∷ 2 ∷ 9 ∷ 10 ∷ 3 ∷ 3 ∷ 4 ∷ 11 ∷ 10 ∷ 5 ∷ 12 ∷ 13 ∷ 6
     ∷ 0 ∷ 2 ∷ 3 ∷ 1 ∷ 3 ∷ 5 ∷ 6 ∷ 4 ∷ 7 ∷ 8 ∷ 10 ∷ 9 ∷ 10 ∷ 11 ∷ 13 ∷ 12 ∷ []
 
+-- of a pore of two hollow samples in metal
+abbrev pore : List ℕ
+pore =
+    0 ∷ 2 ∷ 9 ∷ 7 ∷ 1 ∷ 8 ∷ 10 ∷ 3 ∷ 3 ∷ 5 ∷ 12 ∷ 10 ∷ 4 ∷ 11 ∷ 13 ∷ 6
+    ∷ 0 ∷ 7 ∷ 8 ∷ 1 ∷ 2 ∷ 3 ∷ 10 ∷ 9 ∷ 3 ∷ 10 ∷ 11 ∷ 4 ∷ 5 ∷ 6 ∷ 13 ∷ 12
+    ∷ 0 ∷ 1 ∷ 3 ∷ 2 ∷ 3 ∷ 4 ∷ 6 ∷ 5 ∷ 7 ∷ 9 ∷ 10 ∷ 8 ∷ 10 ∷ 12 ∷ 13 ∷ 11 ∷ []
+
+-- of metal on a face of the box: 3 samples along each axis, 400 at (1,1,2) alone
+abbrev three : Size
+three = record { nx = 3; ny = 3; nz = 3 }
+
+abbrev onFace : List ℕ
+onFace = replicate 22 0 ++ 400 ∷ replicate 4 0
+
+the-meshes : (meshQuads loopsOf size (pair 300 0) cut ≡ twelve) × (meshQuads loopsOf size (pair 0 150) cut ≡ pore) × (meshQuads loopsOf three onFace cut ≡ 0 ∷ 2 ∷ 3 ∷ 1 ∷ [])
+unfolding meshQuads quads quadsBefore quadAt vertexNumber lowest verticesBefore verticesOf cornersOf below loopsBy joined patternOf crossedMask loopsFrom loopFrom grow maskOf trailingZeros
+the-meshes = (refl, refl, refl)
+
+-- ---- two samples of metal
+
 fourteen : length (vertices loopsOf size (pair 300 0) cut) ≡ 14
 unfolding vertices verticesBefore verticesOf cornersOf below loopsBy joined patternOf crossedMask loopsFrom loopFrom grow maskOf trailingZeros
 fourteen = refl
-
-the-quads : meshQuads loopsOf size (pair 300 0) cut ≡ twelve
-unfolding meshQuads quads quadsBefore quadAt vertexNumber lowest verticesBefore verticesOf cornersOf below loopsBy joined patternOf crossedMask loopsFrom loopFrom grow maskOf trailingZeros
-the-quads = refl
 
 -- a list is closed, and the side between the vertices 3 and 10 is walked twice each way
 abbrev ClosedTwice : List ℕ → Type 0
@@ -62,7 +79,7 @@ twice = (refl, refl, refl)
 -- 14 vertices and 12 quads. The side between the vertices 3 and 10, which is side 1 of quad 1, is used four times. So 01's rule, exactly twice, called this
 -- mesh open. It is walked twice each way, and the mesh is closed.
 pub pore-of-two : (length (vertices loopsOf size (pair 300 0) cut) ≡ 14) × (meshQuads loopsOf size (pair 300 0) cut ≡ twelve) × ClosedTwice twelve
-pore-of-two = (fourteen, the-quads, twice)
+pore-of-two = (fourteen, the-meshes .0, twice)
 
 -- its faces are of one sign: no sample on them is metal
 hollow-at : ℕ → ℕ → ℕ → Bool
@@ -85,35 +102,18 @@ pore-margin i j k h e =
 
 -- ---- a pore of two hollow samples in metal
 
-abbrev pore : List ℕ
-pore =
-    0 ∷ 2 ∷ 9 ∷ 7 ∷ 1 ∷ 8 ∷ 10 ∷ 3 ∷ 3 ∷ 5 ∷ 12 ∷ 10 ∷ 4 ∷ 11 ∷ 13 ∷ 6
-    ∷ 0 ∷ 7 ∷ 8 ∷ 1 ∷ 2 ∷ 3 ∷ 10 ∷ 9 ∷ 3 ∷ 10 ∷ 11 ∷ 4 ∷ 5 ∷ 6 ∷ 13 ∷ 12
-    ∷ 0 ∷ 1 ∷ 3 ∷ 2 ∷ 3 ∷ 4 ∷ 6 ∷ 5 ∷ 7 ∷ 9 ∷ 10 ∷ 8 ∷ 10 ∷ 12 ∷ 13 ∷ 11 ∷ []
-
-the-pore : meshQuads loopsOf size (pair 0 150) cut ≡ pore
-unfolding meshQuads quads quadsBefore quadAt vertexNumber lowest verticesBefore verticesOf cornersOf below loopsBy joined patternOf crossedMask loopsFrom loopFrom grow maskOf trailingZeros
-the-pore = refl
-
 pore-twice : ClosedTwice pore
 unfolding findingOf leading count
 pore-twice = (refl, refl, refl)
 
 pub hollow-of-two : (meshQuads loopsOf size (pair 0 150) cut ≡ pore) × ClosedTwice pore
-hollow-of-two = (the-pore, pore-twice)
+hollow-of-two = (the-meshes .1, pore-twice)
 
--- ---- metal on a face of the box: 3 samples along each axis, 400 at (1,1,2) alone
-
-abbrev three : Size
-three = record { nx = 3; ny = 3; nz = 3 }
-
-on-a-face : meshQuads loopsOf three (replicate 22 0 ++ 400 ∷ replicate 4 0) cut ≡ 0 ∷ 2 ∷ 3 ∷ 1 ∷ []
-unfolding meshQuads quads quadsBefore quadAt vertexNumber lowest verticesBefore verticesOf cornersOf below loopsBy joined patternOf crossedMask loopsFrom loopFrom grow maskOf trailingZeros
-on-a-face = refl
+-- ---- metal on a face of the box
 
 one-quad : findingOf (0 ∷ 2 ∷ 3 ∷ 1 ∷ []) ≡ openAt 0 0
 unfolding findingOf leading count
 one-quad = refl
 
-pub on-a-face-open : findingOf (meshQuads loopsOf three (replicate 22 0 ++ 400 ∷ replicate 4 0) cut) ≡ openAt 0 0
-on-a-face-open = ap findingOf on-a-face ∙ one-quad
+pub on-a-face-open : findingOf (meshQuads loopsOf three onFace cut) ≡ openAt 0 0
+on-a-face-open = ap findingOf (the-meshes .2) ∙ one-quad
