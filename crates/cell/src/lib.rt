@@ -10,7 +10,7 @@ ghost use Prim.Native.Nat.{ℕ, _≤_, _<_};
 ghost use lib.Dec.{eqb};
 ghost use lib.ListN.{getD};
 ghost use Rattle.block.specs.Grey.{SixteenBit};
-ghost use Rattle.cube.specs.Table.{maskTable};
+ghost use Rattle.cube_rule.specs.Edges.{patternOf, crossedMask};
 ghost use Rattle.place.specs.Place.{placeOf};
 ghost use Rattle.place.specs.Steps.{Placeable};
 ghost use Rattle.cell.specs.Answer.{CubeAnswered, markOf, origin};
@@ -33,20 +33,19 @@ pub struct CubeAnswer {
 pub fn cube(corners: [u16; 8], cut: Cut) -> CubeAnswer
     ensures { λ r. ⌜ CubeAnswered corners cut r ⌝ }
 {
-    let table = cube::masks();
-    cube_by(&table, corners, cut)
+    cube_by(cube::crossed_in(corners, cut), corners, cut)
 }
 
-// The same by a lent table of 256 masks: a caller that asks often makes it once.
-pub fn cube_by(table: &[u32; 256], corners: [u16; 8], cut: Cut) -> CubeAnswer
-    requires { ⌜ now table ≡ maskTable ⌝ }
+// The same by the cube's crossed edges, for a caller that has them already.
+pub fn cube_by(crossed: u32, corners: [u16; 8], cut: Cut) -> CubeAnswer
+    requires { ⌜ crossed ≡ crossedMask (patternOf cut corners) ⌝ }
     ensures { λ r. ⌜ CubeAnswered corners cut r ⌝ }
 {
     let checked = block::check_threshold(cut);
     if let Checked::Refuses(r) = checked {
         return refuse(r);
     }
-    let loops = cube::loops_of(table, corners, cut);
+    let loops = cube::loops_of(crossed, corners, cut);
     let masks = loops.masks;
     let samples = place::wide(corners);
     let a = place_or_zero(masks[0], samples, cut);

@@ -11,19 +11,14 @@ use Rattle.cube_rule.specs.Edges.{patternOf, crossedMask}
 use Rattle.cube_rule.specs.Decider.{joined}
 use Rattle.cube.specs.declared.Loops.{Loops}
 use Rattle.cube.specs.Answer.{loopsGiven}
-use Rattle.cube.specs.Table.{maskTable}
-
--- of `pattern`
-pub pattern-fixed : (corners : List ℕ) (cut : Cut) → Fixes (λ (r : ℕ). (r ≡ patternOf cut corners) × (r < 256))
-pattern-fixed corners cut a b p q = equation-fixes (patternOf cut corners) a b (p .0) (q .0)
-
--- of `masks`
-pub masks-fixed : Fixes (λ (r : List ℕ). r ≡ maskTable)
-masks-fixed = equation-fixes maskTable
 
 -- of `crossed_edges`
 pub crossed-edges-fixed : (p : ℕ) → p < 256 → Fixes (λ (r : ℕ). (r ≡ crossedMask p) × (r < 4096))
 crossed-edges-fixed p h a b x y = equation-fixes (crossedMask p) a b (x .0) (y .0)
+
+-- of `crossed_in`
+pub crossed-in-fixed : (corners : List ℕ) (cut : Cut) → Fixes (λ (r : ℕ). (r ≡ crossedMask (patternOf cut corners)) × (r < 4096))
+crossed-in-fixed corners cut a b p q = equation-fixes (crossedMask (patternOf cut corners)) a b (p .0) (q .0)
 
 -- of `decide`
 pub decide-fixed : (cut : Cut) (p q r s : ℕ) → Fixes (λ (j : Bool). j ≡ joined cut p q r s)

@@ -14,7 +14,6 @@ ghost use Rattle.cube_rule.specs.Decider.{differenceOf, joined};
 ghost use Rattle.cube_rule.specs.Loops.{linksOf, lowestEdge, join, grow, loopFrom};
 ghost use Rattle.cube.specs.Faces.{cutFace};
 ghost use Rattle.cube.specs.Answer.{loopsGiven};
-ghost use Rattle.cube.specs.Table.{maskTable};
 
 // The loops of a cube: how many, and their masks by their lowest edge, 0 where there is none.
 pub struct Loops {
@@ -72,294 +71,43 @@ const Z1: Face = Face {
     next: 0x084,
 };
 
-// The crossed edges of each sign pattern: bit e for edge e.
-const CROSSED: [u32; 256] = [
-    0x000,
-    0x111,
-    0x221,
-    0x330,
-    0x412,
-    0x503,
-    0x633,
-    0x722,
-    0x822,
-    0x933,
-    0xA03,
-    0xB12,
-    0xC30,
-    0xD21,
-    0xE11,
-    0xF00,
-    0x144,
-    0x055,
-    0x365,
-    0x274,
-    0x556,
-    0x447,
-    0x777,
-    0x666,
-    0x966,
-    0x877,
-    0xB47,
-    0xA56,
-    0xD74,
-    0xC65,
-    0xF55,
-    0xE44,
-    0x284,
-    0x395,
-    0x0A5,
-    0x1B4,
-    0x696,
-    0x787,
-    0x4B7,
-    0x5A6,
-    0xAA6,
-    0xBB7,
-    0x887,
-    0x996,
-    0xEB4,
-    0xFA5,
-    0xC95,
-    0xD84,
-    0x3C0,
-    0x2D1,
-    0x1E1,
-    0x0F0,
-    0x7D2,
-    0x6C3,
-    0x5F3,
-    0x4E2,
-    0xBE2,
-    0xAF3,
-    0x9C3,
-    0x8D2,
-    0xFF0,
-    0xEE1,
-    0xDD1,
-    0xCC0,
-    0x448,
-    0x559,
-    0x669,
-    0x778,
-    0x05A,
-    0x14B,
-    0x27B,
-    0x36A,
-    0xC6A,
-    0xD7B,
-    0xE4B,
-    0xF5A,
-    0x878,
-    0x969,
-    0xA59,
-    0xB48,
-    0x50C,
-    0x41D,
-    0x72D,
-    0x63C,
-    0x11E,
-    0x00F,
-    0x33F,
-    0x22E,
-    0xD2E,
-    0xC3F,
-    0xF0F,
-    0xE1E,
-    0x93C,
-    0x82D,
-    0xB1D,
-    0xA0C,
-    0x6CC,
-    0x7DD,
-    0x4ED,
-    0x5FC,
-    0x2DE,
-    0x3CF,
-    0x0FF,
-    0x1EE,
-    0xEEE,
-    0xFFF,
-    0xCCF,
-    0xDDE,
-    0xAFC,
-    0xBED,
-    0x8DD,
-    0x9CC,
-    0x788,
-    0x699,
-    0x5A9,
-    0x4B8,
-    0x39A,
-    0x28B,
-    0x1BB,
-    0x0AA,
-    0xFAA,
-    0xEBB,
-    0xD8B,
-    0xC9A,
-    0xBB8,
-    0xAA9,
-    0x999,
-    0x888,
-    0x888,
-    0x999,
-    0xAA9,
-    0xBB8,
-    0xC9A,
-    0xD8B,
-    0xEBB,
-    0xFAA,
-    0x0AA,
-    0x1BB,
-    0x28B,
-    0x39A,
-    0x4B8,
-    0x5A9,
-    0x699,
-    0x788,
-    0x9CC,
-    0x8DD,
-    0xBED,
-    0xAFC,
-    0xDDE,
-    0xCCF,
-    0xFFF,
-    0xEEE,
-    0x1EE,
-    0x0FF,
-    0x3CF,
-    0x2DE,
-    0x5FC,
-    0x4ED,
-    0x7DD,
-    0x6CC,
-    0xA0C,
-    0xB1D,
-    0x82D,
-    0x93C,
-    0xE1E,
-    0xF0F,
-    0xC3F,
-    0xD2E,
-    0x22E,
-    0x33F,
-    0x00F,
-    0x11E,
-    0x63C,
-    0x72D,
-    0x41D,
-    0x50C,
-    0xB48,
-    0xA59,
-    0x969,
-    0x878,
-    0xF5A,
-    0xE4B,
-    0xD7B,
-    0xC6A,
-    0x36A,
-    0x27B,
-    0x14B,
-    0x05A,
-    0x778,
-    0x669,
-    0x559,
-    0x448,
-    0xCC0,
-    0xDD1,
-    0xEE1,
-    0xFF0,
-    0x8D2,
-    0x9C3,
-    0xAF3,
-    0xBE2,
-    0x4E2,
-    0x5F3,
-    0x6C3,
-    0x7D2,
-    0x0F0,
-    0x1E1,
-    0x2D1,
-    0x3C0,
-    0xD84,
-    0xC95,
-    0xFA5,
-    0xEB4,
-    0x996,
-    0x887,
-    0xBB7,
-    0xAA6,
-    0x5A6,
-    0x4B7,
-    0x787,
-    0x696,
-    0x1B4,
-    0x0A5,
-    0x395,
-    0x284,
-    0xE44,
-    0xF55,
-    0xC65,
-    0xD74,
-    0xA56,
-    0xB47,
-    0x877,
-    0x966,
-    0x666,
-    0x777,
-    0x447,
-    0x556,
-    0x274,
-    0x365,
-    0x055,
-    0x144,
-    0xF00,
-    0xE11,
-    0xD21,
-    0xC30,
-    0xB12,
-    0xA03,
-    0x933,
-    0x822,
-    0x722,
-    0x633,
-    0x503,
-    0x412,
-    0x330,
-    0x221,
-    0x111,
-    0x000,
-];
-
 // The sign pattern of a cube: bit c is set if corner c is positive.
-pub fn pattern(corners: [u16; 8], cut: Cut) -> usize
+fn pattern(corners: [u16; 8], cut: Cut) -> u32
     ensures { λ r. ⌜ r ≡ patternOf cut corners ⌝ }
     ensures { λ r. ⌜ r < 256 ⌝ }
 {
-    let mut p: usize = 0;
+    let mut p: u32 = 0;
     for c in 0..8 {
         if cut.t <= corners[c] {
-            p += 1usize << c;
+            p += 1u32 << c;
         }
     }
     p
 }
 
-// The table of 256 masks: the crossed edges of each sign pattern. A caller that reads it often makes it once and lends it.
-pub fn masks() -> [u32; 256]
-    ensures { λ r. ⌜ r ≡ maskTable ⌝ }
-{
-    CROSSED
-}
-
-// The crossed edges of a sign pattern, as a mask: the one place where the table is read.
-pub fn crossed_edges(table: &[u32; 256], p: usize) -> u32
-    requires { ⌜ (p < 256) × (now table ≡ maskTable) ⌝ }
+// The crossed edges of a sign pattern, as a mask: bit e for edge e. The ends of an edge along x, y and z are 1, 2 and 4 corners apart, so the
+// pattern is compared with itself so many corners on. Of each axis the bits of its edges' lower corners count: 0, 2, 4, 6 for x, 0, 1, 4, 5 for y and
+// 0, 1, 2, 3 for z. They are moved together, four bits an axis.
+pub fn crossed_edges(p: u32) -> u32
+    requires { ⌜ p < 256 ⌝ }
     ensures { λ r. ⌜ r ≡ crossedMask p ⌝ }
     ensures { λ r. ⌜ r < 4096 ⌝ }
 {
-    table[p]
+    let x = (p ^ (p >> 1)) & 0x55;
+    let y = (p ^ (p >> 2)) & 0x33;
+    let z = (p ^ (p >> 4)) & 0x0F;
+    let pairs = (x | (x >> 1)) & 0x33;
+    let along_x = (pairs | (pairs >> 2)) & 0x0F;
+    let along_y = (y | (y >> 2)) & 0x0F;
+    along_x | (along_y << 4) | (z << 8)
+}
+
+// The crossed edges of a cube of samples.
+pub fn crossed_in(corners: [u16; 8], cut: Cut) -> u32
+    ensures { λ r. ⌜ r ≡ crossedMask (patternOf cut corners) ⌝ }
+    ensures { λ r. ⌜ r < 4096 ⌝ }
+{
+    crossed_edges(pattern(corners, cut))
 }
 
 // Sample minus t, signed.
@@ -524,15 +272,15 @@ fn loop_from(links: [u32; 12], m: u32) -> u32
     round(links, y)
 }
 
-// The loops of a cube of samples whose crossed edges are m: the loop of the lowest of them, then that of the lowest edge left, until none is
+// The loops of a cube of samples with the crossed edges `crossed`: the loop of the lowest of them, then that of the lowest edge left, until none is
 // left.
-pub fn loops_among(m: u32, corners: [u16; 8], cut: Cut) -> Loops
-    requires { ⌜ m ≡ crossedMask (patternOf cut corners) ⌝ }
+pub fn loops_of(crossed: u32, corners: [u16; 8], cut: Cut) -> Loops
+    requires { ⌜ crossed ≡ crossedMask (patternOf cut corners) ⌝ }
     ensures { λ r. ⌜ r ≡ loopsGiven cut corners ⌝ }
     ensures { λ r. ⌜ r .count ≤ 4 ⌝ }
 {
-    let links = links_of(corners, cut, m);
-    let mut left = m;
+    let links = links_of(corners, cut, crossed);
+    let mut left = crossed;
     let mut masks: [u32; 4] = [0; 4];
     let mut n: usize = 0;
     while n < 4 && left != 0 {
@@ -545,14 +293,4 @@ pub fn loops_among(m: u32, corners: [u16; 8], cut: Cut) -> Loops
         count: n as u32,
         masks: masks,
     }
-}
-
-// The loops of a cube of samples, by the table of 256 masks.
-pub fn loops_of(table: &[u32; 256], corners: [u16; 8], cut: Cut) -> Loops
-    requires { ⌜ now table ≡ maskTable ⌝ }
-    ensures { λ r. ⌜ r ≡ loopsGiven cut corners ⌝ }
-    ensures { λ r. ⌜ r .count ≤ 4 ⌝ }
-{
-    let m = crossed_edges(table, pattern(corners, cut));
-    loops_among(m, corners, cut)
 }

@@ -11,7 +11,6 @@ use lib.Ieee.{Float}
 use Rattle.block.specs.declared.Cut.{Cut}
 use Rattle.block.specs.declared.Checked.the-variants.{Passes}
 use Rattle.block.specs.Rows.{thresholdRow}
-use Rattle.cube.specs.Table.{maskTable}
 use Rattle.cube_rule.specs.Edges.{patternOf, crossedMask}
 use Rattle.place.specs.Place.{placeOf}
 use Rattle.cell.specs.Answer.{wordOf}
@@ -52,10 +51,10 @@ pub record Stored (v : ℕ) (ms ws : List ℕ) (os : List Float) (words₀ words
   pub two : length ws ≡ 2 * length ms
   pub three : length os ≡ 3 * length ms
 
--- the table is the table of 256 masks, and `single` is said only of a cube with one loop, all its crossed edges
-pub record CubeReady (loopsOf : Cut → List ℕ → List ℕ) (cut : Cut) (corners : List ℕ) (table : List ℕ) (single : Bool) : Type 0 where
-  pub masks : table ≡ maskTable
-  pub one : single ≡ true → loopsOf cut corners ≡ crossedMask (patternOf cut corners) ∷ []
+-- `crossed` has the cube's crossed edges, and `single` is said only of a cube with one loop, all of them
+pub record CubeReady (loopsOf : Cut → List ℕ → List ℕ) (cut : Cut) (corners : List ℕ) (crossed : ℕ) (single : Bool) : Type 0 where
+  pub edges : crossed ≡ crossedMask (patternOf cut corners)
+  pub one : single ≡ true → loopsOf cut corners ≡ crossed ∷ []
 
 -- row 3 passes the threshold, both buffers have room for its vertices, and there is room for its numbers
 pub record CubeRoom (loopsOf : Cut → List ℕ → List ℕ) (cut : Cut) (corners : List ℕ) (spot : Spot) (words : List ℕ) (offsets : List Float) (numbers : List ℕ) : Type 0 where

@@ -20,30 +20,30 @@ pub struct Spot {
     pub v: usize,
 }
 
-// Writes and notes the vertices of a cube, and answers the number behind them; `single` is said only of a cube with one loop.
+// Writes and notes the vertices of a cube with the crossed edges `crossed`, and answers the number behind them; `single` is said only of a cube with
+// one loop.
 pub fn write_cube(
     cut: Cut,
     corners: [u16; 8],
+    crossed: u32,
     single: bool,
     spot: Spot,
-    table: &[u32; 256],
     words: &mut [u32],
     offsets: &mut [f64],
     numbers: &mut [u32],
 ) -> usize
-    requires { ⌜ CubeReady loopsOf cut corners (now table) single × CubeRoom loopsOf cut corners spot (now words) (now offsets) (now numbers) ⌝ }
+    requires { ⌜ CubeReady loopsOf cut corners crossed single × CubeRoom loopsOf cut corners spot (now words) (now offsets) (now numbers) ⌝ }
     ensures { λ r. ⌜ CubeWritten loopsOf cut corners spot (now (words .entry)) (now (words .exit)) (now (offsets .entry)) (now (offsets .exit)) (now (numbers .entry)) (now (numbers .exit)) r ⌝ }
 {
     let v = spot.v;
     if single {
-        let m = cube::crossed_edges(table, cube::pattern(corners, cut));
-        let o = place::place(m, place::wide(corners), cut);
-        let word = m + cell::mark(corners);
+        let o = place::place(crossed, place::wide(corners), cut);
+        let word = crossed + cell::mark(corners);
         put_vertex(words, offsets, v, spot.c, word, o);
         notes::note(numbers, spot.x, v as u32, 0);
         return v + 1;
     }
-    let answer = cell::cube_by(table, corners, cut);
+    let answer = cell::cube_by(crossed, corners, cut);
     let found = answer.found;
     let Found::Loops(n) = found else {
         // Never reached: no row refuses the cube.

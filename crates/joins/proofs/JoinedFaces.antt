@@ -19,7 +19,6 @@ use Rattle.laws.proofs.Visit.{Left, left-skip, left-end}
 use Rattle.laws.proofs.Words.{and-holds}
 use Rattle.laws.proofs.Tests.{and-both}
 use Rattle.block.specs.declared.Cut.{Cut}
-use Rattle.cube.specs.Table.{maskTable}
 use Rattle.cube_rule.specs.Decider.{joined, loopsOf}
 use Rattle.cube_rule.specs.Edges.{patternOf, crossedMask}
 use Rattle.cube_rule.specs.Links.{decisions}
@@ -119,7 +118,7 @@ and-set false b e = refl
 
 -- ---- the cubes that are told
 
-module _ {lo hi : List ℕ} {cut : Cut} {nx p : ℕ} {e : List ℕ} {act : ℕ} (ready : WordReady lo hi cut maskTable nx p e act) where
+module _ {lo hi : List ℕ} {cut : Cut} {nx p : ℕ} {e : List ℕ} {act : ℕ} (ready : WordReady lo hi cut nx p e act) where
   -- where a bit of `act` is set, the word's first cube lies in the windows
   pub sides-in : (six : List ℕ) → act < 2 ^ 64 → (act ≡ 0 → ⊥) → SidesIn lo hi nx p (withinOf six act)
   sides-in six small ne =

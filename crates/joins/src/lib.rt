@@ -5,13 +5,12 @@ ghost use mathlib.Core.Path.{_≡_};
 ghost use Prim.Native.Nat.{_+_, _≤_};
 ghost use Rattle.laws.specs.Bits.{bit};
 ghost use Rattle.cube_rule.specs.Decider.{loopsOf};
-ghost use Rattle.cube.specs.Table.{maskTable};
 ghost use Rattle.joins.specs.Joined.{joinedWord, FacesIn, joinedWords, SidesIn, withinOf, sortedOf, singlesOf, Single, Sorted};
 ghost use Rattle.rows.specs.Rows.{WordReady};
 
 // Which cubes of a word have exactly one loop and which exactly two, of those whose bits are set in `act`.
 pub fn sorted(lo: &[u16], hi: &[u16], nx: usize, s: usize, cut: Cut, e: [u64; 8], act: u64) -> Sorts
-    requires { ⌜ WordReady (now lo) (now hi) cut maskTable nx s e act × (act ≡ 0 → ⊥) ⌝ }
+    requires { ⌜ WordReady (now lo) (now hi) cut nx s e act × (act ≡ 0 → ⊥) ⌝ }
     ensures { λ r. ⌜ r ≡ sortedOf (now (lo .entry)) (now (hi .entry)) nx s cut e act ⌝ }
     ensures { λ r. ⌜ Sorted loopsOf (now (lo .entry)) (now (hi .entry)) cut nx s act r ⌝ }
 {
@@ -22,7 +21,7 @@ pub fn sorted(lo: &[u16], hi: &[u16], nx: usize, s: usize, cut: Cut, e: [u64; 8]
 
 // Those with exactly one: where all are plain, no face is decided. (So small that it is compiled into its caller.)
 pub fn singles(lo: &[u16], hi: &[u16], nx: usize, s: usize, cut: Cut, e: [u64; 8], act: u64) -> u64
-    requires { ⌜ WordReady (now lo) (now hi) cut maskTable nx s e act × (act ≡ 0 → ⊥) ⌝ }
+    requires { ⌜ WordReady (now lo) (now hi) cut nx s e act × (act ≡ 0 → ⊥) ⌝ }
     ensures { λ r. ⌜ r ≡ singlesOf (now (lo .entry)) (now (hi .entry)) nx s cut e act ⌝ }
     ensures { λ r. ⌜ Single loopsOf (now (lo .entry)) (now (hi .entry)) cut nx s act r ⌝ }
 {

@@ -128,7 +128,6 @@ fn row_quads(
 // layer; this row is noted in its half of `here`.
 pub fn row_step(
     row: Row,
-    table: &[u32; 256],
     a: &[u64],
     b: &[u64],
     lo: &[u16],
@@ -140,13 +139,12 @@ pub fn row_step(
     quads: &mut [u32],
     m: Marks,
 ) -> Marks
-    requires { ⌜ RowReady (now lo) (now hi) (row .cut) (now table) (now a) (now b) (row .nx) (row .j) × RowRoom loopsOf (now lo) (now hi) (row .cut) (row .nx) (row .c) (m .v) (now words) (now offsets) (half (row .j) (now here)) × QuadsReady row (now a) (now b) (now below) m (length (now quads)) × (length (now here) ≡ 1024) ⌝ }
+    requires { ⌜ RowReady (now lo) (now hi) (row .cut) (now a) (now b) (row .nx) (row .j) × RowRoom loopsOf (now lo) (now hi) (row .cut) (row .nx) (row .c) (m .v) (now words) (now offsets) (half (row .j) (now here)) × QuadsReady row (now a) (now b) (now below) m (length (now quads)) × (length (now here) ≡ 1024) ⌝ }
     ensures { λ r. ⌜ RowStepped loopsOf (now (lo .entry)) (now (hi .entry)) row (now (a .entry)) (now (b .entry)) (now (below .entry)) m (now (words .entry)) (now (words .exit)) (now (offsets .entry)) (now (offsets .exit)) (now (quads .entry)) (now (quads .exit)) (now (here .entry)) (now (here .exit)) r ⌝ }
 {
     let h = 512 * (row.j % 2);
     let v = vertices::write_row(
         row,
-        table,
         a,
         b,
         lo,
@@ -178,19 +176,11 @@ fn count_along(along: Along, row: Row, a: &[u64], b: &[u64]) -> usize
 }
 
 // How far `row_step` with the same arguments moves the marks.
-pub fn row_counts(
-    row: Row,
-    table: &[u32; 256],
-    a: &[u64],
-    b: &[u64],
-    lo: &[u16],
-    hi: &[u16],
-    m: Marks,
-) -> Marks
-    requires { ⌜ RowReady (now lo) (now hi) (row .cut) (now table) (now a) (now b) (row .nx) (row .j) × RowFits row (now a) (now b) × RowFew m ⌝ }
+pub fn row_counts(row: Row, a: &[u64], b: &[u64], lo: &[u16], hi: &[u16], m: Marks) -> Marks
+    requires { ⌜ RowReady (now lo) (now hi) (row .cut) (now a) (now b) (row .nx) (row .j) × RowFits row (now a) (now b) × RowFew m ⌝ }
     ensures { λ r. ⌜ RowCounted loopsOf (now (lo .entry)) (now (hi .entry)) row (now (a .entry)) (now (b .entry)) m r ⌝ }
 {
-    let v = loop_counts::count_row(row, table, a, b, lo, hi);
+    let v = loop_counts::count_row(row, a, b, lo, hi);
     let x = count_along(Along::AxisX, row, a, a);
     let y = count_along(Along::AxisY, row, a, a);
     let z = count_along(Along::AxisZ, row, a, b);

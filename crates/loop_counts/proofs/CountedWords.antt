@@ -13,7 +13,6 @@ use Rattle.laws.specs.Bits.{differ, holds, bit}
 use Rattle.laws.proofs.Below.{at-most}
 use Rattle.laws.proofs.Words.{and-holds, xor-holds, word-of, word-ones, digit-holds}
 use Rattle.block.specs.declared.Cut.{Cut}
-use Rattle.cube.specs.Table.{maskTable}
 use Rattle.cube_rule.specs.Decider.{joined, loopsOf}
 use Rattle.cube_rule.proofs.Laws.{cube-laws}
 use Rattle.sorts.specs.declared.Sorts.{Sorts}
@@ -137,7 +136,7 @@ module _ {lo hi : List ℕ} {cut : Cut} {nx p act : ℕ} {r : Sorts} (sorted : S
       )
 
 -- all of them plain: one loop for each
-pub plain-counted : {lo hi : List ℕ} {cut : Cut} {nx p : ℕ} {e : List ℕ} {act word : ℕ} → WordReady lo hi cut maskTable nx p e act → word ≡ plainOf e → act < 2 ^ 64 → bitAnd act word ≡ act
+pub plain-counted : {lo hi : List ℕ} {cut : Cut} {nx p : ℕ} {e : List ℕ} {act word : ℕ} → WordReady lo hi cut nx p e act → word ≡ plainOf e → act < 2 ^ 64 → bitAnd act word ≡ act
     → ones act ≡ length (wordLoops loopsOf lo hi cut nx act p)
 plain-counted {lo} {hi} {cut} {nx} {p} {e} {act} {word} ready is small all =
     omega (

@@ -6,19 +6,11 @@ ghost use mathlib.Core.Path.{_≡_};
 ghost use Prim.Native.Nat.{_+_, _*_, _<_, _≤_};
 ghost use lib.ListN.{length};
 ghost use Rattle.cube_rule.specs.Decider.{loopsOf};
-ghost use Rattle.cube.specs.Table.{maskTable};
 ghost use Rattle.rows.specs.Rows.{wordLoops, WordReady, rowMasks, RowReady};
 
 // How many loops the cubes of a row have, whose windows are `lo` and `hi`; rows j and j + 1 of a and b hold their signs.
-pub fn count_row(
-    row: Row,
-    table: &[u32; 256],
-    a: &[u64],
-    b: &[u64],
-    lo: &[u16],
-    hi: &[u16],
-) -> usize
-    requires { ⌜ RowReady (now lo) (now hi) (row .cut) (now table) (now a) (now b) (row .nx) (row .j) ⌝ }
+pub fn count_row(row: Row, a: &[u64], b: &[u64], lo: &[u16], hi: &[u16]) -> usize
+    requires { ⌜ RowReady (now lo) (now hi) (row .cut) (now a) (now b) (row .nx) (row .j) ⌝ }
     ensures { λ r. ⌜ r ≡ length (rowMasks loopsOf (now (lo .entry)) (now (hi .entry)) (row .cut) (row .nx)) ⌝ }
     ensures { λ r. ⌜ r ≤ 1020 ⌝ }
 {
@@ -28,7 +20,7 @@ pub fn count_row(
     while 64 * w < cubes {
         let e = planes::eight(a, b, 5 * row.j + w);
         let act = planes::active(e) & planes::limit(cubes, w);
-        m += count_word(row, lo, hi, table, 64 * w, e, act);
+        m += count_word(row, lo, hi, 64 * w, e, act);
         w += 1;
     }
     m
@@ -36,16 +28,8 @@ pub fn count_row(
 
 // How many loops the cubes of a word have whose bits are set in `act`; its first cube is the cube s of the row, and `e` has the signs of its
 // cubes' corners. Cubes with one loop and with two are counted by their bits; only the others are visited.
-fn count_word(
-    row: Row,
-    lo: &[u16],
-    hi: &[u16],
-    table: &[u32; 256],
-    s: usize,
-    e: [u64; 8],
-    act: u64,
-) -> usize
-    requires { ⌜ WordReady (now lo) (now hi) (row .cut) (now table) (row .nx) s e act ⌝ }
+fn count_word(row: Row, lo: &[u16], hi: &[u16], s: usize, e: [u64; 8], act: u64) -> usize
+    requires { ⌜ WordReady (now lo) (now hi) (row .cut) (row .nx) s e act ⌝ }
     ensures { λ r. ⌜ r ≡ length (wordLoops loopsOf (now (lo .entry)) (now (hi .entry)) (row .cut) (row .nx) act s) ⌝ }
     ensures { λ r. ⌜ r ≤ 256 ⌝ }
 {
@@ -66,19 +50,18 @@ fn count_word(
         let k = u64::trailing_zeros(w) as usize;
         let x = i + k;
         let cs = rows::corners(lo, hi, row.nx, s + x);
-        m += count_cube(row.cut, cs, table);
+        m += count_cube(row.cut, cs);
         w = (w >> k) >> 1;
         i = x + 1;
     }
     m
 }
 
-// How many loops a cube has.
-fn count_cube(cut: Cut, corners: [u16; 8], table: &[u32; 256]) -> usize
-    requires { ⌜ now table ≡ maskTable ⌝ }
+// How many loops a cube has. (Its sign pattern is in the words too, but to keep eight words for so few cubes costs the others more.)
+fn count_cube(cut: Cut, corners: [u16; 8]) -> usize
     ensures { λ r. ⌜ r ≡ length (loopsOf cut corners) ⌝ }
     ensures { λ r. ⌜ r ≤ 4 ⌝ }
 {
-    let loops = cube::loops_of(table, corners, cut);
+    let loops = cube::loops_of(cube::crossed_in(corners, cut), corners, cut);
     loops.count as usize
 }

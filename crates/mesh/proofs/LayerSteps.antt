@@ -51,8 +51,8 @@ state-start n s cut k m w o q under tab eu et = record {
   writing = λ w₀ o₀ q₀ room r. r;
 }
 
-module _ {n : Size} {s : List ℕ} {cut : Cut} {table a b : List ℕ} {j k : ℕ} {m : Marks} {w₁ : List ℕ} {o₁ : List Float} {q₁ : List ℕ} {passed : ℕ} {under tab : List ℕ} {m′ : Marks} {w : List ℕ} {o : List Float} {q : List ℕ}
-    (r : Ready n s cut table a b k) (ok : Meshable n s cut) (u : Underway loopsOf n s cut 0 k m w₁ o₁ q₁) (hj : j + 1 < n .ny) (st : RowState n s cut j k m w₁ o₁ q₁ passed under tab m′ w o q) where
+module _ {n : Size} {s : List ℕ} {cut : Cut} {a b : List ℕ} {j k : ℕ} {m : Marks} {w₁ : List ℕ} {o₁ : List Float} {q₁ : List ℕ} {passed : ℕ} {under tab : List ℕ} {m′ : Marks} {w : List ℕ} {o : List Float} {q : List ℕ}
+    (r : Ready n s cut a b k) (ok : Meshable n s cut) (u : Underway loopsOf n s cut 0 k m w₁ o₁ q₁) (hj : j + 1 < n .ny) (st : RowState n s cut j k m w₁ o₁ q₁ passed under tab m′ w o q) where
   -- the rows before are written
   now-writing : Writing loopsOf n s cut j k m′ (u .w₀) w (u .o₀) o (u .q₀) q
   now-writing = st .writing (u .w₀) (u .o₀) (u .q₀) (u .room) (u .writing)

@@ -56,7 +56,7 @@ zero-of n e = go (lt-or-ge 0 n)
 
 -- ---- the quads of a row, along each axis
 
-module _ {n : Size} {s : List ℕ} {cut : Cut} {table a b : List ℕ} {k : ℕ} (r : Ready n s cut table a b k) (j : ℕ) (hj : j + 1 < n .ny) where
+module _ {n : Size} {s : List ℕ} {cut : Cut} {a b : List ℕ} {k : ℕ} (r : Ready n s cut a b k) (j : ℕ) (hj : j + 1 < n .ny) where
   -- the signs of the plane above where the edges run up to it
   abbrev above : Along → List ℕ
   above AxisX = a
@@ -128,9 +128,9 @@ module _ {n : Size} {s : List ℕ} {cut : Cut} {table a b : List ℕ} {k : ℕ} 
   }
 
   module _ {lo hi : List ℕ} (p : Windows n s j k lo hi) (row : Row) (e : row ≡ rowOf n cut j k) {m : Marks} (c : Counting loopsOf n s cut j k m) where
-    pub counts-ready : RowReady lo hi (row .cut) table a b (row .nx) (row .j) × RowFits row a b × RowFew m
+    pub counts-ready : RowReady lo hi (row .cut) a b (row .nx) (row .j) × RowFits row a b × RowFew m
     counts-ready =
-        subst (λ (x : Row). RowReady lo hi (x .cut) table a b (x .nx) (x .j) × RowFits x a b × RowFew m) (sym e)
+        subst (λ (x : Row). RowReady lo hi (x .cut) a b (x .nx) (x .j) × RowFits x a b × RowFew m) (sym e)
         (row-ready r hj p, row-fits, counting-few n s cut j k (r .limits) hj (r .inside) c)
 
     pub counts-next : {m′ : Marks} → RowCounted loopsOf lo hi row a b m m′ → Counting loopsOf n s cut (j + 1) k m′
@@ -138,8 +138,8 @@ module _ {n : Size} {s : List ℕ} {cut : Cut} {table a b : List ℕ} {k : ℕ} 
 
 -- ---- a row that is written
 
-module _ {n : Size} {s : List ℕ} {cut : Cut} {table a b : List ℕ} {j k : ℕ} {m : Marks} {under tab w : List ℕ} {o : List Float} {q : List ℕ}
-    (r : Ready n s cut table a b k) (ok : Meshable n s cut) (t : TablesReady loopsOf n s cut j k under tab) (u : Underway loopsOf n s cut j k m w o q) where
+module _ {n : Size} {s : List ℕ} {cut : Cut} {a b : List ℕ} {j k : ℕ} {m : Marks} {under tab w : List ℕ} {o : List Float} {q : List ℕ}
+    (r : Ready n s cut a b k) (ok : Meshable n s cut) (t : TablesReady loopsOf n s cut j k under tab) (u : Underway loopsOf n s cut j k m w o q) where
   abbrev first : ℕ
   first = rowCube (n .nx) (n .ny) j k
 
@@ -172,9 +172,9 @@ module _ {n : Size} {s : List ℕ} {cut : Cut} {table a b : List ℕ} {j k : ℕ
   }
 
   pub step-ready : {lo hi : List ℕ} → Windows n s j k lo hi → (row : Row) → row ≡ rowOf n cut j k
-      → RowReady lo hi (row .cut) table a b (row .nx) (row .j) × RowRoom loopsOf lo hi (row .cut) (row .nx) (row .c) (m .v) w o (half (row .j) tab) × QuadsReady row a b under m (length q) × (length tab ≡ 1024)
+      → RowReady lo hi (row .cut) a b (row .nx) (row .j) × RowRoom loopsOf lo hi (row .cut) (row .nx) (row .c) (m .v) w o (half (row .j) tab) × QuadsReady row a b under m (length q) × (length tab ≡ 1024)
   step-ready {lo} {hi} p row e =
-      subst (λ (x : Row). RowReady lo hi (x .cut) table a b (x .nx) (x .j) × RowRoom loopsOf lo hi (x .cut) (x .nx) (x .c) (m .v) w o (half (x .j) tab) × QuadsReady x a b under m (length q) × (length tab ≡ 1024)) (sym e)
+      subst (λ (x : Row). RowReady lo hi (x .cut) a b (x .nx) (x .j) × RowRoom loopsOf lo hi (x .cut) (x .nx) (x .c) (m .v) w o (half (x .j) tab) × QuadsReady x a b under m (length q) × (length tab ≡ 1024)) (sym e)
       (row-ready r (t .row) p, vertex-room p, quad-room, t .tab-long)
 
   -- what it leaves

@@ -105,12 +105,11 @@ fn with_layer(
     size: Size,
     samples: &[u16],
     cut: Cut,
-    table: &[u32; 256],
     a: &[u64],
     b: &[u64],
     k: usize,
 ) -> Marks
-    requires { ⌜ Ready size (now samples) cut (now table) (now a) (now b) k × Counting loopsOf size (now samples) cut 0 k m ⌝ }
+    requires { ⌜ Ready size (now samples) cut (now a) (now b) k × Counting loopsOf size (now samples) cut 0 k m ⌝ }
     ensures { λ r. ⌜ Counting loopsOf size (now (samples .entry)) cut 0 (k + 1) r ⌝ }
 {
     let rows = size.ny() - 1;
@@ -124,7 +123,6 @@ fn with_layer(
         let row = row_of(size, cut, j, k);
         w = layers::row_counts(
             row,
-            table,
             a,
             b,
             &samples[p..p + 2 * nx],
@@ -141,7 +139,6 @@ fn tally_block(size: Size, samples: &[u16], cut: Cut) -> Marks
     requires { ⌜ Block size (now samples) ⌝ }
     ensures { λ r. ⌜ Tallied loopsOf size (now (samples .entry)) cut r ⌝ }
 {
-    let table = cube::masks();
     let nz = size.nz();
     let mut a = [0u64; 1280];
     let mut b = [0u64; 1280];
@@ -155,7 +152,7 @@ fn tally_block(size: Size, samples: &[u16], cut: Cut) -> Marks
     let mut k: usize = 0;
     while k + 1 < nz {
         signs::plane_signs(size, samples, cut, k + 1, &mut b);
-        m = with_layer(m, size, samples, cut, &table, &a, &b, k);
+        m = with_layer(m, size, samples, cut, &a, &b, k);
         a = b;
         k += 1;
     }
@@ -230,7 +227,6 @@ fn step_row(
     size: Size,
     samples: &[u16],
     cut: Cut,
-    table: &[u32; 256],
     a: &[u64],
     b: &[u64],
     j: usize,
@@ -241,7 +237,7 @@ fn step_row(
     under: &[u32],
     tab: &mut [u32],
 ) -> Marks
-    requires { ⌜ Ready size (now samples) cut (now table) (now a) (now b) k × Meshable size (now samples) cut × TablesReady loopsOf size (now samples) cut j k (now under) (now tab) × Underway loopsOf size (now samples) cut j k m (now words) (now offsets) (now quads) ⌝ }
+    requires { ⌜ Ready size (now samples) cut (now a) (now b) k × Meshable size (now samples) cut × TablesReady loopsOf size (now samples) cut j k (now under) (now tab) × Underway loopsOf size (now samples) cut j k m (now words) (now offsets) (now quads) ⌝ }
     ensures { λ r. ⌜ RowMore loopsOf size (now (samples .entry)) cut j k m r (now (words .entry)) (now (words .exit)) (now (offsets .entry)) (now (offsets .exit)) (now (quads .entry)) (now (quads .exit)) (now (tab .exit)) ⌝ }
 {
     let nx = size.nx();
@@ -251,7 +247,6 @@ fn step_row(
     let row = row_of(size, cut, j, k);
     layers::row_step(
         row,
-        table,
         a,
         b,
         &samples[p..p + 2 * nx],
@@ -272,7 +267,6 @@ fn write_layer(
     size: Size,
     samples: &[u16],
     cut: Cut,
-    table: &[u32; 256],
     a: &[u64],
     b: &[u64],
     k: usize,
@@ -280,7 +274,7 @@ fn write_layer(
     offsets: &mut [f64],
     quads: &mut [u32],
 ) -> Marks
-    requires { ⌜ Ready size (now samples) cut (now table) (now a) (now b) k × Meshable size (now samples) cut × (0 < k → below ≡ layerFirst loopsOf size (now samples) cut (k - 1)) × Underway loopsOf size (now samples) cut 0 k m (now words) (now offsets) (now quads) ⌝ }
+    requires { ⌜ Ready size (now samples) cut (now a) (now b) k × Meshable size (now samples) cut × (0 < k → below ≡ layerFirst loopsOf size (now samples) cut (k - 1)) × Underway loopsOf size (now samples) cut 0 k m (now words) (now offsets) (now quads) ⌝ }
     ensures { λ r. ⌜ LayerMore loopsOf size (now (samples .entry)) cut k m r (now (words .entry)) (now (words .exit)) (now (offsets .entry)) (now (offsets .exit)) (now (quads .entry)) (now (quads .exit)) ⌝ }
 {
     let first = m.v;
@@ -308,7 +302,6 @@ fn write_layer(
             size,
             samples,
             cut,
-            table,
             a,
             b,
             j,
@@ -338,7 +331,6 @@ fn write_block(
     requires { ⌜ Meshable size (now samples) cut × Tallied loopsOf size (now samples) cut t × Roomy loopsOf size (now samples) cut (now words) (now offsets) (now quads) ⌝ }
     ensures { λ _. ⌜ BlockWritten loopsOf size (now (samples .entry)) cut (now (words .entry)) (now (words .exit)) (now (offsets .entry)) (now (offsets .exit)) (now (quads .entry)) (now (quads .exit)) ⌝ }
 {
-    let table = cube::masks();
     let nz = size.nz();
     let mut a = [0u64; 1280];
     let mut b = [0u64; 1280];
@@ -360,7 +352,6 @@ fn write_block(
             size,
             samples,
             cut,
-            &table,
             &a,
             &b,
             k,

@@ -1,9 +1,9 @@
 // What the words of two planes say of the cubes and edges between them, 64 at a time: the signs of the cubes' corners, which cubes and edges have ends
 // of both signs, and the places of a word that count.
 ghost use mathlib.Core.Path.{_≡_};
-ghost use Prim.Native.Nat.{_+_, _*_, _<_, _≤_};
+ghost use Prim.Native.Nat.{_+_, _*_, _/_, _%_, _^_, _<_, _≤_};
 ghost use lib.ListN.{length};
-ghost use Rattle.planes.specs.Planes.{furtherOf, furtherAt, eightOf, activeOf, alongX, alongY, alongZ, limitOf, innerOf};
+ghost use Rattle.planes.specs.Planes.{furtherOf, furtherAt, eightOf, activeOf, alongX, alongY, alongZ, limitOf, innerOf, patternAt};
 ghost use lib.Count.{ones};
 
 // The signs of the eight corners of 64 cubes, from the word q of the plane a below and of the plane b above.
@@ -25,6 +25,25 @@ pub fn active(e: [u64; 8]) -> u64
     let v = e[0];
     (v ^ e[1])
         | ((v ^ e[2]) | ((v ^ e[3]) | ((v ^ e[4]) | ((v ^ e[5]) | ((v ^ e[6]) | (v ^ e[7]))))))
+}
+
+// The sign pattern of cube i: bit c is bit i of word c.
+pub fn pattern_at(e: [u64; 8], i: usize) -> u32
+    requires { ⌜ i < 64 ⌝ }
+    ensures { λ r. ⌜ r ≡ patternAt e i ⌝ }
+    ensures { λ r. ⌜ r < 256 ⌝ }
+{
+    let low = two_bits(e[0], e[1], i) + 4 * two_bits(e[2], e[3], i);
+    let high = two_bits(e[4], e[5], i) + 4 * two_bits(e[6], e[7], i);
+    (low + 16 * high) as u32
+}
+
+// Bit i of two words, that of the second above that of the first.
+fn two_bits(a: u64, b: u64, i: usize) -> u64
+    requires { ⌜ i < 64 ⌝ }
+    ensures { λ r. ⌜ r ≡ a / 2 ^ i % 2 + 2 * (b / 2 ^ i % 2) ⌝ }
+{
+    (a >> i) % 2 + 2 * ((b >> i) % 2)
 }
 
 // The places i of word w with 64 w + i below n.

@@ -47,9 +47,9 @@ module _ (loopsOf : Cut → List ℕ → List ℕ) (lo hi : List ℕ) (cut : Cut
   pub row-count-le : ((cs : List ℕ) → length (loopsOf cut cs) ≤ 4) → length (rowMasks loopsOf lo hi cut nx) ≤ 4 * (nx - 1)
   row-count-le four = at-most (loopsAt loopsOf lo hi cut nx) 4 (nx - 1) (λ m l. four (windowCorners nx lo hi m))
 
-module _ {D : Decider} {loopsOf : Cut → List ℕ → List ℕ} (laws : CubeLaws D loopsOf) {lo hi : List ℕ} {cut : Cut} {table a b : List ℕ} {nx j : ℕ} (ready : RowReady lo hi cut table a b nx j) (w : ℕ) (hw : w < 4)
+module _ {D : Decider} {loopsOf : Cut → List ℕ → List ℕ} (laws : CubeLaws D loopsOf) {lo hi : List ℕ} {cut : Cut} {a b : List ℕ} {nx j : ℕ} (ready : RowReady lo hi cut a b nx j) (w : ℕ) (hw : w < 4)
     {eight : List ℕ} {active limit : ℕ} (t : WordTold a b nx j w eight active limit) where
-  pub told-ready : WordReady lo hi cut table nx (64 * w) eight (bitAnd active limit)
+  pub told-ready : WordReady lo hi cut nx (64 * w) eight (bitAnd active limit)
   told-ready = rw (t .limit-is, t .active-is, t .eight-is) (word-ready ready w hw)
 
   pub act-is : bitAnd active limit ≡ bitAnd (activeOf (eightOf a b (5 * j + w))) (limitOf (nx - 1) w)

@@ -2,7 +2,7 @@
 -- the row that have loops.
 -- Assumes nothing.
 use Prim.Native.Nat.{ℕ, _+_, _*_, _-_, _/_, _%_, _^_, _≤_, _<_}
-use mathlib.Core.Path.{_≡_, refl, ap, sym, _∙_}
+use mathlib.Core.Path.{_≡_, ap, sym, _∙_}
 use mathlib.Core.Logic.{_⊎_, inl, inr}
 use mathlib.Core.Bool.{true, cond}
 use mathlib.Core.List.{List, [], _++_}
@@ -19,7 +19,6 @@ use Rattle.laws.proofs.Visit.{below-skip}
 use Rattle.laws.proofs.Words.{and-holds}
 use Rattle.block.specs.declared.Cut.{Cut}
 use Rattle.block.specs.Grey.{positive}
-use Rattle.cube.specs.Table.{maskTable}
 use Rattle.cube_rule.specs.Laws.{CubeLaws}
 use Rattle.cube_rule.specs.Links.{Decider}
 use Rattle.cube_rule.specs.Edges.{cornerSample}
@@ -62,11 +61,7 @@ upTo-word m f w = ap (below (upTo m f)) next ∙ below-add (upTo m f) (64 * w) 6
 
 -- ---- the cubes of the word w of a row
 
--- which cubes have one loop or two is told without a table
-pub by-table : {lo hi : List ℕ} {cut : Cut} {table : List ℕ} {nx p : ℕ} {e : List ℕ} {act : ℕ} → WordReady lo hi cut table nx p e act → WordReady lo hi cut maskTable nx p e act
-by-table r = record { masks = refl; low-in = r .low-in; high-in = r .high-in; signs = r .signs; active = r .active }
-
-module _ {lo hi : List ℕ} {cut : Cut} {table a b : List ℕ} {nx j : ℕ} (ready : RowReady lo hi cut table a b nx j) (w : ℕ) (hw : w < 4) where
+module _ {lo hi : List ℕ} {cut : Cut} {a b : List ℕ} {nx j : ℕ} (ready : RowReady lo hi cut a b nx j) (w : ℕ) (hw : w < 4) where
   abbrev e : List ℕ
   e = eightOf a b (5 * j + w)
 
@@ -81,9 +76,8 @@ module _ {lo hi : List ℕ} {cut : Cut} {table a b : List ℕ} {nx j : ℕ} (rea
       go (inl l) = l
       go (inr g) = absurd (omega (arith, limit-clears (activeOf e) (nx - 1) w x h g, eqb-true (actOf / 2 ^ x % 2) 1 t))
 
-  pub word-ready : WordReady lo hi cut table nx (64 * w) e actOf
+  pub word-ready : WordReady lo hi cut nx (64 * w) e actOf
   word-ready = record {
-    masks = ready .masks;
     low-in = λ x h t. omega (arith, set-in x h t, ready .low-long);
     high-in = λ x h t. omega (arith, set-in x h t, ready .high-long);
     signs = λ x h t. pattern-is (ready .lower) (ready .upper) w x hw h (omega (arith, set-in x h t));
@@ -92,7 +86,7 @@ module _ {lo hi : List ℕ} {cut : Cut} {table a b : List ℕ} {nx j : ℕ} (rea
 
 -- ---- whatever the loops of a cube are
 
-module _ {D : Decider} {loopsOf : Cut → List ℕ → List ℕ} (laws : CubeLaws D loopsOf) {lo hi : List ℕ} {cut : Cut} {table a b : List ℕ} {nx j : ℕ} (ready : RowReady lo hi cut table a b nx j) (w : ℕ) (hw : w < 4) where
+module _ {D : Decider} {loopsOf : Cut → List ℕ → List ℕ} (laws : CubeLaws D loopsOf) {lo hi : List ℕ} {cut : Cut} {a b : List ℕ} {nx j : ℕ} (ready : RowReady lo hi cut a b nx j) (w : ℕ) (hw : w < 4) where
   abbrev eight : List ℕ
   eight = eightOf a b (5 * j + w)
 

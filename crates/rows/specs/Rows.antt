@@ -7,7 +7,6 @@ use mathlib.Core.Bool.{true, cond}
 use mathlib.Core.List.{List, []}
 use lib.ListN.{length}
 use Rattle.block.specs.declared.Cut.{Cut}
-use Rattle.cube.specs.Table.{maskTable}
 use Rattle.cube_rule.specs.Edges.{patternOf}
 use Rattle.signs.specs.Windows.{windowCorners, TwoRows}
 use Rattle.laws.specs.Below.{below}
@@ -29,9 +28,8 @@ picked act f x = cond (holds act x) (f x) []
 abbrev pub wordLoops : (Cut → List ℕ → List ℕ) → List ℕ → List ℕ → Cut → ℕ → ℕ → ℕ → List ℕ
 wordLoops loopsOf lo hi cut nx act p = below (picked act (λ (x : ℕ). loopsAt loopsOf lo hi cut nx (p + x))) 64
 
--- the cubes whose bits are set lie in the windows, their signs are mixed, `e` has their sign patterns, and the table is the table of 256 masks
-pub record WordReady (lo hi : List ℕ) (cut : Cut) (table : List ℕ) (nx p : ℕ) (e : List ℕ) (act : ℕ) : Type 0 where
-  pub masks : table ≡ maskTable
+-- the cubes whose bits are set lie in the windows, their signs are mixed, and `e` has their sign patterns
+pub record WordReady (lo hi : List ℕ) (cut : Cut) (nx p : ℕ) (e : List ℕ) (act : ℕ) : Type 0 where
   pub low-in : (x : ℕ) → x < 64 → holds act x ≡ true → p + x + 1 + nx < length lo
   pub high-in : (x : ℕ) → x < 64 → holds act x ≡ true → p + x + 1 + nx < length hi
   pub signs : (x : ℕ) → x < 64 → holds act x ≡ true → patternAt e x ≡ patternOf cut (windowCorners nx lo hi (p + x))
@@ -43,12 +41,11 @@ pub record WordReady (lo hi : List ℕ) (cut : Cut) (table : List ℕ) (nx p : �
 abbrev pub rowMasks : (Cut → List ℕ → List ℕ) → List ℕ → List ℕ → Cut → ℕ → List ℕ
 rowMasks loopsOf lo hi cut nx = below (loopsAt loopsOf lo hi cut nx) (nx - 1)
 
--- what a pass over a row requires: its windows, the sign words of the planes that they are of, and the table of 256 masks
-pub record RowReady (lo hi : List ℕ) (cut : Cut) (table a b : List ℕ) (nx j : ℕ) : Type 0 where
+-- what a pass over a row requires: its windows, and the sign words of the planes that they are of
+pub record RowReady (lo hi : List ℕ) (cut : Cut) (a b : List ℕ) (nx j : ℕ) : Type 0 where
   pub short : 2 ≤ nx
   pub long : nx ≤ 256
   pub low-long : length lo ≡ 2 * nx
   pub high-long : length hi ≡ 2 * nx
-  pub masks : table ≡ maskTable
   pub lower : TwoRows cut nx lo j a
   pub upper : TwoRows cut nx hi j b

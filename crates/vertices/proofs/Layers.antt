@@ -75,14 +75,13 @@ module _ (n : Size) (s : List ℕ) (j k : ℕ) (nx ny : ℕ) (ex : nx ≡ n .nx)
   }
 
 -- what a pass over the row requires
-pub row-ready : {n : Size} {s : List ℕ} {cut : Cut} {table a b : List ℕ} {j k : ℕ} {lo hi : List ℕ} → Ready n s cut table a b k → j + 1 < n .ny → Windows n s j k lo hi
-    → RowReady lo hi cut table a b (n .nx) j
-row-ready {n} {s} {cut} {table} {a} {b} {j} {k} {lo} {hi} r hj p = record {
+pub row-ready : {n : Size} {s : List ℕ} {cut : Cut} {a b : List ℕ} {j k : ℕ} {lo hi : List ℕ} → Ready n s cut a b k → j + 1 < n .ny → Windows n s j k lo hi
+    → RowReady lo hi cut a b (n .nx) j
+row-ready {n} {s} {cut} {a} {b} {j} {k} {lo} {hi} r hj p = record {
   short = r .limits .x-low;
   long = r .limits .x-high;
   low-long = p .low .long;
   high-long = p .high .long;
-  masks = r .masks;
   lower = two-rows (r .lower) j hj (r .limits .y-high) lo (p .low);
   upper = two-rows (r .upper) j hj (r .limits .y-high) hi (p .high);
 }
@@ -120,7 +119,7 @@ module _ (loopsOf : Cut → List ℕ → List ℕ) {n : Size} {s : List ℕ} {j 
 
 -- ---- the row's windows as they are lent
 
-module _ {n : Size} {s : List ℕ} {cut : Cut} {table a b : List ℕ} {k : ℕ} (r : Ready n s cut table a b k) (j nx ny : ℕ) (ex : nx ≡ n .nx) (ey : ny ≡ n .ny) (hj : j + 1 < n .ny) where
+module _ {n : Size} {s : List ℕ} {cut : Cut} {a b : List ℕ} {k : ℕ} (r : Ready n s cut a b k) (j nx ny : ℕ) (ex : nx ≡ n .nx) (ey : ny ≡ n .ny) (hj : j + 1 < n .ny) where
   abbrev pub lentLow : List ℕ
   lentLow = take (nx * (j + ny * k) + 2 * nx - nx * (j + ny * k)) (drop (nx * (j + ny * k)) s)
 

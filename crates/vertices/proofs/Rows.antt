@@ -30,7 +30,7 @@ module _ (loopsOf : Cut → List ℕ → List ℕ) (lo hi : List ℕ) (cut : Cut
 
 -- ---- the cubes picked by their bits give what the row's cubes give: of their words, names and offsets
 
-module _ {D : Decider} {loopsOf : Cut → List ℕ → List ℕ} (laws : CubeLaws D loopsOf) {lo hi : List ℕ} {cut : Cut} {table a b : List ℕ} {nx j : ℕ} (ready : RowReady lo hi cut table a b nx j) (w : ℕ) (hw : w < 4) where
+module _ {D : Decider} {loopsOf : Cut → List ℕ → List ℕ} (laws : CubeLaws D loopsOf) {lo hi : List ℕ} {cut : Cut} {a b : List ℕ} {nx j : ℕ} (ready : RowReady lo hi cut a b nx j) (w : ℕ) (hw : w < 4) where
   abbrev act : ℕ
   act = actOf ready w hw
 
@@ -66,7 +66,7 @@ row-end {loopsOf} {lo} {hi} {cut} {nx} {c} {w} {v} {w₀} {ws} {o₀} {os} {old}
       (λ y k. upTo-in (nx - 1) (loopsAt loopsOf lo hi cut nx) y k) (λ y k. upTo-in (nx - 1) (namesAt loopsOf lo hi cut nx) y k);
 }
 
-module _ {D : Decider} {loopsOf : Cut → List ℕ → List ℕ} (laws : CubeLaws D loopsOf) {lo hi : List ℕ} {cut : Cut} {table a b : List ℕ} {nx j : ℕ} (ready : RowReady lo hi cut table a b nx j) (w : ℕ) (hw : w < 4)
+module _ {D : Decider} {loopsOf : Cut → List ℕ → List ℕ} (laws : CubeLaws D loopsOf) {lo hi : List ℕ} {cut : Cut} {a b : List ℕ} {nx j : ℕ} (ready : RowReady lo hi cut a b nx j) (w : ℕ) (hw : w < 4)
     {eight : List ℕ} {active limit : ℕ} (t : WordTold a b nx j w eight active limit) where
   -- one word more: its vertices
   module _ {c v m : ℕ} {w₀ ws : List ℕ} {o₀ os : List Float} {old new : List ℕ} (p : RowPart loopsOf lo hi cut nx c w v w₀ ws o₀ os old new m) where

@@ -26,9 +26,9 @@ use Rattle.cube_vertices.proofs.Cubes.{names-some}
 use Rattle.rows.proofs.Visits.{bitsOf, picked-set, picked-unset, visit-set, to-next, picked-next, picked-end, picked-room}
 
 -- a cube whose bit is set has a vertex
-pub active-names : {lo hi : List ℕ} {cut : Cut} {table : List ℕ} {nx p : ℕ} {e : List ℕ} {act : ℕ} → WordReady lo hi cut table nx p e act → (x : ℕ) → x < 64 → holds act x ≡ true
+pub active-names : {lo hi : List ℕ} {cut : Cut} {nx p : ℕ} {e : List ℕ} {act : ℕ} → WordReady lo hi cut nx p e act → (x : ℕ) → x < 64 → holds act x ≡ true
     → 0 < length (namesAt loopsOf lo hi cut nx (p + x))
-active-names {lo} {hi} {cut} {table} {nx} {p} {e} ready x h set =
+active-names {lo} {hi} {cut} {nx} {p} {e} ready x h set =
     names-some loopsOf cut (windowCorners nx lo hi (p + x))
     (cube-laws joined .some cut (windowCorners nx lo hi (p + x)) (ap (λ (q : ℕ). mixed (holds q)) (sym (ready .signs x h set)) ∙ ready .active x h set))
 

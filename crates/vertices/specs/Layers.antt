@@ -15,7 +15,6 @@ use Rattle.block.specs.Numbering.{sampleCount}
 use Rattle.block.specs.declared.Checked.the-variants.{Passes}
 use Rattle.block.specs.Rows.{thresholdRow}
 use Rattle.block.specs.Size.{Limits}
-use Rattle.cube.specs.Table.{maskTable}
 use Rattle.signs.specs.Signs.{Plane}
 use Rattle.rows.specs.Rows.{loopsAt, picked, wordLoops, rowMasks}
 use Rattle.cube_vertices.specs.Cubes.{namesAt, wordsAt, offsetsAt, Stored}
@@ -70,12 +69,11 @@ pub record RowWritten (loopsOf : Cut → List ℕ → List ℕ) (lo hi : List �
 
 -- ---- a layer of a block
 
--- What a pass over layer k requires: a size within its limits and as many samples as it has, the table of 256 masks, and the sign words of the
--- planes k and k + 1, which are planes of the block.
-pub record Ready (n : Size) (s : List ℕ) (cut : Cut) (table a b : List ℕ) (k : ℕ) : Type 0 where
+-- What a pass over layer k requires: a size within its limits and as many samples as it has, and the sign words of the planes k and k + 1, which are
+-- planes of the block.
+pub record Ready (n : Size) (s : List ℕ) (cut : Cut) (a b : List ℕ) (k : ℕ) : Type 0 where
   pub limits : Limits n
   pub samples : length s ≡ sampleCount n
-  pub masks : table ≡ maskTable
   pub lower : Plane n s cut k a
   pub upper : Plane n s cut (k + 1) b
   pub inside : k + 1 < n .nz

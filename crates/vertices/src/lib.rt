@@ -10,7 +10,6 @@ ghost use Rattle.vertices.specs.Layers.{WordRoom, WordWritten, RowRoom, 
 // Writes and notes the vertices of the same row from the vertex v on, and answers the number behind them.
 pub fn write_row(
     row: Row,
-    table: &[u32; 256],
     a: &[u64],
     b: &[u64],
     lo: &[u16],
@@ -20,7 +19,7 @@ pub fn write_row(
     numbers: &mut [u32],
     v: usize,
 ) -> usize
-    requires { ⌜ RowReady (now lo) (now hi) (row .cut) (now table) (now a) (now b) (row .nx) (row .j) × RowRoom loopsOf (now lo) (now hi) (row .cut) (row .nx) (row .c) v (now words) (now offsets) (now numbers) ⌝ }
+    requires { ⌜ RowReady (now lo) (now hi) (row .cut) (now a) (now b) (row .nx) (row .j) × RowRoom loopsOf (now lo) (now hi) (row .cut) (row .nx) (row .c) v (now words) (now offsets) (now numbers) ⌝ }
     ensures { λ r. ⌜ RowWritten loopsOf (now (lo .entry)) (now (hi .entry)) (row .cut) (row .nx) (row .c) v (now (words .entry)) (now (words .exit)) (now (offsets .entry)) (now (offsets .exit)) (now (numbers .entry)) (now (numbers .exit)) r ⌝ }
 {
     let cubes = row.nx - 1;
@@ -34,7 +33,7 @@ pub fn write_row(
             c: (row.c + 64 * w) as u32,
             v: m,
         };
-        m = write_word(row, lo, hi, table, spot, e, act, words, offsets, numbers);
+        m = write_word(row, lo, hi, spot, e, act, words, offsets, numbers);
         w += 1;
     }
     m
@@ -45,7 +44,6 @@ fn write_word(
     row: Row,
     lo: &[u16],
     hi: &[u16],
-    table: &[u32; 256],
     spot: Spot,
     e: [u64; 8],
     act: u64,
@@ -53,7 +51,7 @@ fn write_word(
     offsets: &mut [f64],
     numbers: &mut [u32],
 ) -> usize
-    requires { ⌜ WordReady (now lo) (now hi) (row .cut) (now table) (row .nx) (spot .x) e act × WordRoom loopsOf (now lo) (now hi) (row .cut) (row .nx) (spot .x) act (spot .c) (spot .v) (now words) (now offsets) (now numbers) ⌝ }
+    requires { ⌜ WordReady (now lo) (now hi) (row .cut) (row .nx) (spot .x) e act × WordRoom loopsOf (now lo) (now hi) (row .cut) (row .nx) (spot .x) act (spot .c) (spot .v) (now words) (now offsets) (now numbers) ⌝ }
     ensures { λ r. ⌜ WordWritten loopsOf (now (lo .entry)) (now (hi .entry)) (row .cut) (row .nx) (spot .x) act (spot .c) (spot .v) (now (words .entry)) (now (words .exit)) (now (offsets .entry)) (now (offsets .exit)) (now (numbers .entry)) (now (numbers .exit)) r ⌝ }
 {
     if act == 0 {
@@ -67,6 +65,7 @@ fn write_word(
         let k = u64::trailing_zeros(w) as usize;
         let x = i + k;
         let cs = rows::corners(lo, hi, row.nx, spot.x + x);
+        let crossed = cube::crossed_edges(planes::pattern_at(e, x));
         let here = Spot {
             x: spot.x + x,
             c: spot.c + x as u32,
@@ -75,9 +74,9 @@ fn write_word(
         m = cube_vertices::write_cube(
             row.cut,
             cs,
+            crossed,
             (one >> x) % 2 == 1,
             here,
-            table,
             words,
             offsets,
             numbers,

@@ -27,9 +27,9 @@ mask-start : (f : ℕ → Bool) → _≡_ {A = ℕ} 0 (maskOf f 0)
 unfolding maskOf
 mask-start f = refl
 
-mask-next : (f : ℕ → Bool) (p c : ℕ) → p ≡ maskOf f c → f c ≡ true → c < 64 → p + 1 * 2 ^ c % 2 ^ 64 ≡ maskOf f (c + 1)
+mask-next : (f : ℕ → Bool) (p c : ℕ) → p ≡ maskOf f c → f c ≡ true → c < 32 → p + 1 * 2 ^ c % 2 ^ 32 ≡ maskOf f (c + 1)
 unfolding maskOf
-mask-next f p c e t h = rw (add-one, t, shift-one c 64 h, e, one-mul)
+mask-next f p c e t h = rw (add-one, t, shift-one c 32 h, e, one-mul)
 
 mask-kept : (f : ℕ → Bool) (p c : ℕ) → p ≡ maskOf f c → f c ≡ false → p ≡ maskOf f (c + 1)
 unfolding maskOf
@@ -44,12 +44,15 @@ abbrev μ-loop : tie.MeasureT-loop
 loop-holds : tie.Need-loop-holds Inv-loop μ-loop
 loop-holds c = (search needs, mask-start _)
 
+shl-p : tie.Need-shl-p Inv-loop μ-loop
+shl-p c = search needs
+
 add-p : tie.Need-add-p Inv-loop μ-loop
 add-p c =
     let i = c .before .before .before .loop .c in
     let h : i < 8 = omega arith in
     let b : 2 ^ i < 2 ^ 8 = pow-lt h in
-    let e = shift-one i 64 (omega arith) in
+    let e = shift-one i 32 (omega arith) in
     let m = mask-lt (signs (c .before .before .before .before .args .cut) (c .before .before .before .before .args .t1)) i in
     omega (arith, c .before .before .before .loop .inv .1)
 
@@ -85,6 +88,7 @@ pattern-spec =
     (λ c. search needs)
     (λ c. search needs)
     (λ c. search needs)
+    shl-p
     add-p
     (λ c. search needs)
     (λ c. search needs)

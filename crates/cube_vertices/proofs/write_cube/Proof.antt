@@ -11,7 +11,8 @@ use lib.ListN.{length}
 use lib.Seq.{sets}
 use Rattle.laws.specs.Filled.{filled}
 use Rattle.cube_rule.specs.Decider.{joined, loopsOf}
-use Rattle.cube_rule.specs.Edges.{crossedMask}
+use Rattle.cube_rule.specs.Edges.{patternOf}
+use Rattle.cube.proofs.Crossed.{crossed-lt}
 use Rattle.cube_rule.proofs.Laws.{cube-laws}
 use Rattle.place.specs.Place.{placeOf}
 use Rattle.place.specs.Steps.{Placeable}
@@ -24,27 +25,27 @@ use Rattle.cube_vertices.proofs.write_cube.Tie as tie
 
 -- ---- a cube with one loop
 
-abbrev start : tie.After-crossed-edges → tie.Start
-start d = d .before .before .before .before .before .before
+abbrev start : tie.After-wide → tie.Start
+start d = d .before .before .before .before .before
 
--- the table's entry has its crossed edges, and they are its one loop
-one : (d : tie.After-crossed-edges) → loopsOf (start d .args .cut) (start d .args .corners) ≡ d .crossed-edges .result ∷ []
-one d =
-    start d .pre .0 .one (d .before .before .if1 .taken)
-    ∙ ap (λ (m : ℕ). m ∷ []) (sym (d .crossed-edges .ensures .0 ∙ ap crossedMask (d .before .pattern .ensures .0)))
+-- its crossed edges are its one loop
+one : (d : tie.After-wide) → loopsOf (start d .args .cut) (start d .args .corners) ≡ start d .args .crossed ∷ []
+one d = start d .pre .0 .one (d .before .if1 .taken)
 
 place-requires : tie.Need-place-requires
-place-requires c κs =
-    let d = c .before in
+place-requires d κs =
     let p = start d .pre .1 in
-    (subst (λ (l : List ℕ). Placeable (start d .args .cut) l (d .crossed-edges .result)) (sym (c .wide .ensures .0)) (single-placeable _ _ (p .threshold) _ (one d)), c .wide .ensures .1)
+    (subst (λ (l : List ℕ). Placeable (start d .args .cut) l (start d .args .crossed)) (sym (d .wide .ensures .0)) (single-placeable _ _ (p .threshold) _ (one d)), d .wide .ensures .1)
 
 add-word : tie.Need-add-word
-add-word c = omega (arith, c .mark .ensures .1, c .before .before .before .crossed-edges .ensures .1)
+add-word c =
+    let s = start (c .before .before) in
+    let p = patternOf (s .args .cut) (s .args .corners) in
+    omega (arith, c .mark .ensures .1, s .pre .0 .edges, crossed-lt p)
 
 put-vertex-requires : tie.Need-put-vertex-requires
 put-vertex-requires c κs =
-    let d = c .before .before .before .before .before in
+    let d = c .before .before .before .before in
     let p = start d .pre .1 in
     let n = ap length (one d) in
     (omega (arith, n, p .words-room), omega (arith, n, p .offsets-room))
@@ -58,11 +59,11 @@ returns c =
     let m = put c in
     let k = m .before .before .before in
     let p = k .before in
-    let d = p .before .before in
+    let d = p .before in
     let a = start d .args in
     record {
       stored =
-          stored-single loopsOf _ _ _ _ _ _ _ _ _ (one d) _ (k .mark .ensures .0) _ (p .place .ensures ∙ ap (λ (l : List ℕ). placeOf (a .cut) l (d .crossed-edges .result)) (p .before .wide .ensures .0))
+          stored-single loopsOf _ _ _ _ _ _ _ _ _ (one d) _ (k .mark .ensures .0) _ (p .place .ensures ∙ ap (λ (l : List ℕ). placeOf (a .cut) l (a .crossed)) (d .wide .ensures .0))
           (m .put-vertex .ensures .0) (m .put-vertex .ensures .1);
       noted = c .before .before .note .ensures ∙ ap (λ (w : ℕ). sets (now (a .numbers)) (2 * a .spot .x) (a .spot .v ∷ w ∷ [])) (which-single loopsOf _ _ _ (one d));
     }
@@ -72,6 +73,9 @@ returns c =
 -- the cube question is asked
 abbrev begin : tie.After-cube-by → tie.Start
 begin d = d .before .before .before .before .before
+
+cube-by-requires : tie.Need-cube-by-requires
+cube-by-requires c κs = c .before .before .before .before .pre .0 .edges
 
 -- and answers its loops
 found-is : (d : tie.After-cube-by) → d .cube-by .result .found ≡ found.Loops (length (loopsOf (begin d .args .cut) (begin d .args .corners)))
@@ -130,8 +134,6 @@ write-cube-spec =
     tie.close
     (tie.spec
     (λ c κs. search needs)
-    (λ c κs. search needs)
-    (λ c κs. search needs)
     place-requires
     (λ c κs. search needs)
     add-word
@@ -143,7 +145,7 @@ write-cube-spec =
     (λ c. search needs)
     (λ c. search needs)
     returns
-    (λ c κs. search needs)
+    cube-by-requires
     (λ c. search needs)
     (λ c. search needs)
     returns-2

@@ -29,7 +29,7 @@ tab d = now (begin d .args .here)
 
 -- the row's half at its return
 abbrev noted : tie.After-write-row → List ℕ
-noted d = d .write-row .last .1 .1 .1 .1 .1 .1 .1 .1 .0
+noted d = d .write-row .last .1 .1 .1 .1 .1 .1 .1 .0
 
 long : (d : tie.After-write-row) → length (noted d) ≡ 512
 long d = d .write-row .ensures .noted .long ∙ lent-long (begin d .args .row .j) (tab d) (begin d .pre .3)

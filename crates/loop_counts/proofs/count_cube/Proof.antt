@@ -10,4 +10,4 @@ returns : tie.Need-returns
 returns c = (ap (λ (l : Loops). l .count) (c .before .loops-of .ensures .0), c .before .loops-of .ensures .1)
 
 pub count-cube-spec : {M : Type 1} → statement M
-count-cube-spec = tie.close (tie.spec (λ c κs. search needs) (λ c. search needs) returns)
+count-cube-spec = tie.close (tie.spec (λ c κs. search needs) (λ c κs. search needs) (λ c. search needs) returns)

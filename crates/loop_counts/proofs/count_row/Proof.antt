@@ -15,11 +15,11 @@ use Rattle.loop_counts.proofs.count_row.Statement.{statement}
 use Rattle.loop_counts.proofs.count_row.Tie as tie
 
 abbrev Inv-loop : tie.InvT-loop
-Inv-loop row table a b lo hi cubes w₀ m₀ w m =
+Inv-loop row a b lo hi cubes w₀ m₀ w m =
     (w ≤ 4) × (m ≡ length (masksTo loopsOf lo hi (row .cut) (row .nx) (64 * w))) × (m ≤ 256 * w)
 
 abbrev μ-loop : tie.MeasureT-loop
-μ-loop row table a b lo hi cubes w₀ m₀ w m = 4 - w
+μ-loop row a b lo hi cubes w₀ m₀ w m = 4 - w
 
 abbrev start : tie.At-loop Inv-loop μ-loop → tie.Start Inv-loop μ-loop
 start d = d .before .before .before .before .before .before

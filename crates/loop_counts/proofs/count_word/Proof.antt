@@ -18,18 +18,17 @@ use Rattle.laws.proofs.Visit.{Left, left-next}
 use Rattle.rows.specs.Rows.{loopsAt, picked}
 use Rattle.rows.proofs.Visits.{bitsOf, visit-start, visit-set, visit-in, picked-end, picked-none}
 use Rattle.loop_counts.proofs.CountedWords.{counted-next, plain-counted, rest-in, rest-lt, word-counted, word-le}
-use Rattle.rows.proofs.Words.{by-table}
 use Rattle.loop_counts.proofs.count_word.Statement.{statement}
 use Rattle.loop_counts.proofs.count_word.Tie as tie
 
 abbrev Inv-loop : tie.InvT-loop
-Inv-loop row lo hi table s act one left two w₀ i₀ m₀ w i m =
+Inv-loop row lo hi s act one left two w₀ i₀ m₀ w i m =
     Left (bitsOf (bitXor left two)) 64 i w
     × (m ≡ ones one + 2 * ones two + length (below (picked (bitXor left two) (λ (x : ℕ). loopsAt loopsOf lo hi (row .cut) (row .nx) (s + x))) i))
     × (m ≤ 192 + 4 * i)
 
 abbrev μ-loop : tie.MeasureT-loop
-μ-loop row lo hi table s act one left two w₀ i₀ m₀ w i m = 64 - i
+μ-loop row lo hi s act one left two w₀ i₀ m₀ w i m = 64 - i
 
 abbrev asked : tie.After-ones-of3 Inv-loop μ-loop → tie.After-sorted Inv-loop μ-loop
 asked c = c .before .before .before .before
@@ -74,10 +73,10 @@ returns-2 : tie.Need-returns-2 Inv-loop μ-loop
 returns-2 c =
     let p = c .before .before in
     let s = p .before .before .before .before in
-    (c .ones-of .ensures .0 ∙ plain-counted (by-table (s .pre)) (p .plain .ensures) (s .fits .act .fits) (c .before .if2 .taken), omega (arith, c .ones-of .ensures .1))
+    (c .ones-of .ensures .0 ∙ plain-counted (s .pre) (p .plain .ensures) (s .fits .act .fits) (c .before .if2 .taken), omega (arith, c .ones-of .ensures .1))
 
 sorted-requires : tie.Need-sorted-requires Inv-loop μ-loop
-sorted-requires c κs = let s = c .before .before in (by-table (s .before .before .before .pre), s .if1 .left)
+sorted-requires c κs = let s = c .before .before in (s .before .before .before .pre, s .if1 .left)
 
 mul-m : tie.Need-mul-m Inv-loop μ-loop
 mul-m c = omega (arith, c .ones-of3 .ensures .1)
@@ -106,7 +105,7 @@ corners-requires : tie.Need-corners-requires Inv-loop μ-loop
 corners-requires c κs = (low-in c, begin c .pre .high-in _ (inside c) (set c))
 
 count-cube-requires : tie.Need-count-cube-requires Inv-loop μ-loop
-count-cube-requires c κs = begin (c .before) .pre .masks
+count-cube-requires c κs = search needs
 
 add-m-2 : tie.Need-add-m-2 Inv-loop μ-loop
 add-m-2 c = let d = c .before .before in omega (arith, d .before .loop .inv .2, inside d, c .count-cube .ensures .1)

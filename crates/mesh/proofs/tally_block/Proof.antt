@@ -14,14 +14,14 @@ use Rattle.mesh.proofs.tally_block.Statement.{statement}
 use Rattle.mesh.proofs.tally_block.Tie as tie
 
 abbrev Inv-loop : tie.InvT-loop
-Inv-loop size samples cut table nz a₀ b₀ m₀ k₀ a b m k = (k + 1 ≤ nz) × Plane size samples cut k a × (length b ≡ 1280) × Counting loopsOf size samples cut 0 k m
+Inv-loop size samples cut nz a₀ b₀ m₀ k₀ a b m k = (k + 1 ≤ nz) × Plane size samples cut k a × (length b ≡ 1280) × Counting loopsOf size samples cut 0 k m
 
 abbrev μ-loop : tie.MeasureT-loop
-μ-loop size samples cut table nz a₀ b₀ m₀ k₀ a b m k = nz - k
+μ-loop size samples cut nz a₀ b₀ m₀ k₀ a b m k = nz - k
 
 -- the places that the proof names: the entry, the size read, the loop's head
 abbrev entry : tie.After-nz Inv-loop μ-loop → tie.Start Inv-loop μ-loop
-entry z = z .before .before .before
+entry z = z .before .before
 
 abbrev sized : tie.At-loop Inv-loop μ-loop → tie.After-nz Inv-loop μ-loop
 sized l = l .before .before .before .before
@@ -31,9 +31,6 @@ start l = entry (sized l)
 
 abbrev at-loop : tie.After-plane-signs2 Inv-loop μ-loop → tie.At-loop Inv-loop μ-loop
 at-loop p = p .before .before .before
-
-masks-requires : tie.Need-masks-requires Inv-loop μ-loop
-masks-requires c κs = search needs
 
 nz-requires : tie.Need-nz-requires Inv-loop μ-loop
 nz-requires c κs = search needs
@@ -82,13 +79,12 @@ slice-aggregate-with-layer-2 c = search needs
 
 with-layer-requires : tie.Need-with-layer-requires Inv-loop μ-loop
 with-layer-requires c κs =
-    let p = c .before .before .before .before in
+    let p = c .before .before .before in
     let l = at-loop p in
     let a = start l in (
       record {
         limits = a .pre .limits;
         samples = a .pre .samples;
-        masks = sized l .before .masks .ensures;
         lower = l .loop .inv .1;
         upper = upper-of p;
         inside = omega (arith, sized l .nz .ensures);
@@ -104,7 +100,7 @@ loop-less c = search needs
 
 loop-again : tie.Need-loop-again Inv-loop μ-loop
 loop-again c =
-    let u = upper-of (c .before .before .before .before .before) in
+    let u = upper-of (c .before .before .before .before) in
     (omega arith, u, u .room, c .with-layer .ensures)
 
 returns : tie.Need-returns Inv-loop μ-loop
@@ -119,7 +115,6 @@ tally-block-spec =
     (tie.spec
     Inv-loop
     μ-loop
-    masks-requires
     nz-requires
     slice-aggregate-plane-signs
     plane-signs-requires

@@ -14,10 +14,10 @@ use Rattle.mesh.proofs.with_layer.Statement.{statement}
 use Rattle.mesh.proofs.with_layer.Tie as tie
 
 abbrev Inv-loop : tie.InvT-loop
-Inv-loop size samples cut table a b k rows w₀ j₀ w j = (j ≤ size .ny - 1) × Counting loopsOf size samples cut j k w
+Inv-loop size samples cut a b k rows w₀ j₀ w j = (j ≤ size .ny - 1) × Counting loopsOf size samples cut j k w
 
 abbrev μ-loop : tie.MeasureT-loop
-μ-loop size samples cut table a b k rows w₀ j₀ w j = size .ny - 1 - j
+μ-loop size samples cut a b k rows w₀ j₀ w j = size .ny - 1 - j
 
 -- the places that the proof names: the entry, the turn's start, the row made
 abbrev start : tie.In-loop Inv-loop μ-loop → tie.Start Inv-loop μ-loop

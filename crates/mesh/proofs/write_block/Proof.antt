@@ -18,15 +18,15 @@ use Rattle.mesh.proofs.write_block.Statement.{statement}
 use Rattle.mesh.proofs.write_block.Tie as tie
 
 abbrev Inv-loop : tie.InvT-loop
-Inv-loop size samples cut words₀ offsets₀ quads₀ table nz a₀ b₀ m₀ below₀ k₀ words offsets quads a b m below k =
+Inv-loop size samples cut words₀ offsets₀ quads₀ nz a₀ b₀ m₀ below₀ k₀ words offsets quads a b m below k =
     (k + 1 ≤ nz) × Plane size samples cut k a × (length b ≡ 1280) × (0 < k → below ≡ layerFirst loopsOf size samples cut (k - 1)) × Writing loopsOf size samples cut 0 k m words₀ words offsets₀ offsets quads₀ quads
 
 abbrev μ-loop : tie.MeasureT-loop
-μ-loop size samples cut words₀ offsets₀ quads₀ table nz a₀ b₀ m₀ below₀ k₀ words offsets quads a b m below k = nz - k
+μ-loop size samples cut words₀ offsets₀ quads₀ nz a₀ b₀ m₀ below₀ k₀ words offsets quads a b m below k = nz - k
 
 -- the places that the proof names: the entry, the size read, the loop's head, the upper plane's signs read, the layer written
 abbrev entry : tie.After-nz Inv-loop μ-loop → tie.Start Inv-loop μ-loop
-entry z = z .before .before .before .before .before .before
+entry z = z .before .before .before .before .before
 
 abbrev sized : tie.At-loop Inv-loop μ-loop → tie.After-nz Inv-loop μ-loop
 sized l = l .before .before .before .before .before
@@ -38,7 +38,7 @@ abbrev at-loop : tie.After-plane-signs2 Inv-loop μ-loop → tie.At-loop Inv-loo
 at-loop p = p .before .before .before
 
 abbrev planes-read : tie.After-write-layer Inv-loop μ-loop → tie.After-plane-signs2 Inv-loop μ-loop
-planes-read w = w .before .before .before .before .before .before .before .before
+planes-read w = w .before .before .before .before .before .before .before
 
 abbrev written : tie.After-slice-known6 Inv-loop μ-loop → tie.After-write-layer Inv-loop μ-loop
 written c = c .before .before .before .before .before .before
@@ -60,21 +60,20 @@ inside d = omega (arith, sized (d .before) .nz .ensures, d .loop-test .taken)
 
 -- what a layer requires
 layer-ready : (p : tie.After-plane-signs2 Inv-loop μ-loop) → let l = at-loop p in let a = start l in
-    Ready (a .args .size) (a .args .samples .now) (a .args .cut) (sized l .before .masks .result) (l .loop .a) (p .plane-signs2 .last .1 .1 .1 .1 .0) (l .loop .k)
+    Ready (a .args .size) (a .args .samples .now) (a .args .cut) (l .loop .a) (p .plane-signs2 .last .1 .1 .1 .1 .0) (l .loop .k)
 layer-ready p =
     let l = at-loop p in
     let a = start l in
     record {
       limits = a .pre .0 .limits;
       samples = a .pre .0 .count;
-      masks = sized l .before .masks .ensures;
       lower = l .loop .inv .1;
       upper = upper-of p;
       inside = inside (p .before .before);
     }
 
-add-t20 : tie.Need-add-t20 Inv-loop μ-loop
-add-t20 c = omega (arith, few (entry (c .before .before .before .before)))
+add-t18 : tie.Need-add-t18 Inv-loop μ-loop
+add-t18 c = omega (arith, few (entry (c .before .before .before .before)))
 
 loop-holds : tie.Need-loop-holds Inv-loop μ-loop
 loop-holds c =
@@ -89,7 +88,7 @@ loop-holds c =
 
 write-layer-requires : tie.Need-write-layer-requires Inv-loop μ-loop
 write-layer-requires c κs =
-    let p = c .before .before .before .before .before .before .before in
+    let p = c .before .before .before .before .before .before in
     let l = at-loop p in
     let a = start l in (
       layer-ready p,
@@ -145,10 +144,9 @@ write-block-spec =
     Inv-loop
     μ-loop
     (λ c κs. search needs)
-    (λ c κs. search needs)
     (λ c. search needs)
     (λ c κs. search needs)
-    add-t20
+    add-t18
     loop-holds
     (λ c. search needs)
     (λ c. search needs)

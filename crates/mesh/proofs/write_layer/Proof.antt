@@ -12,11 +12,11 @@ use Rattle.mesh.proofs.write_layer.Statement.{statement}
 use Rattle.mesh.proofs.write_layer.Tie as tie
 
 abbrev Inv-loop : tie.InvT-loop
-Inv-loop below size samples cut table a b k words₀ offsets₀ quads₀ first rows under₀ tab₀ passed₀ w₀ j₀ words offsets quads under tab passed w j =
+Inv-loop below size samples cut a b k words₀ offsets₀ quads₀ first rows under₀ tab₀ passed₀ w₀ j₀ words offsets quads under tab passed w j =
     (j ≤ size .ny - 1) × RowState size samples cut j k w₀ words₀ offsets₀ quads₀ passed under tab w words offsets quads
 
 abbrev μ-loop : tie.MeasureT-loop
-μ-loop below size samples cut table a b k words₀ offsets₀ quads₀ first rows under₀ tab₀ passed₀ w₀ j₀ words offsets quads under tab passed w j = size .ny - 1 - j
+μ-loop below size samples cut a b k words₀ offsets₀ quads₀ first rows under₀ tab₀ passed₀ w₀ j₀ words offsets quads under tab passed w j = size .ny - 1 - j
 
 -- the places that the proof names: the entry, the loop's head, the turn's start, the row below noted, the row written
 abbrev entry : tie.After-ny Inv-loop μ-loop → tie.Start Inv-loop μ-loop

@@ -14,11 +14,11 @@ use Rattle.vertices.proofs.write_row.Statement.{statement}
 use Rattle.vertices.proofs.write_row.Tie as tie
 
 abbrev Inv-loop : tie.InvT-loop
-Inv-loop row table a b lo hi words₀ offsets₀ numbers₀ v cubes w₀ m₀ words offsets numbers w m =
+Inv-loop row a b lo hi words₀ offsets₀ numbers₀ v cubes w₀ m₀ words offsets numbers w m =
     (w ≤ 4) × RowPart loopsOf lo hi (row .cut) (row .nx) (row .c) w v words₀ words offsets₀ offsets numbers₀ numbers m
 
 abbrev μ-loop : tie.MeasureT-loop
-μ-loop row table a b lo hi words₀ offsets₀ numbers₀ v cubes w₀ m₀ words offsets numbers w m = 4 - w
+μ-loop row a b lo hi words₀ offsets₀ numbers₀ v cubes w₀ m₀ words offsets numbers w m = 4 - w
 
 abbrev start : tie.At-loop Inv-loop μ-loop → tie.Start Inv-loop μ-loop
 start d = d .before .before .before .before .before .before .before .before .before
@@ -57,17 +57,17 @@ eight-requires c κs =
 limit-requires : tie.Need-limit-requires Inv-loop μ-loop
 limit-requires c κs = four (c .before .before .before)
 
-mul-t17 : tie.Need-mul-t17 Inv-loop μ-loop
-mul-t17 c = omega (arith, four (turn c))
+mul-t16 : tie.Need-mul-t16 Inv-loop μ-loop
+mul-t16 c = omega (arith, four (turn c))
 
-mul-t19 : tie.Need-mul-t19 Inv-loop μ-loop
-mul-t19 c = omega (arith, four (turn c))
+mul-t18 : tie.Need-mul-t18 Inv-loop μ-loop
+mul-t18 c = omega (arith, four (turn c))
 
-add-t22 : tie.Need-add-t22 Inv-loop μ-loop
-add-t22 c = let d = turn (c .before) in omega (arith, four d, start (d .before) .pre .1 .small)
+add-t21 : tie.Need-add-t21 Inv-loop μ-loop
+add-t21 c = let d = turn (c .before) in omega (arith, four d, start (d .before) .pre .1 .small)
 
-cast-t23 : tie.Need-cast-t23 Inv-loop μ-loop
-cast-t23 c = let d = turn (c .before) in omega (arith, four d, start (d .before) .pre .1 .small)
+cast-t22 : tie.Need-cast-t22 Inv-loop μ-loop
+cast-t22 c = let d = turn (c .before) in omega (arith, four d, start (d .before) .pre .1 .small)
 
 -- the word is asked for, and then it is written
 abbrev asked : tie.After-write-word-arg3 Inv-loop μ-loop → tie.After-limit Inv-loop μ-loop
@@ -120,10 +120,10 @@ write-row-spec =
     eight-requires
     (λ c κs. search needs)
     limit-requires
-    mul-t17
-    mul-t19
-    add-t22
-    cast-t23
+    mul-t16
+    mul-t18
+    add-t21
+    cast-t22
     write-word-requires
     add-w
     loop-less

@@ -2,15 +2,17 @@
 -- are stored and noted. The measure is what is left of the 64 bits.
 -- Assumes nothing.
 use Prim.Native.Nat.{ℕ, _+_, _-_, _*_, _≤_, _<_}
-use mathlib.Core.Path.{_≡_}
+use mathlib.Core.Path.{_≡_, ap, sym, _∙_}
 use mathlib.Core.Bool.{true}
 use native.Mathlib.Omega.{arith}
 use denote.Ref.{now}
-use mathlib.Core.List.{List}
+use mathlib.Core.List.{List, [], _∷_}
 use lib.Count.{trailingZeros}
 use lib.ListN.{length}
 use lib.Ieee.{Float}
 use Rattle.cube_rule.specs.Decider.{loopsOf}
+use Rattle.cube_rule.specs.Edges.{patternOf, crossedMask}
+use Rattle.signs.specs.Windows.{windowCorners}
 use Rattle.laws.specs.Below.{below}
 use Rattle.laws.specs.Bits.{holds}
 use Rattle.laws.proofs.Visit.{Left, left-next}
@@ -20,21 +22,20 @@ use Rattle.notes.specs.Tables.{Noted}
 use Rattle.rows.proofs.Visits.{bitsOf, visit-start, visit-set, visit-in, picked-room}
 use Rattle.vertices.proofs.Writes.{stored-start, stored-next, stored-end, words-next, offsets-next, noted-next, noted-end, active-names}
 use Rattle.notes.proofs.Notes.{one-noted, noted-none}
-use Rattle.rows.proofs.Words.{by-table}
 use Rattle.cube_vertices.proofs.Cubes.{written-as}
 use Rattle.cube_vertices.proofs.Stored.{stored-words, stored-offsets}
 use Rattle.vertices.proofs.write_word.Statement.{statement}
 use Rattle.vertices.proofs.write_word.Tie as tie
 
 abbrev Inv-loop : tie.InvT-loop
-Inv-loop row lo hi table spot act words₀ offsets₀ numbers₀ one w₀ i₀ m₀ words offsets numbers w i m =
+Inv-loop row lo hi spot e act words₀ offsets₀ numbers₀ one w₀ i₀ m₀ words offsets numbers w i m =
     Left (bitsOf act) 64 i w
     × Stored (spot .v) (below (picked act (λ (x : ℕ). loopsAt loopsOf lo hi (row .cut) (row .nx) (spot .x + x))) i) (below (picked act (λ (x : ℕ). wordsAt loopsOf lo hi (row .cut) (row .nx) (spot .c + x) (spot .x + x))) i)
     (below (picked act (λ (x : ℕ). offsetsAt loopsOf lo hi (row .cut) (row .nx) (spot .x + x))) i) words₀ words offsets₀ offsets m
     × Noted (picked act (λ (x : ℕ). loopsAt loopsOf lo hi (row .cut) (row .nx) (spot .x + x))) (picked act (λ (x : ℕ). namesAt loopsOf lo hi (row .cut) (row .nx) (spot .x + x))) (spot .x) i (spot .v) numbers₀ numbers
 
 abbrev μ-loop : tie.MeasureT-loop
-μ-loop row lo hi table spot act words₀ offsets₀ numbers₀ one w₀ i₀ m₀ words offsets numbers w i m = 64 - i
+μ-loop row lo hi spot e act words₀ offsets₀ numbers₀ one w₀ i₀ m₀ words offsets numbers w i m = 64 - i
 
 abbrev start : tie.After-singles Inv-loop μ-loop → tie.Start Inv-loop μ-loop
 start c = c .before .before .before .before .before .before .before
@@ -84,7 +85,7 @@ returns c =
     }
 
 singles-requires : tie.Need-singles-requires Inv-loop μ-loop
-singles-requires c κs = (by-table (c .before .before .before .before .before .before .pre .0), c .if1 .left)
+singles-requires c κs = (c .before .before .before .before .before .before .pre .0, c .if1 .left)
 
 loop-holds : tie.Need-loop-holds Inv-loop μ-loop
 loop-holds c = (visit-start _ (start c .fits .act .fits), stored-start _ _ _ _ _ _ _, noted-none _ _ _ _ _)
@@ -101,29 +102,44 @@ add-corners c = omega (arith, low-in (c .before), begin (c .before) .good)
 corners-requires : tie.Need-corners-requires Inv-loop μ-loop
 corners-requires c κs = (low-in (c .before), high-in (c .before))
 
+pattern-at-requires : tie.Need-pattern-at-requires Inv-loop μ-loop
+pattern-at-requires c κs = inside (c .before .before)
+
+crossed-edges-requires : tie.Need-crossed-edges-requires Inv-loop μ-loop
+crossed-edges-requires c κs = c .pattern-at .ensures .1
+
+-- its crossed edges, by the signs that the words have of it
+crossed-here : (x : tie.After-crossed-edges Inv-loop μ-loop) → let d = x .before .before .before .before in let a = begin d .args in
+    x .crossed-edges .result ≡ crossedMask (patternOf (a .row .cut) (windowCorners (a .row .nx) (now (a .lo)) (now (a .hi)) (a .spot .x + next d)))
+crossed-here x =
+    let p = x .before in
+    let d = p .before .before .before in
+    x .crossed-edges .ensures .0 ∙ ap crossedMask (p .pattern-at .ensures .0 ∙ begin d .pre .0 .signs _ (inside d) (set d))
+
 add-t22 : tie.Need-add-t22 Inv-loop μ-loop
-add-t22 c = let d = c .before .before .before in omega (arith, low-in d, begin d .good)
+add-t22 c = let d = c .before .before .before .before .before in omega (arith, low-in d, begin d .good)
 
 cast-t21 : tie.Need-cast-t21 Inv-loop μ-loop
-cast-t21 c = omega (arith, inside (c .before .before .before))
+cast-t21 c = omega (arith, inside (c .before .before .before .before .before))
 
 add-t23 : tie.Need-add-t23 Inv-loop μ-loop
-add-t23 c = let d = c .before .before .before .before in omega (arith, inside d, begin d .pre .1 .small)
+add-t23 c = let d = c .before .before .before .before .before .before in omega (arith, inside d, begin d .pre .1 .small)
 
 shr-write-cube : tie.Need-shr-write-cube Inv-loop μ-loop
-shr-write-cube c = omega (arith, inside (c .before .before .before .before))
+shr-write-cube c = omega (arith, inside (c .before .before .before .before .before .before))
 
 write-cube-requires : tie.Need-write-cube-requires Inv-loop μ-loop
 write-cube-requires c κs =
-    let k = c .before .before .before .before .before in
+    let x = c .before .before .before .before .before in
+    let k = x .before .before in
     let d = k .before .before in
     let h = d .before .loop in
     let ne = d .loop-test .taken in
     let s = begin d in
     let r = s .pre .1 in (
       record {
-        masks = s .pre .0 .masks;
-        one = λ t. rw (k .corners .ensures) (d .before .before .singles .ensures .1 (next d) (inside d) (set d) t);
+        edges = rw (k .corners .ensures) (crossed-here x);
+        one = λ t. rw (k .corners .ensures) (d .before .before .singles .ensures .1 (next d) (inside d) (set d) t ∙ ap (λ (m : ℕ). m ∷ []) (sym (crossed-here x)));
       },
       record {
         threshold = r .threshold;
@@ -137,7 +153,7 @@ write-cube-requires c κs =
 -- ---- it is written
 
 abbrev turn : tie.After-write-cube Inv-loop μ-loop → tie.In-loop Inv-loop μ-loop
-turn k = k .before .before .before .before .before .before .before .before
+turn k = k .before .before .before .before .before .before .before .before .before .before
 
 abbrev written : tie.After-slice-known6 Inv-loop μ-loop → tie.After-write-cube Inv-loop μ-loop
 written c = c .before .before .before .before .before .before
@@ -158,7 +174,7 @@ loop-again c =
     let h = d .before .loop in
     let ne = d .loop-test .taken in
     let s = begin d in
-    let w = written-as (k .before .before .before .before .before .before .corners .ensures) (k .write-cube .ensures) in (
+    let w = written-as (k .before .before .before .before .before .before .before .before .corners .ensures) (k .write-cube .ensures) in (
       left-next (h .inv .0) ne,
       stored-next _ (h .inv .0) (loops s) (wordsOf s) (offsetsOf s) (h .inv .1) ne (w .stored),
       noted-next _ (h .inv .0) (loops s) (names s) (h .inv .2) ne _ (h .inv .1 .number) (active-names (s .pre .0) (next d) (inside d) (set d)) (one-noted _ _ _ _ _ (w .noted) (numbers-room d)),
@@ -195,6 +211,8 @@ write-word-spec =
     add-x
     add-corners
     corners-requires
+    pattern-at-requires
+    crossed-edges-requires
     add-t22
     cast-t21
     add-t23
