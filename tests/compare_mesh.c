@@ -1,6 +1,7 @@
 /* Compares the counts and the mesh of random blocks with the plain implementation: good blocks, and blocks about which
    one thing or several are wrong, so that every refusal and every order of two refusals occurs. A third of the blocks
-   have samples at the ceiling. Some small blocks are asked once.
+   have samples at the ceiling. Some small blocks are asked once, and rows of cubes in which every sign pattern stands
+   at every place of a word.
    Assumes nothing more than compare.h. */
 #include "compare.h"
 
@@ -12,6 +13,7 @@
 #include <string.h>
 
 enum { MOST_SAMPLES = 300000, PRINTED_SAMPLES = 128, SCANNED_SAMPLES = 1000, WORD_SAMPLES = 64 };
+enum { SIGN_PATTERNS = 256, COLUMNS = 256, COLUMN_PATTERNS = 16, COLUMN_SAMPLES = 4 };
 enum { REFUSALS = 5, COUNT_REFUSALS = 3, LAST_REFUSAL = 6 };
 
 /* The refusals of a mesh; those of the counts stand first. Number 4 is given by nothing. */
@@ -188,6 +190,7 @@ static struct {
     uint64_t ceiling_refused[LAST_REFUSAL + 1];
     uint64_t words_alone, offsets_alone, both_short, rooms_exact, rooms_longer;
     uint64_t bench_alone[BENCH_CUBES], bench_within[BENCH_CUBES];
+    uint64_t patterns[SIGN_PATTERNS][WORD_SAMPLES];
 } tally;
 
 static size_t index_of(const uint32_t length[3], size_t i, size_t j, size_t k)
@@ -432,6 +435,20 @@ static const struct fixed {
 
 enum { FIXED_BLOCKS = sizeof fixed_blocks / sizeof *fixed_blocks, FIXED_AXIS = 3, FIXED_SAMPLES = 27 };
 
+/* The samples as they are lent, with rooms for the mesh but for so many vertices and quads. */
+static void run_with_room(struct call *call, size_t less_vertices, size_t less_quads)
+{
+    plain_counts(call->length[0], call->length[1], call->length[2], start(&samples_place), call->samples_len, call->t,
+                 good_counted, ANSWER);
+    if (good_counted[0] == 0) {
+        size_t vertices = good_counted[1], quads = good_counted[2];
+        call->words_len = 2 * (vertices < less_vertices ? 0 : vertices - less_vertices);
+        call->offsets_len = 3 * vertices;
+        call->quads_len = 4 * (quads < less_quads ? 0 : quads - less_quads);
+    }
+    run_call(call);
+}
+
 /* With exact rooms, with one vertex less, with one quad less. */
 static void try_fixed_block(const struct fixed *fixed, enum beside beside, size_t less_vertices, size_t less_quads)
 {
@@ -451,18 +468,68 @@ static void try_fixed_block(const struct fixed *fixed, enum beside beside, size_
         samples[index] = fixed->others;
     for (unsigned i = 0; i < 2; i++)
         samples[fixed->at[i]] = fixed->sample[i];
-    plain_counts(FIXED_AXIS, FIXED_AXIS, FIXED_AXIS, samples, FIXED_SAMPLES, fixed->t, good_counted, ANSWER);
-    if (good_counted[0] == 0) {
-        size_t vertices = good_counted[1], quads = good_counted[2];
-        call.words_len = 2 * (vertices < less_vertices ? 0 : vertices - less_vertices);
-        call.offsets_len = 3 * vertices;
-        call.quads_len = 4 * (quads < less_quads ? 0 : quads - less_quads);
+    run_with_room(&call, less_vertices, less_quads);
+}
+
+/* The signs of four samples with one x, as four bits, in an order in which any two of the 16 follow one another once:
+   two neighbours are the sign pattern of a cube. The first follows the last. */
+static void choose_columns(unsigned columns[COLUMNS])
+{
+    size_t count = 0;
+    for (unsigned low = 0; low < COLUMN_PATTERNS; low++) {
+        columns[count++] = low;
+        for (unsigned high = low + 1; high < COLUMN_PATTERNS; high++) {
+            columns[count++] = low;
+            columns[count++] = high;
+        }
     }
-    run_call(&call);
+}
+
+static void count_patterns(const uint16_t *samples, uint16_t t)
+{
+    for (size_t x = 0; x + 1 < COLUMNS; x++) {
+        unsigned pattern = 0;
+        for (unsigned corner = 0; corner < 8; corner++)
+            pattern |= (unsigned)(samples[x + (corner & 1) + COLUMNS * (corner >> 1)] >= t) << corner;
+        tally.patterns[pattern][x % WORD_SAMPLES]++;
+    }
+}
+
+/* One row of cubes with these columns of samples, begun at any of them. The samples differ, so that doubtful faces are
+   decided either way. */
+static void try_columns(const unsigned columns[COLUMNS], size_t first)
+{
+    struct call call;
+    uint16_t *samples;
+    memset(&call, 0, sizeof call);
+    call.name = "a row of cubes of all sign patterns";
+    call.length[0] = COLUMNS;
+    call.length[1] = call.length[2] = 2;
+    call.t = 100;
+    call.samples_len = COLUMNS * COLUMN_SAMPLES;
+    call.answer_len = call.counted_len = ANSWER;
+    lend(&samples_place, call.samples_len, call.lying);
+    samples = start(&samples_place);
+    for (size_t x = 0; x < COLUMNS; x++)
+        for (size_t row = 0; row < COLUMN_SAMPLES; row++) {
+            int metal = columns[(first + x) % COLUMNS] >> row & 1;
+            samples[x + COLUMNS * row] = (uint16_t)(metal ? 100 + (7 * x + 13 * row) % 150 : (11 * x + 5 * row) % 100);
+        }
+    count_patterns(samples, call.t);
+    run_with_room(&call, 0, 0);
+}
+
+static void try_all_columns(void)
+{
+    unsigned columns[COLUMNS];
+    choose_columns(columns);
+    for (size_t first = 0; first < COLUMNS; first++)
+        try_columns(columns, first);
 }
 
 void try_fixed_blocks(void)
 {
+    try_all_columns();
     for (unsigned i = 0; i < FIXED_BLOCKS; i++)
         for (unsigned beside = 0; beside < BESIDES; beside++) {
             try_fixed_block(&fixed_blocks[i], (enum beside)beside, 0, 0);
@@ -526,6 +593,18 @@ static void tally_with_ceilings(void)
     tally_given(tally.ceiling_refused, REFUSALS);
 }
 
+/* Each of the 256 sign patterns at each of the 64 places of a word. */
+static void tally_patterns(void)
+{
+    char name[60];
+    uint64_t found = 0;
+    for (unsigned pattern = 0; pattern < SIGN_PATTERNS; pattern++)
+        for (unsigned place = 0; place < WORD_SAMPLES; place++)
+            found += tally.patterns[pattern][place] > 0;
+    sprintf(name, "sign patterns at places of a word (%llu of 16384)", (unsigned long long)found);
+    tally_case(name, found == SIGN_PATTERNS * WORD_SAMPLES ? found : 0);
+}
+
 static void tally_accepted(void)
 {
     char name[40];
@@ -541,6 +620,7 @@ static void tally_accepted(void)
     tally_case("vertices and no quads", tally.no_quad);
     tally_case("quads", tally.some_quads);
     tally_case("row of more than 64 samples", tally.long_row);
+    tally_patterns();
     for (unsigned axis = 0; axis < 3; axis++) {
         sprintf(name, "axis %c of 256", "xyz"[axis]);
         tally_case(name, tally.longest[axis]);

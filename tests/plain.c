@@ -1,6 +1,6 @@
-/* The paper's rules in plain C by another method than the library's: loops are walked link by link, no table of masks,
-   faces come from the corners, a quad's vertices are searched for, the sides of a list of quads are sorted. A file is
-   refused by one rule after the other, each over the whole mesh, and its head is made by printf.
+/* The paper's rules in plain C by another method than the library's: loops are walked link by link, edges are looked at
+   one by one, faces come from the corners, a quad's vertices are searched for, the sides of a list of quads are sorted.
+   A file is refused by one rule after the other, each over the whole mesh, and its head is made by printf.
    Assumes doubles rounded to nearest, each operation by itself (-ffp-contract=off). */
 #include "plain.h"
 
