@@ -7,8 +7,9 @@
      its items, the length is not more than it has, and a buffer that is written to overlaps no other. What is only
      written to need not be initialised.
    - Nothing is kept from one call to the next and nothing is allocated, so any number of threads may call at once,
-     where none writes what another's call reads or writes. A call takes less than 64 KiB of the stack. Of a C library
-     it needs memcpy and memset. The processor rounds to nearest, as a C program starts.
+     where none writes what another's call reads or writes. A call takes less than 64 KiB of the stack. The library has
+     no tables: its constants are less than 512 bytes. Of a C library it needs memcpy and memset. The processor rounds
+     to nearest, as a C program starts.
    - C cuts an argument that is too large for its type before the call: 65636 as t arrives as 100. Check wider numbers
      first.
    - Nothing outside the lent buffers is touched, and what is lent as const is not written to.
