@@ -471,8 +471,8 @@ static void try_fixed_block(const struct fixed *fixed, enum beside beside, size_
     run_with_room(&call, less_vertices, less_quads);
 }
 
-/* The signs of four samples with one x, as four bits, in an order in which any two of the 16 follow one another once:
-   two neighbours are the sign pattern of a cube. The first follows the last. */
+/* The signs of four samples with one x, as four bits, in an order in which each of the 16 follows each of them once,
+   itself too: two neighbours are the sign pattern of a cube. The first follows the last. */
 static void choose_columns(unsigned columns[COLUMNS])
 {
     size_t count = 0;
@@ -513,7 +513,7 @@ static void try_columns(const unsigned columns[COLUMNS], size_t first)
     for (size_t x = 0; x < COLUMNS; x++)
         for (size_t row = 0; row < COLUMN_SAMPLES; row++) {
             int metal = columns[(first + x) % COLUMNS] >> row & 1;
-            samples[x + COLUMNS * row] = (uint16_t)(metal ? 100 + (7 * x + 13 * row) % 150 : (11 * x + 5 * row) % 100);
+            samples[x + COLUMNS * row] = (uint16_t)(metal ? call.t + (7 * x + 13 * row) % 150 : (11 * x + 5 * row) % call.t);
         }
     count_patterns(samples, call.t);
     run_with_room(&call, 0, 0);

@@ -9,7 +9,7 @@ use Rattle.laws.proofs.Bits.{mask-lt}
 use Rattle.laws.proofs.Tests.{below, below-at}
 use Rattle.cube_rule.specs.Edges.{crossed, crossedMask}
 
--- The pattern compared with itself 1, 2 and 4 corners on, of each comparison the bits of the lower corners of the axis's edges, and these bits
+-- The steps of the code. The pattern is compared with itself 1, 2 and 4 corners on. Of each comparison the bits of the lower corners are kept, and
 -- moved together.
 abbrev worked : ℕ → ℕ
 worked p =

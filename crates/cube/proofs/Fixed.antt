@@ -17,8 +17,8 @@ pub crossed-edges-fixed : (p : ℕ) → p < 256 → Fixes (λ (r : ℕ). (r ≡ 
 crossed-edges-fixed p h a b x y = equation-fixes (crossedMask p) a b (x .0) (y .0)
 
 -- of `crossed_in`
-pub crossed-in-fixed : (corners : List ℕ) (cut : Cut) → Fixes (λ (r : ℕ). (r ≡ crossedMask (patternOf cut corners)) × (r < 4096))
-crossed-in-fixed corners cut a b p q = equation-fixes (crossedMask (patternOf cut corners)) a b (p .0) (q .0)
+pub crossed-in-fixed : (corners : List ℕ) (cut : Cut) → Fixes (λ (r : ℕ). r ≡ crossedMask (patternOf cut corners))
+crossed-in-fixed corners cut = equation-fixes (crossedMask (patternOf cut corners))
 
 -- of `decide`
 pub decide-fixed : (cut : Cut) (p q r s : ℕ) → Fixes (λ (j : Bool). j ≡ joined cut p q r s)

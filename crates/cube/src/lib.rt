@@ -86,8 +86,8 @@ fn pattern(corners: [u16; 8], cut: Cut) -> u32
 }
 
 // The crossed edges of a sign pattern, as a mask: bit e for edge e. The ends of an edge along x, y and z are 1, 2 and 4 corners apart, so the
-// pattern is compared with itself so many corners on. Of each axis the bits of its edges' lower corners count: 0, 2, 4, 6 for x, 0, 1, 4, 5 for y and
-// 0, 1, 2, 3 for z. They are moved together, four bits an axis.
+// pattern is compared with itself so many corners on. For each axis only the bits of its edges' lower corners count: 0, 2, 4, 6 for x, 0, 1, 4, 5 for y
+// and 0, 1, 2, 3 for z. They are moved together, four bits an axis.
 pub fn crossed_edges(p: u32) -> u32
     requires { ⌜ p < 256 ⌝ }
     ensures { λ r. ⌜ r ≡ crossedMask p ⌝ }
@@ -105,7 +105,6 @@ pub fn crossed_edges(p: u32) -> u32
 // The crossed edges of a cube of samples.
 pub fn crossed_in(corners: [u16; 8], cut: Cut) -> u32
     ensures { λ r. ⌜ r ≡ crossedMask (patternOf cut corners) ⌝ }
-    ensures { λ r. ⌜ r < 4096 ⌝ }
 {
     crossed_edges(pattern(corners, cut))
 }

@@ -13,7 +13,8 @@ use Rattle.laws.specs.Filled.{filled}
 use Rattle.block.specs.declared.Cut.{Cut}
 use Rattle.block.specs.declared.Checked.the-variants.{Passes}
 use Rattle.block.specs.Rows.{thresholdRow}
-use Rattle.cube_rule.specs.Decider.{loopsOf}
+use Rattle.cube_rule.specs.Decider.{joined, loopsOf}
+use Rattle.cube_rule.proofs.Laws.{cube-laws}
 use Rattle.place.specs.declared.Offset.{Offset}
 use Rattle.place.specs.Place.{placeOf}
 use Rattle.place.specs.Steps.{Placeable}
@@ -100,7 +101,13 @@ module _ (loopsOf : Cut → List ℕ → List ℕ) (cut : Cut) (cs : List ℕ) w
         (p ∙ ap (λ (l : List ℕ). sets w₀ (2 * v) (pairs c l)) (first 0 (namesBy loopsOf cut cs) four n f (e ∙ sym names-count)))
         (q ∙ ap (λ (l : List Offset). sets o₀ (3 * v) (triples l)) (first origin (map (placeOf cut cs) (loopsOf cut cs)) places n g (e ∙ sym (length-map (loopsOf cut cs) (placeOf cut cs)))))
 
--- ---- the loops of 01, where row 3 passes the threshold
+-- ---- the loops of 01
+
+-- twelve edges
+pub single-small : (cut : Cut) (cs : List ℕ) (m : ℕ) → loopsOf cut cs ≡ m ∷ [] → m < 4096
+single-small cut cs m e = cube-laws joined .sized cut cs m (rw e (List·Memᴰ·head refl)) .2
+
+-- ---- where row 3 passes the threshold
 
 module _ (cut : Cut) (cs : List ℕ) (ok : thresholdRow cut ≡ Passes) where
   cube-passes : cubeVerdict cut ≡ Passes

@@ -57,7 +57,7 @@ fn count_word(row: Row, lo: &[u16], hi: &[u16], s: usize, e: [u64; 8], act: u64)
     m
 }
 
-// How many loops a cube has. (Its sign pattern is in the words too, but to keep eight words for so few cubes costs the others more.)
+// How many loops a cube has. (The words have its sign pattern too. To keep eight words at hand for so few cubes costs more than it saves.)
 fn count_cube(cut: Cut, corners: [u16; 8]) -> usize
     ensures { λ r. ⌜ r ≡ length (loopsOf cut corners) ⌝ }
     ensures { λ r. ⌜ r ≤ 4 ⌝ }

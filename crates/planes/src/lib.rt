@@ -1,5 +1,5 @@
-// What the words of two planes say of the cubes and edges between them, 64 at a time: the signs of the cubes' corners, which cubes and edges have ends
-// of both signs, and the places of a word that count.
+// What the words of two planes say of the cubes and edges between them, 64 at a time: the signs of the cubes' corners, the sign pattern of one cube,
+// which cubes and edges have ends of both signs, and the places of a word that count.
 ghost use mathlib.Core.Path.{_≡_};
 ghost use Prim.Native.Nat.{_+_, _*_, _/_, _%_, _^_, _<_, _≤_};
 ghost use lib.ListN.{length};

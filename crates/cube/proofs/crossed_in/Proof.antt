@@ -7,7 +7,7 @@ use Rattle.cube.proofs.crossed_in.Statement.{statement}
 use Rattle.cube.proofs.crossed_in.Tie as tie
 
 returns : tie.Need-returns
-returns c = (c .crossed-edges .ensures .0 ∙ ap crossedMask (c .before .pattern .ensures .0), c .crossed-edges .ensures .1)
+returns c = c .crossed-edges .ensures .0 ∙ ap crossedMask (c .before .pattern .ensures .0)
 
 pub crossed-in-spec : {M : Type 1} → statement M
 crossed-in-spec = tie.close (tie.spec (λ c κs. search needs) (λ c κs. search needs) returns)

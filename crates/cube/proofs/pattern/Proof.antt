@@ -44,9 +44,6 @@ abbrev μ-loop : tie.MeasureT-loop
 loop-holds : tie.Need-loop-holds Inv-loop μ-loop
 loop-holds c = (search needs, mask-start _)
 
-shl-p : tie.Need-shl-p Inv-loop μ-loop
-shl-p c = search needs
-
 add-p : tie.Need-add-p Inv-loop μ-loop
 add-p c =
     let i = c .before .before .before .loop .c in
@@ -88,7 +85,7 @@ pattern-spec =
     (λ c. search needs)
     (λ c. search needs)
     (λ c. search needs)
-    shl-p
+    (λ c. search needs)
     add-p
     (λ c. search needs)
     (λ c. search needs)

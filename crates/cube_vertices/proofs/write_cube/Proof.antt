@@ -11,15 +11,13 @@ use lib.ListN.{length}
 use lib.Seq.{sets}
 use Rattle.laws.specs.Filled.{filled}
 use Rattle.cube_rule.specs.Decider.{joined, loopsOf}
-use Rattle.cube_rule.specs.Edges.{patternOf}
-use Rattle.cube.proofs.Crossed.{crossed-lt}
 use Rattle.cube_rule.proofs.Laws.{cube-laws}
 use Rattle.place.specs.Place.{placeOf}
 use Rattle.place.specs.Steps.{Placeable}
 use Rattle.cell.specs.declared.Found.the-variants as found
 use Rattle.cell.specs.Answer.{origin}
 use Rattle.cube_vertices.specs.Cubes.{namesBy}
-use Rattle.cube_vertices.proofs.Cubes.{single-placeable, answer-found, answer-words, answer-offsets, no-other-found, which-single, which-many, stored-single, stored-many}
+use Rattle.cube_vertices.proofs.Cubes.{single-placeable, single-small, answer-found, answer-words, answer-offsets, no-other-found, which-single, which-many, stored-single, stored-many}
 use Rattle.cube_vertices.proofs.write_cube.Statement.{statement}
 use Rattle.cube_vertices.proofs.write_cube.Tie as tie
 
@@ -38,10 +36,7 @@ place-requires d κs =
     (subst (λ (l : List ℕ). Placeable (start d .args .cut) l (start d .args .crossed)) (sym (d .wide .ensures .0)) (single-placeable _ _ (p .threshold) _ (one d)), d .wide .ensures .1)
 
 add-word : tie.Need-add-word
-add-word c =
-    let s = start (c .before .before) in
-    let p = patternOf (s .args .cut) (s .args .corners) in
-    omega (arith, c .mark .ensures .1, s .pre .0 .edges, crossed-lt p)
+add-word c = let d = c .before .before in omega (arith, c .mark .ensures .1, single-small _ _ _ (one d))
 
 put-vertex-requires : tie.Need-put-vertex-requires
 put-vertex-requires c κs =

@@ -104,9 +104,6 @@ add-corners c = omega (arith, low-in c, begin c .good)
 corners-requires : tie.Need-corners-requires Inv-loop μ-loop
 corners-requires c κs = (low-in c, begin c .pre .high-in _ (inside c) (set c))
 
-count-cube-requires : tie.Need-count-cube-requires Inv-loop μ-loop
-count-cube-requires c κs = search needs
-
 add-m-2 : tie.Need-add-m-2 Inv-loop μ-loop
 add-m-2 c = let d = c .before .before in omega (arith, d .before .loop .inv .2, inside d, c .count-cube .ensures .1)
 
@@ -160,7 +157,7 @@ count-word-spec =
     add-x
     add-corners
     corners-requires
-    count-cube-requires
+    (λ c κs. search needs)
     add-m-2
     shr-w
     add-i
