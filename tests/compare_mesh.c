@@ -513,7 +513,8 @@ static void try_columns(const unsigned columns[COLUMNS], size_t first)
     for (size_t x = 0; x < COLUMNS; x++)
         for (size_t row = 0; row < COLUMN_SAMPLES; row++) {
             int metal = columns[(first + x) % COLUMNS] >> row & 1;
-            samples[x + COLUMNS * row] = (uint16_t)(metal ? call.t + (7 * x + 13 * row) % 150 : (11 * x + 5 * row) % call.t);
+            size_t sample = metal ? call.t + (7 * x + 13 * row) % 150 : (11 * x + 5 * row) % call.t;
+            samples[x + COLUMNS * row] = (uint16_t)sample;
         }
     count_patterns(samples, call.t);
     run_with_room(&call, 0, 0);
