@@ -1,0 +1,175 @@
+-- After the quads have joined their vertices, two vertices have one top if a chain of quads joins them, and only then. No search has followed more
+-- links than the whole part of the base-two logarithm of the number of vertices.
+-- Assumes nothing.
+use Prim.Native.Nat.{ℕ, zero, suc, _+_, _*_, _^_, _≤_, _<_, max}
+use mathlib.Core.Path.{_≡_, refl, ap, sym, _∙_, subst}
+use mathlib.Core.Bool.{Bool, true, false, cond}
+use mathlib.Core.Logic.{_↔_, _⊎_, inl, inr}
+use mathlib.Core.List.{List, []}
+use native.Mathlib.Omega.{arith}
+use lib.Dec.{eqb}
+use lib.ListN.{length, getD, set, length-set}
+use borrow.Author.Tests.{eq-eqb, ne-eqb, eqb-true, eqb-false}
+use Rattle.laws.proofs.Over.{each-length, each-at}
+use Rattle.laws.proofs.Tests.{lt-or-ge}
+use Rattle.pieces.specs.Chains.{VertexOf, Chain, none, one, more, PieceOf}
+use Rattle.pieces.specs.Forest.{State, at, topOf, linksOf, begin, hung, goesUnder, united, counted, join, joinQuad, after}
+use Rattle.pieces.specs.Steps.{stored, Trees, Standing, Unites, AllBelow, low}
+use Rattle.pieces.proofs.Trees.{start, hungUp, hungSize, hang, small, found, settled}
+use Rattle.pieces.proofs.Stored.{set-as}
+use Rattle.pieces.proofs.Unites.{under-true, under-false}
+
+-- a chain the other way
+turn : {quads : List ℕ} {v w : ℕ} → Chain quads v w → Chain quads w v
+turn none = none
+turn (one q a b) = one q b a
+turn (more p q) = more (turn q) (turn p)
+
+-- ---- the sizes after a top is hung, as a function
+
+size-as : (l : List ℕ) (a b : ℕ) → a < length l → b < length l
+    → _≡_ {A = ℕ → ℕ} (at (set (set l b (at l a + at l b)) a 0)) (hungSize (at l) a b)
+size-as l a b ha hb =
+    set-as (set l b (at l a + at l b)) a 0 (simp length-set ha)
+    ∙ (λ p v. cond (eqb v a) 0 (set-as l b (at l a + at l b) hb p v))
+
+-- ---- one join
+
+-- the links and sizes of a state are those of trees
+abbrev pub Stands : ℕ → State → Type 0
+Stands n st = Standing n (st .up) (st .size)
+
+max-pow : (a b n : ℕ) → 2 ^ a ≤ n → 2 ^ b ≤ n → 2 ^ max a b ≤ n
+max-pow a b n p q = go (lt-or-ge a b)
+  where
+    go : (a < b) ⊎ (b ≤ a) → 2 ^ max a b ≤ n
+    go (inl l) = let e : max a b ≡ b = omega arith in rw e q
+    go (inr g) = let e : max a b ≡ a = omega arith in rw e p
+
+module _ (n : ℕ) (quads : List ℕ) where
+  -- the top that a search finds
+  abbrev pub top : State → ℕ → ℕ
+  top st x = topOf (at (st .up)) n x
+
+  -- vertices with one top are joined by a chain
+  abbrev pub Sound : State → Type 0
+  Sound st = (x y : ℕ) → x < n → y < n → top st x ≡ top st y → Chain quads x y
+
+  -- a later state, in which v and w have one top
+  pub record Next (st st′ : State) (v w : ℕ) : Type 0 where
+    pub stands : Stands n st′
+    pub keep : (x y : ℕ) → x < n → y < n → top st x ≡ top st y → top st′ x ≡ top st′ y
+    pub done : top st′ v ≡ top st′ w
+    pub sound : Sound st → Chain quads v w → Sound st′
+
+  -- c, the top of v, is hung under d, the top of w
+  hung-next : (st : State) → Stands n st → (c d v w : ℕ) → v < n → w < n → top st v ≡ c → top st w ≡ d → (c ≡ d → ⊥) → at (st .size) c ≤ at (st .size) d
+      → Next st (hung c d st) v w
+  hung-next st S c d v w hv hw ev ew ne le = record {
+    stands = record {
+      up-length = simp length-set (S .up-length);
+      size-length = simp length-set (S .size-length);
+      few = S .few;
+      trees = settled grown;
+    };
+    keep = λ x y hx hy e. is x hx ∙ ap (λ (r : ℕ). cond (eqb r c) d r) e ∙ sym (is y hy);
+    done = is v hv ∙ from-v ∙ sym from-w ∙ sym (is w hw);
+    sound = λ s j x y hx hy e. chained s j x y hx hy (eqb (top st x) c) (eqb (top st y) c) refl refl (sym (is x hx) ∙ e ∙ is y hy);
+  }
+    where
+      hc : c < n
+      hc = subst (λ (x : ℕ). x < n) ev (S .trees .inside v hv)
+
+      hd : d < n
+      hd = subst (λ (x : ℕ). x < n) ew (S .trees .inside w hw)
+
+      depth′ : ℕ → ℕ
+      depth′ x = cond (eqb (top st x) c) (suc (linksOf (at (st .up)) n x)) (linksOf (at (st .up)) n x)
+
+      new : ℕ → ℕ
+      new x = cond (eqb (top st x) c) d (top st x)
+
+      grown : Trees n (at (hung c d st .up)) (at (hung c d st .size)) depth′ new
+      grown =
+          subst (λ (f : ℕ → ℕ). Trees n f (at (hung c d st .size)) depth′ new) (sym (set-as (st .up) c d (rw (S .up-length) hc)))
+          (subst (λ (f : ℕ → ℕ). Trees n (hungUp (at (st .up)) c d) f depth′ new) (sym (size-as (st .size) c d (rw (S .size-length) hc) (rw (S .size-length) hd)))
+          (hang n (at (st .up)) (at (st .size)) _ _ (S .trees) c d hc hd (subst (λ (x : ℕ). at (st .up) x ≡ x) ev (S .trees .tops v hv)) (subst (λ (x : ℕ). at (st .up) x ≡ x) ew (S .trees .tops w hw)) ne le))
+
+      is : (x : ℕ) → x < n → top (hung c d st) x ≡ new x
+      is x hx = found grown x hx .0
+
+      from-v : new v ≡ d
+      from-v = rw (ev, eq-eqb c c refl)
+
+      from-w : new w ≡ d
+      from-w = rw (ew, ne-eqb d c (λ (z : d ≡ c). ne (sym z)))
+
+      chained : Sound st → Chain quads v w → (x y : ℕ) → x < n → y < n → (p q : Bool) → eqb (top st x) c ≡ p → eqb (top st y) c ≡ q
+          → cond p d (top st x) ≡ cond q d (top st y) → Chain quads x y
+      chained s j x y hx hy true true ep eq e = s x y hx hy (eqb-true _ _ ep ∙ sym (eqb-true _ _ eq))
+      chained s j x y hx hy true false ep eq e = more (s x v hx hv (eqb-true _ _ ep ∙ sym ev)) (more j (s w y hw hy (ew ∙ e)))
+      chained s j x y hx hy false true ep eq e = more (s x w hx hw (e ∙ sym ew)) (more (turn j) (s v y hv hy (ev ∙ sym (eqb-true _ _ eq))))
+      chained s j x y hx hy false false ep eq e = s x y hx hy e
+
+  united-next : (st : State) → Stands n st → (v w : ℕ) → v < n → w < n → Next st (united (top st v) (top st w) st) v w
+  united-next st S v w hv hw = go (eqb (top st v) (top st w)) refl
+    where
+      swap : (st′ : State) → Next st st′ w v → Next st st′ v w
+      swap st′ N = record { stands = N .stands; keep = N .keep; done = sym (N .done); sound = λ s j. N .sound s (turn j) }
+
+      two : (x : Bool) → goesUnder (st .size) (top st v) (top st w) ≡ x → (top st v ≡ top st w → ⊥)
+          → Next st (cond x (hung (top st v) (top st w) st) (hung (top st w) (top st v) st)) v w
+      two true u ne = hung-next st S (top st v) (top st w) v w hv hw refl refl ne (under-true (st .size) (top st v) (top st w) u)
+      two false u ne = swap _ (hung-next st S (top st w) (top st v) w v hw hv refl refl (λ z. ne (sym z)) (under-false (st .size) (top st v) (top st w) u))
+
+      go : (x : Bool) → eqb (top st v) (top st w) ≡ x
+          → Next st (cond x st (cond (goesUnder (st .size) (top st v) (top st w)) (hung (top st v) (top st w) st) (hung (top st w) (top st v) st))) v w
+      go true e = record { stands = S; keep = λ x y hx hy z. z; done = eqb-true (top st v) (top st w) e; sound = λ s j. s }
+      go false e = two (goesUnder (st .size) (top st v) (top st w)) refl (eqb-false (top st v) (top st w) e)
+
+  pub join-next : (st : State) → Stands n st → (v w : ℕ) → v < n → w < n → Next st (join n v w st) v w
+  unfolding join
+  join-next st S v w hv hw =
+      let N = united-next (counted (linksOf (at (st .up)) n v) (linksOf (at (st .up)) n w) st) S v w hv hw in
+      record { stands = N .stands; keep = N .keep; done = N .done; sound = N .sound }
+
+  -- the longest search so far is short
+  abbrev pub Short : State → Type 0
+  Short st = 2 ^ st .longest ≤ n
+
+  pub join-short : (st : State) → Stands n st → (v w : ℕ) → v < n → w < n → Short st → Short (join n v w st)
+  unfolding join
+  join-short st S v w hv hw s = go (eqb (top st v) (top st w)) (goesUnder (st .size) (top st v) (top st w))
+    where
+      searched : State
+      searched = counted (linksOf (at (st .up)) n v) (linksOf (at (st .up)) n w) st
+
+      go : (x y : Bool) → Short (cond x searched (cond y (hung (top st v) (top st w) searched) (hung (top st w) (top st v) searched)))
+      go true y = max-pow _ _ n s (max-pow _ _ n (small (S .trees) v hv) (small (S .trees) w hw))
+      go false true = max-pow _ _ n s (max-pow _ _ n (small (S .trees) v hv) (small (S .trees) w hw))
+      go false false = max-pow _ _ n s (max-pow _ _ n (small (S .trees) v hv) (small (S .trees) w hw))
+
+-- ---- as the code finds it
+
+-- links and sizes after a join: they are as many, and can be joined again
+pub ready-again : (up size up′ size′ : List ℕ) (longest r v w : ℕ) → v < length up → w < length up → Standing (length up) up size
+    → stored up′ size′ r ≡ join (length up) v w (stored up size longest)
+    → (length up′ ≡ length up) × Standing (length up′) up′ size′
+ready-again up size up′ size′ longest r v w hv hw S e =
+    let S′ : Standing (length up) up′ size′ = subst (Stands (length up)) (sym e) (join-next (length up) [] (stored up size longest) S v w hv hw .stands) in
+    (S′ .up-length, subst (λ (m : ℕ). Standing m up′ size′) (sym (S′ .up-length)) S′)
+
+-- two searches, and the tops that they find are united
+pub join-is : (up size up′ size′ : List ℕ) (v w longest r a b k l : ℕ)
+    → a ≡ topOf (at up) (length up) v → k ≡ linksOf (at up) (length up) v → b ≡ topOf (at up) (length up) w → l ≡ linksOf (at up) (length up) w
+    → Unites a b up size up′ size′ → r ≡ max longest (max k l)
+    → stored up′ size′ r ≡ join (length up) v w (stored up size longest)
+unfolding join
+join-is up size up′ size′ v w longest r a b k l ea ek eb el u er =
+    ap (stored up′ size′) er
+    ∙ u (max longest (max k l))
+    ∙ (λ p. united (ea p) (eb p) (stored up size (max longest (max (ek p) (el p)))))
+
+-- three joins of one quad
+pub quad-is : (n m l v0 v1 v2 v3 : ℕ) (st a b c : State) → a ≡ join n v0 v1 st → m ≡ n → b ≡ join m v0 v2 a → l ≡ n → c ≡ join l v0 v3 b → c ≡ joinQuad n v0 v1 v2 v3 st
+quad-is n m l v0 v1 v2 v3 st a b c ea em eb el ec = ec ∙ rw (el, eb, em, ea)

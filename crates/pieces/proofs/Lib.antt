@@ -1,0 +1,12 @@
+pub mod Counts
+pub mod Trees
+pub mod Searches
+pub mod Stored
+pub mod Unites
+pub mod Lowest
+pub mod Joins
+pub mod Quads
+pub mod Renumber
+pub mod Midway
+pub mod Rows
+pub mod Found

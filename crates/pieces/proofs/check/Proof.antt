@@ -1,0 +1,69 @@
+-- `check` meets its contract: the first of the rows that refuses decides.
+-- Assumes nothing.
+use mathlib.Core.Path.{sym, _∙_}
+use Rattle.block.proofs.Order.{order-refuses, order-passes, order-last}
+use borrow.Author.Needs.{needs}
+use Rattle.pieces.proofs.check.Statement.{statement}
+use Rattle.pieces.proofs.check.Tie as tie
+use Rattle.pieces.proofs.check.Reads as reads
+use Rattle.pieces.proofs.check.Lts as lts
+use Rattle.lists.proofs.check_length.Reads as check-length-reads
+use Rattle.lists.proofs.check_numbers.Reads as check-numbers-reads
+use Rattle.pieces.proofs.check_buffers.Reads as check-buffers-reads
+
+check-length-requires : tie.Need-check-length-requires
+check-length-requires c κs = search needs
+
+enum-known-whole : tie.Need-enum-known-whole
+enum-known-whole c = search needs
+
+returns : tie.Need-returns
+returns c =
+    let first = c .before .before .before in
+    sym (order-refuses _ _ _ (sym (first .check-length .ensures) ∙ c .before .whole .given .1))
+
+enum-told : tie.Need-enum-told
+enum-told c = search needs
+
+check-numbers-requires : tie.Need-check-numbers-requires
+check-numbers-requires c κs = search needs
+
+enum-known-known : tie.Need-enum-known-known
+enum-known-known c = search needs
+
+returns-2 : tie.Need-returns-2
+returns-2 c =
+    let second = c .before .before .before in
+    let first = second .before .before .before in
+    sym (order-passes _ _ (sym (first .check-length .ensures) ∙ second .before .enum-told .given .1)
+    ∙ order-refuses _ _ _ (sym (second .check-numbers .ensures) ∙ c .before .known .given .1))
+
+enum-told-2 : tie.Need-enum-told-2
+enum-told-2 c = search needs
+
+check-buffers-requires : tie.Need-check-buffers-requires
+check-buffers-requires c κs = search needs
+
+returns-3 : tie.Need-returns-3
+returns-3 c =
+    let second = c .before .before .before in
+    let first = second .before .before .before in
+    sym (order-passes _ _ (sym (first .check-length .ensures) ∙ second .before .enum-told .given .1)
+    ∙ order-passes _ _ (sym (second .check-numbers .ensures) ∙ c .before .enum-told2 .given .1)
+    ∙ order-last _
+    ∙ sym (c .check-buffers .ensures))
+
+pub check-spec : {M : Type 1} → statement M
+check-spec =
+    tie.close
+    (tie.spec
+    check-length-requires
+    enum-known-whole
+    returns
+    enum-told
+    check-numbers-requires
+    enum-known-known
+    returns-2
+    enum-told-2
+    check-buffers-requires
+    returns-3)

@@ -1,0 +1,4 @@
+pub mod Chains
+pub mod Forest
+pub mod Answer
+pub mod Steps

@@ -1,0 +1,82 @@
+-- What a step of finding the pieces asks of the links and sizes that it is lent, and what it promises of them.
+-- Assumes nothing.
+use Prim.Native.Nat.{ℕ, suc, _+_, _^_, _≤_, _<_}
+use mathlib.Core.Path.{_≡_}
+use mathlib.Core.Bool.{cond, not}
+use mathlib.Core.List.{List}
+use lib.Dec.{eqb, ltb}
+use lib.ListN.{length, set}
+use Rattle.laws.specs.Bits.{bit}
+use Rattle.laws.specs.Counting.{count}
+use Rattle.laws.specs.Leading.{leading}
+use Rattle.pieces.specs.Forest.{State, at, topOf, linksOf, united}
+
+-- the stored state by its parts
+abbrev pub stored : List ℕ → List ℕ → ℕ → State
+stored up size longest = record { up = up; size = size; longest = longest }
+
+-- Vertices below n that hang in trees. `root` is the top of each and `depth` the links on the way there.
+pub record Trees (n : ℕ) (up size depth root : ℕ → ℕ) : Type 0 where
+  pub inside : (v : ℕ) → v < n → root v < n
+  pub tops : (v : ℕ) → v < n → up (root v) ≡ root v
+  pub stay : (v : ℕ) → v < n → up v ≡ v → (root v ≡ v) × (depth v ≡ 0)
+  pub step : (v : ℕ) → v < n → (up v ≡ v → ⊥) → (up v < n) × (root v ≡ root (up v)) × (depth v ≡ suc (depth (up v)))
+  -- a tree of height d has at least 2 ^ d vertices
+  pub heavy : (v : ℕ) → v < n → 2 ^ depth v ≤ size (root v)
+  -- the size of a top is how many vertices hang under it, that of another vertex 0
+  pub counted : (r : ℕ) → r < n → up r ≡ r → size r ≡ count (λ (v : ℕ). eqb (root v) r) n
+  pub spent : (v : ℕ) → v < n → (up v ≡ v → ⊥) → size v ≡ 0
+
+-- each search over these links comes to an end: a link leads one step nearer to the same top
+pub record Ends (n : ℕ) (up : List ℕ) : Type 0 where
+  pub long : length up ≡ n
+  pub few : n < 4294967296
+  pub nearer : (v : ℕ) → v < n → (at up v ≡ v → ⊥)
+      → (at up v < n) × (topOf (at up) n v ≡ topOf (at up) n (at up v)) × (linksOf (at up) n v ≡ suc (linksOf (at up) n (at up v)))
+
+-- the links and sizes are those of trees, and a search finds top and depth
+pub record Standing (n : ℕ) (up size : List ℕ) : Type 0 where
+  pub up-length : length up ≡ n
+  pub size-length : length size ≡ n
+  pub few : n < 4294967296
+  pub trees : Trees n (at up) (at size) (linksOf (at up) n) (topOf (at up) n)
+
+-- two tops
+pub record Tops (n : ℕ) (up : List ℕ) (a b : ℕ) : Type 0 where
+  pub first-lt : a < n
+  pub second-lt : b < n
+  pub first-top : at up a ≡ a
+  pub second-top : at up b ≡ b
+
+-- links and sizes after two tops are united; what is counted of searches is the same
+abbrev pub Unites : ℕ → ℕ → List ℕ → List ℕ → List ℕ → List ℕ → Type 0
+Unites a b up size up′ size′ = (k : ℕ) → stored up′ size′ k ≡ united a b (stored up size k)
+
+-- each number of a list is below n
+abbrev pub AllBelow : ℕ → List ℕ → Type 0
+AllBelow n quads = (k : ℕ) → k < length quads → at quads k < n
+
+-- the lowest vertex below n with the top r
+abbrev pub lowestWith : ℕ → (ℕ → ℕ) → ℕ → ℕ
+lowestWith n root r = leading (λ (w : ℕ). not (eqb (root w) r)) n
+
+-- the lowest vertex with the top that v has
+abbrev pub low : ℕ → (ℕ → ℕ) → ℕ → ℕ
+low n root v = lowestWith n root (root v)
+
+-- links and sizes after vertex v has got its number, and 1 if the piece had none before: t is what a search from v finds
+pub record NumberedTo (t v : ℕ) (up size up′ size′ : List ℕ) (r : ℕ) : Type 0 where
+  pub links : up′ ≡ cond (ltb t v) (set up v t) (set (set up t v) v v)
+  pub sizes : size′ ≡ cond (ltb t v) size (set (set size t 0) v (at size t))
+  pub fresh : r ≡ bit (not (ltb t v))
+
+abbrev pub NumberedOne : ℕ → List ℕ → List ℕ → List ℕ → List ℕ → ℕ → Type 0
+NumberedOne v up size up′ size′ r = NumberedTo (topOf (at up) (length up) v) v up size up′ size′ r
+
+-- each vertex has the lowest with its top as its number, by the links at entry, and each such vertex the count of those that have it
+pub record Numbered (n : ℕ) (up up′ size′ : List ℕ) (r : ℕ) : Type 0 where
+  pub up-length : length up′ ≡ n
+  pub size-length : length size′ ≡ n
+  pub number : (v : ℕ) → v < n → at up′ v ≡ low n (topOf (at up) n) v
+  pub sizes : (v : ℕ) → v < n → at size′ v ≡ count (λ (w : ℕ). eqb (low n (topOf (at up) n) w) v) n
+  pub pieces : r ≡ count (λ (v : ℕ). eqb (low n (topOf (at up) n) v) v) n
