@@ -12,18 +12,13 @@ use lib.ListN.{length, getD, set, length-set}
 use borrow.Author.Tests.{eq-eqb, ne-eqb, eqb-true, eqb-false}
 use Rattle.laws.proofs.Over.{each-length, each-at}
 use Rattle.laws.proofs.Tests.{lt-or-ge}
-use Rattle.pieces.specs.Chains.{VertexOf, Chain, none, one, more, PieceOf}
+use Rattle.pieces.specs.Chains.{Chain, more}
 use Rattle.pieces.specs.Forest.{State, at, topOf, linksOf, begin, hung, goesUnder, united, counted, join, joinQuad, after}
 use Rattle.pieces.specs.Steps.{stored, Trees, Standing, Unites, AllBelow, low}
 use Rattle.pieces.proofs.Trees.{start, hungUp, hungSize, hang, small, found, settled}
+use Rattle.pieces.proofs.Chains.{turn}
 use Rattle.pieces.proofs.Stored.{set-as}
 use Rattle.pieces.proofs.Unites.{under-true, under-false}
-
--- a chain the other way
-turn : {quads : List ℕ} {v w : ℕ} → Chain quads v w → Chain quads w v
-turn none = none
-turn (one q a b) = one q b a
-turn (more p q) = more (turn q) (turn p)
 
 -- ---- the sizes after a top is hung, as a function
 

@@ -2,6 +2,7 @@ pub mod Counts
 pub mod Trees
 pub mod Searches
 pub mod Stored
+pub mod Chains
 pub mod Unites
 pub mod Lowest
 pub mod Joins
@@ -10,3 +11,5 @@ pub mod Renumber
 pub mod Midway
 pub mod Rows
 pub mod Found
+pub mod Fixed
+pub mod Rules

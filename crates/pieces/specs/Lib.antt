@@ -1,4 +1,5 @@
 pub mod Chains
 pub mod Forest
 pub mod Answer
+pub mod Rules
 pub mod Steps
