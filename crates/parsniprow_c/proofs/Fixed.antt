@@ -21,11 +21,14 @@ use Rattle.mesh.proofs.Verdicts.{counts-fixed, mesh-fixed}
 use Rattle.closed.specs.declared.Closure.{Closure}
 use Rattle.closed.specs.Closed.{saidClosure}
 use Rattle.closed.proofs.Fixed.{closed-fixed, closed-with-fixed}
+use Rattle.pieces.specs.declared.Pieced.{Pieced}
+use Rattle.pieces.specs.Answer.{saidPieces}
+use Rattle.pieces.proofs.Fixed.{pieces-fixed}
 use Rattle.ply.specs.declared.Spacing.{Spacing}
 use Rattle.ply.specs.declared.Filed.{Filed}
 use Rattle.ply.specs.Answer.{saidFile}
 use Rattle.ply.proofs.Fixed.{ply-fixed}
-use Rattle.parsniprow_c.specs.Told.{tellOver, toldCeilings, toldEdge, toldFraction, toldCube, toldCounts, toldClosed, toldLength, toldFile, CeilingsTold, EdgeTold, CubeTold, CountsTold, MeshTold, ClosedTold, ClosedWithTold, PlyTold}
+use Rattle.parsniprow_c.specs.Told.{tellOver, toldCeilings, toldEdge, toldFraction, toldCube, toldCounts, toldClosed, toldPieces, toldLength, toldFile, CeilingsTold, EdgeTold, CubeTold, CountsTold, MeshTold, ClosedTold, ClosedWithTold, PiecesTold, PlyTold}
 
 pub ceilings-told-fixed : (samples place : List ℕ) → Fixes (CeilingsTold samples place)
 ceilings-told-fixed samples place = equation-fixes (tellOver (toldCeilings (accepted (ceilingsIn samples))) place)
@@ -81,6 +84,14 @@ closed-with-told-fixed quads work place a b p q =
     ap (λ (u : List ℕ). (a .0, u)) (p .is-told)
     ∙ ap (λ (x : Closure × List ℕ). (x .1, tellOver (toldClosed (saidClosure (x .0))) place)) (closed-with-fixed quads work (p .answer, a .0) (q .answer, b .0) (p .answered) (q .answered))
     ∙ ap (λ (u : List ℕ). (b .0, u)) (sym (q .is-told))
+
+-- the two buffers and the answer
+pub pieces-told-fixed : (n : ℕ) (quads piece size place : List ℕ) → Fixes (λ (f : List ℕ × List ℕ × List ℕ). PiecesTold n quads piece size place (f .0) (f .1) (f .2))
+pieces-told-fixed n quads piece size place a b p q =
+    ap (λ (u : List ℕ). (a .0, a .1, u)) (p .is-told)
+    ∙ ap (λ (x : Pieced × List ℕ × List ℕ). (x .1, x .2, tellOver (toldPieces (saidPieces (x .0))) place))
+    (pieces-fixed n quads piece size (p .answer, a .0, a .1) (q .answer, b .0, b .1) (p .answered) (q .answered))
+    ∙ ap (λ (u : List ℕ). (b .0, b .1, u)) (sym (q .is-told))
 
 -- the file buffer, the length and the answer
 abbrev fileFound : List ℕ → List ℕ → Filed × List ℕ → List ℕ × List ℕ × List ℕ

@@ -22,6 +22,9 @@ use Rattle.mesh.specs.Answer.{saidCounts, CountsAnswered, Meshed}
 use Rattle.closed.specs.declared.Closure.{Closure}
 use Rattle.closed.specs.Closed.{Finding, allSound, openAt, saidClosure, ClosedAnswered}
 use Rattle.closed.specs.Chains.{ClosedWith}
+use Rattle.pieces.specs.declared.Parts.{Parts}
+use Rattle.pieces.specs.declared.Pieced.{Pieced}
+use Rattle.pieces.specs.Answer.{saidPieces, PiecesFound}
 use Rattle.ply.specs.declared.Spacing.{Spacing}
 use Rattle.ply.specs.declared.Filed.{Filed}
 use Rattle.ply.specs.Answer.{saidFile, PlyWritten}
@@ -58,6 +61,10 @@ findingNumbers (openAt q s) = 0 ∷ given q ∷ given s ∷ []
 
 abbrev pub toldClosed : Answer Finding → List ℕ
 toldClosed = told 4 findingNumbers
+
+-- pieces, and the links of the longest search
+abbrev pub toldPieces : Answer Parts → List ℕ
+toldPieces = told 3 (λ p. p .count ∷ p .longest ∷ [])
 
 -- the bytes of a file, and 0 where there is none
 abbrev pub toldLength : Answer ℕ → List ℕ
@@ -106,6 +113,12 @@ pub record ClosedWithTold (quads work place work′ place′ : List ℕ) : Type 
   pub answer : Closure
   pub answered : ClosedWith quads work answer work′
   pub is-told : place′ ≡ tellOver (toldClosed (saidClosure answer)) place
+
+-- the two buffers are those of `pieces`
+pub record PiecesTold (n : ℕ) (quads piece size place piece′ size′ place′ : List ℕ) : Type 0 where
+  pub answer : Pieced
+  pub answered : PiecesFound n quads piece size answer piece′ size′
+  pub is-told : place′ ≡ tellOver (toldPieces (saidPieces answer)) place
 
 -- the buffer is that of `write`
 pub record PlyTold (nx ny nz : ℕ) (words : List ℕ) (offsets : List Float) (quads : List ℕ) (spacing : Spacing) (file bytes place file′ bytes′ place′ : List ℕ) : Type 0 where

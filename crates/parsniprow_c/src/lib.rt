@@ -8,6 +8,7 @@ use closed::Closure;
 use mesh::Counted;
 use place::Crossing;
 use place::Offset;
+use pieces::Pieced;
 use ply::Filed;
 use ply::Spacing;
 ghost use mathlib.Core.Path.{_≡_};
@@ -18,8 +19,9 @@ ghost use Rattle.cell.specs.Answer.{saidCube};
 ghost use Rattle.mesh_rule.specs.Buffers.{triples};
 ghost use Rattle.mesh.specs.Answer.{saidCounts};
 ghost use Rattle.closed.specs.Closed.{saidClosure};
+ghost use Rattle.pieces.specs.Answer.{saidPieces};
 ghost use Rattle.ply.specs.Answer.{saidFile};
-ghost use Rattle.parsniprow_c.specs.Told.{tellOver, toldCeilings, toldEdge, toldFraction, toldCube, toldCounts, toldClosed, toldLength, toldFile, CeilingsTold, EdgeTold, CubeTold, CountsTold, MeshTold, ClosedTold, ClosedWithTold, PlyTold};
+ghost use Rattle.parsniprow_c.specs.Told.{tellOver, toldCeilings, toldEdge, toldFraction, toldCube, toldCounts, toldClosed, toldPieces, toldLength, toldFile, CeilingsTold, EdgeTold, CubeTold, CountsTold, MeshTold, ClosedTold, ClosedWithTold, PiecesTold, PlyTold};
 
 // How many samples are at the detector's ceiling, and the lowest index of one.
 #[no_mangle]
@@ -129,6 +131,22 @@ pub extern "C" fn parsniprow_closed_with(quads: &[u32], work: &mut [u64], answer
     put(answer, &told);
 }
 
+// The pieces of a list of quads in two lent buffers.
+#[no_mangle]
+pub extern "C" fn parsniprow_pieces(
+    n: u32,
+    quads: &[u32],
+    piece: &mut [u32],
+    size: &mut [u32],
+    answer: &mut [u32],
+)
+    ensures { λ _. ⌜ PiecesTold n (now (quads .entry)) (now (piece .entry)) (now (size .entry)) (now (answer .entry)) (now (piece .exit)) (now (size .exit)) (now (answer .exit)) ⌝ }
+{
+    let pieced = pieces::pieces(n, quads, piece, size);
+    let told = tell_pieces(pieced);
+    put(answer, &told);
+}
+
 // A mesh as a PLY file in a lent buffer.
 #[no_mangle]
 pub extern "C" fn parsniprow_ply(
@@ -233,6 +251,15 @@ fn tell_closed(closure: Closure) -> [u32; 4]
         Closure::Closed => [0, 1, 0, 0],
         Closure::Open { quad, side } => [0, 0, block::short(quad), block::short(side)],
         Closure::Refused(r) => [r.number, r.value, 0, 0],
+    }
+}
+
+fn tell_pieces(pieced: Pieced) -> [u32; 3]
+    ensures { λ r. ⌜ r ≡ toldPieces (saidPieces pieced) ⌝ }
+{
+    match pieced {
+        Pieced::Found(p) => [0, p.count, p.longest],
+        Pieced::Refused(r) => [r.number, r.value, 0],
     }
 }
 
