@@ -25,7 +25,8 @@
      2       samples_len is not nx * ny * nz   nx * ny * nz
      3       t is 0 or 65535                   t
      5       words_len is under 2, or          vertices needed
-             offsets_len under 3, a vertex
+             offsets_len under 3, a vertex;
+             piece_len or size_len is under 1
      6       quads_len is under 4 a quad       quads needed
      7       quads_len is no multiple of 4     quads_len modulo 4
      13      a spacing is not above 0, or      lowest such axis, 0 to 2
@@ -143,6 +144,25 @@ void parsniprow_closed(const uint32_t *quads, size_t quads_len, uint32_t *answer
    none. The buffer keeps its contents on refusal, and always behind these items. */
 void parsniprow_closed_with(const uint32_t *quads, size_t quads_len, uint64_t *work, size_t work_len, uint32_t *answer,
                             size_t answer_len);
+
+/* The pieces of a list of quads over n vertices. Two vertices belong to one piece if a chain of quads joins them. A
+   vertex in no quad is a piece of its own. The number of a piece is its lowest vertex. The time grows with n and with
+   the list, and no work memory is needed but the two buffers.
+     n       the number of vertices
+     quads   4 vertex numbers a quad, each below n
+     piece   room for 1 item a vertex: the number of its piece
+     size    room for 1 item a vertex: for the lowest vertex of a piece how many vertices the piece has, for any other
+             vertex 0
+     answer  answer place, 3 items: 0, pieces, links of the longest search; or refusal (7, 14 or 5, tried in this
+             order), its value, 0
+   The library joins the first vertex of each quad with the second, the third and the fourth, in the order of the list.
+   For each of these joins it looks for the top of both vertices, link by link, and hangs the top with fewer vertices
+   under the other, or where both have as many, the higher under the lower. No link is shortened while it joins. The
+   third number of the answer says how many links the longest of these searches followed. It is 0 without quads, and at
+   most the whole part of the base-two logarithm of n.
+   The buffers keep their contents on refusal, and always behind the n items. */
+void parsniprow_pieces(uint32_t n, const uint32_t *quads, size_t quads_len, uint32_t *piece, size_t piece_len,
+                       uint32_t *size, size_t size_len, uint32_t *answer, size_t answer_len);
 
 /* How many samples are at the detector's ceiling, and which is the first. It looks at the samples alone, so it also
    finds those that leave no mark. It refuses nothing.

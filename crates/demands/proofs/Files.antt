@@ -1,12 +1,12 @@
 -- A mesh as a PLY file, from the very promise of `write` (document 02, Three): what it refuses and accepts, that a refusal keeps the buffer, which numbers it
 -- gives, and that a mesh which `mesh` wrote is refused by no row but 15, if the spacing is good.
-use Prim.Native.Nat.{ℕ, _+_, _*_, _/_, _%_, _≤_, _<_}
-use mathlib.Core.Path.{_≡_, ap, _∙_}
-use mathlib.Core.Bool.{Bool, true}
+use Prim.Native.Nat.{ℕ, _+_, _*_, _/_, _≤_, _<_}
+use mathlib.Core.Path.{_≡_, _∙_}
+use mathlib.Core.Bool.{true}
 use mathlib.Core.Logic.{_↔_, _⊎_, inl, inr}
 use mathlib.Core.List.{List}
 use native.Mathlib.Omega.{arith}
-use lib.Dec.{leb, eqb}
+use lib.Dec.{leb}
 use lib.ListN.{length, getD, take}
 use lib.Ieee.{Float, nan, le}
 use borrow.Author.Tests.{lt-ltb}
@@ -19,23 +19,21 @@ use Rattle.block.specs.declared.Size.{Size}
 use Rattle.block.specs.Answer.{accepted, refused, First}
 use Rattle.block.specs.Grey.{SixteenBit}
 use Rattle.block.specs.Numbering.{cubeCount}
-use Rattle.block.specs.Rows.{axisRow, searchRow, roomRow}
+use Rattle.block.specs.Rows.{axisRow, roomRow}
 use Rattle.block.specs.Size.{sizeOf, Limits}
 use Rattle.block.proofs.Order.{order-passes, order-last, accepted-exactly, refused-exactly, written-refused, first-has}
-use Rattle.block.proofs.Searches.{search-passes, search-exactly}
+use Rattle.block.proofs.Searches.{search-passes}
 use Rattle.block.proofs.Sizes.{within-axes}
 use Rattle.lists.specs.Rows.{lengthRow, quadBelow, numberRow}
-use Rattle.lists.proofs.Rows.{length-exactly}
 use Rattle.cube_rule.specs.Decider.{joined, loopsOf}
 use Rattle.cube_rule.proofs.Laws.{cube-laws}
 use Rattle.place.specs.Place.{plusZero, one}
 use Rattle.place.specs.Unit.{InUnit}
 use Rattle.mesh_rule.specs.Buffers.{meshWords, meshOffsets, meshQuads}
-use Rattle.mesh_rule.specs.Mesh.{vertices, quads}
+use Rattle.mesh_rule.specs.Mesh.{vertices}
 use Rattle.mesh_rule.proofs.Counts.{most-vertices}
 use Rattle.mesh_rule.proofs.Numbers.{vertex-is-loop}
 use Rattle.mesh_rule.proofs.Offsets.{offsets-in-unit, mesh-offsets-length}
-use Rattle.mesh_rule.proofs.Quads.{flat-length, quad-numbers, quad-inside}
 use Rattle.mesh_rule.proofs.Words.{mesh-words-length, words-at}
 use Rattle.vertex_lists.specs.Rows.{shaped, shapeRow, cubeInside, cubeRow, fromZeroToOne, offsetInside, offsetRow}
 use Rattle.vertex_lists.proofs.Rows.{shape-passes}
@@ -45,7 +43,8 @@ use Rattle.ply.specs.Rows.{spacings, badSpacing, spacingRow}
 use Rattle.ply.specs.File.{plyFile}
 use Rattle.ply.specs.Answer.{saidFile, plyRows, plyVerdict, PlyWritten}
 use Rattle.demands.specs.Answers.{MeshCall}
-use Rattle.demands.proofs.Numbers.{axis-number, lowest-number, unless-number}
+use Rattle.demands.proofs.Lists.{quads-whole, quads-known}
+use Rattle.demands.proofs.Numbers.{axis-number, lowest-number, unless-number, search-number, length-number}
 use Rattle.demands.proofs.Refusals.{refuses-by}
 use Rattle.demands.proofs.TheMesh.{limits, words-front, offsets-front, quads-front}
 
@@ -76,10 +75,6 @@ low x e a b = inr (inr (inl (omega (arith, e, a), omega (arith, e, b))))
 high : (x : Refusal) {n : ℕ} → x .number ≡ n → 22 ≤ n → n ≤ 24 → PlyNumber (x .number)
 high x e a b = inr (inr (inr (omega (arith, e, a), omega (arith, e, b))))
 
--- a row that searches
-search-number : (number : ℕ) (good : ℕ → Bool) (n : ℕ) (x : Refusal) → searchRow number good n ≡ Refuses x → x .number ≡ number
-search-number number good n x e = ap (λ (r : Refusal). r .number) (search-exactly number good n x .0 e .2)
-
 pub ply-numbers : (nx ny nz : ℕ) (words : List ℕ) (offsets : List Float) (quads : List ℕ) (s : Spacing) (room : ℕ) (x : Refusal)
     → plyVerdict nx ny nz words offsets quads s room ≡ Refuses x → PlyNumber (x .number)
 ply-numbers nx ny nz words offsets quads s room =
@@ -94,7 +89,7 @@ ply-numbers nx ny nz words offsets quads s room =
           (
             λ x e. high x (search-number 24 (offsetInside offsets) (length offsets / 3) x e) (omega arith) (omega arith),
             (
-              λ x e. inr (inl (unless-number (eqb (length quads % 4) 0) 7 (length quads % 4) x e)),
+              λ x e. inr (inl (length-number quads x e)),
               (
                 λ x e. low x (lowest-number 13 badSpacing (spacings s) x e) (omega arith) (omega arith),
                 (
@@ -148,16 +143,6 @@ module _ (nx ny nz : ℕ) (s : List ℕ) (cut : Cut) (grey : SixteenBit s) (lim 
       let at : (k : ℕ) → k < length offsets → fromZeroToOne (getD offsets k nan) ≡ true = λ k l. unit-passes _ (offsets-in-unit n s cut grey k l) in
       rw (at (3 * v) (omega (arith, h)), at (3 * v + 1) (omega (arith, h)), at (3 * v + 2) (omega (arith, h)))
 
-  flat-quads : length numbers ≡ 4 * length (quads loopsOf n s cut)
-  unfolding meshQuads
-  flat-quads = flat-length (quads loopsOf n s cut)
-
-  numbers-pass : (c : ℕ) → c ≡ count → HoldsTo (quadBelow c numbers) (length numbers / 4)
-  unfolding meshQuads
-  numbers-pass c e q h =
-      let b = quad-inside loopsOf n s cut (cube-laws joined) (quad-numbers (quads loopsOf n s cut) q (omega (arith, h, flat-quads))) in
-      rw (e, lt-ltb _ _ (b .0), lt-ltb _ _ (b .1), lt-ltb _ _ (b .2), lt-ltb _ _ (b .3))
-
   listed : (spacing : Spacing) (room : ℕ) → spacingRow spacing ≡ Passes
       → plyVerdict nx ny nz (meshWords loopsOf n s cut) (meshOffsets loopsOf n s cut) (meshQuads loopsOf n s cut) spacing room
       ≡ roomRow (length (plyFile (sizeOf nx ny nz) (meshWords loopsOf n s cut) (meshOffsets loopsOf n s cut) (meshQuads loopsOf n s cut) spacing)) room
@@ -166,9 +151,9 @@ module _ (nx ny nz : ℕ) (s : List ℕ) (cut : Cut) (grey : SixteenBit s) (lim 
       ∙ order-passes (shapeRow (length words) (length offsets)) _ shape-passed
       ∙ order-passes (cubeRow n words) _ (search-passes 23 _ _ cubes-pass)
       ∙ order-passes (offsetRow offsets) _ (search-passes 24 _ _ offsets-pass)
-      ∙ order-passes (lengthRow numbers) _ (length-exactly numbers .1 (omega (arith, flat-quads)))
+      ∙ order-passes (lengthRow numbers) _ (quads-whole n s cut)
       ∙ order-passes (spacingRow spacing) _ good
-      ∙ order-passes (numberRow (length words / 2) numbers) _ (search-passes 14 _ _ (numbers-pass (length words / 2) half))
+      ∙ order-passes (numberRow (length words / 2) numbers) _ (quads-known n s cut (length words / 2) half)
       ∙ order-last _
 
 -- What a call of `mesh` wrote over the front of its buffers, with any good spacing, is refused by no row but 15: all that the verdict says is whether there is room.

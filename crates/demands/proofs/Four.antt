@@ -18,6 +18,8 @@ use Rattle.mesh.specs.Answer.{saidCounts}
 use Rattle.closed.specs.declared.Closure.{Closure}
 use Rattle.closed.specs.Closed.{saidClosure}
 use Rattle.closed.specs.Chains.{ClosedWith}
+use Rattle.pieces.specs.declared.Pieced.{Pieced}
+use Rattle.pieces.specs.Answer.{saidPieces, PiecesFound}
 use Rattle.ply.specs.declared.Spacing.{Spacing}
 use Rattle.ply.specs.declared.Filed.{Filed}
 use Rattle.ply.specs.Answer.{saidFile, PlyWritten}
@@ -25,6 +27,7 @@ use Rattle.reading.proofs.Verdicts.{run-numbers}
 use Rattle.demands.specs.Marks.{NotFour, FourNever}
 use Rattle.demands.proofs.Files.{PlyNumber, ply-numbers}
 use Rattle.demands.proofs.Numbers.{size-numbers, edge-numbers, cube-numbers, counts-numbers, mesh-numbers, closed-numbers, closed-with-numbers}
+use Rattle.demands.proofs.Pieces.{PiecesNumber, pieces-numbers}
 use Rattle.demands.proofs.Places.{four-untold}
 use Rattle.demands.proofs.Refusals.{run-refuses}
 
@@ -54,6 +57,14 @@ of-closed n (inr h) e = omega (arith, h, e)
 closed-with-other : (quads work : List ℕ) (r : Closure) (work′ : List ℕ) → ClosedWith quads work r work′ → NotFour (saidClosure r)
 closed-with-other quads work r work′ m x e = of-closed (x .number) (closed-with-numbers quads (length work) x (refused-exactly _ _ _ (m .answer) x .0 e))
 
+of-pieces : (n : ℕ) → PiecesNumber n → n ≡ 4 → ⊥
+of-pieces n (inl h) e = omega (arith, h, e)
+of-pieces n (inr (inl h)) e = omega (arith, h, e)
+of-pieces n (inr (inr h)) e = omega (arith, h, e)
+
+pieces-other : (n : ℕ) (quads piece size : List ℕ) (r : Pieced) (piece′ size′ : List ℕ) → PiecesFound n quads piece size r piece′ size′ → NotFour (saidPieces r)
+pieces-other n quads piece size r piece′ size′ m x e = of-pieces (x .number) (pieces-numbers n quads (length piece) (length size) x (refused-exactly _ _ _ (m .answer) x .0 e))
+
 ply-other : (nx ny nz : ℕ) (words : List ℕ) (offsets : List Float) (quads : List ℕ) (s : Spacing) (file : List ℕ) (r : Filed) (file′ : List ℕ)
     → PlyWritten nx ny nz words offsets quads s file r file′ → NotFour (saidFile r)
 ply-other nx ny nz words offsets quads s file r file′ m x e = of-ply (x .number) (ply-numbers nx ny nz words offsets quads s (length file) x (refused-exactly _ _ _ (m .answer) x .0 e))
@@ -67,6 +78,7 @@ four-never = record {
   mesh = λ nx ny nz s cut w o q r w′ o′ q′ m x e. of-mesh (x .number) (mesh-numbers nx ny nz s cut (length w) (length o) (length q) x (refused-exactly _ _ _ (m .answer) x .0 e));
   closed = λ quads r m x e f. omega (arith, f, closed-numbers quads x (refused-exactly _ _ _ m x .0 e));
   closed-with = closed-with-other;
+  pieces = pieces-other;
   ply = ply-other;
   run = λ bytes out r out′ m v h p. of-run 4 (run-numbers bytes _ (run-refuses bytes out r out′ m (record { number = 4; value = v }) (omega arith) h .0 p)) refl;
   ceilings-told = λ s place place′ m. four-untold 3 (λ (c : CeilingCount). c .count ∷ c .lowest ∷ []) (accepted (ceilingsIn s)) place place′ m (λ x e f. let z : _≡_ {A = ℕ} 0 1 = cc in omega arith);
@@ -76,5 +88,6 @@ four-never = record {
   mesh-told = λ nx ny nz s t w o q place w′ o′ q′ place′ m. four-untold 3 _ (saidCounts (m .answer)) place place′ (m .is-told) (λ x e. of-mesh (x .number) (mesh-numbers nx ny nz s (cutOf t) (length w) (length o) (length q) x (refused-exactly _ _ _ (m .meshed .answer) x .0 e)));
   closed-told = λ quads place place′ m. four-untold 4 _ (saidClosure (m .answer)) place place′ (m .is-told) (λ x e f. omega (arith, f, closed-numbers quads x (refused-exactly _ _ _ (m .answered) x .0 e)));
   closed-with-told = λ quads work place work′ place′ m. four-untold 4 _ (saidClosure (m .answer)) place place′ (m .is-told) (closed-with-other quads work (m .answer) work′ (m .answered));
+  pieces-told = λ n quads piece size place piece′ size′ place′ m. four-untold 3 _ (saidPieces (m .answer)) place place′ (m .is-told) (pieces-other n quads piece size (m .answer) piece′ size′ (m .answered));
   ply-told = λ nx ny nz words offsets quads s file bytes place file′ bytes′ place′ m. four-untold 3 _ (saidFile (m .answer)) place place′ (m .is-told) (ply-other nx ny nz words offsets quads s file (m .answer) file′ (m .written));
 }

@@ -7,7 +7,9 @@ pub mod TheMesh
 pub mod Marks
 pub mod TextMarks
 pub mod Places
+pub mod Lists
 pub mod Files
+pub mod Pieces
 pub mod Told
 pub mod Closing
 pub mod Four

@@ -16,11 +16,12 @@ use Rattle.block.specs.declared.Checked.the-variants.{Passes, Refuses}
 use Rattle.block.specs.Answer.{given, refuses, inOrder}
 use Rattle.block.specs.Grey.{cutOf, noThreshold}
 use Rattle.block.specs.Numbering.{sampleCount}
-use Rattle.block.specs.Rows.{lowest, lowestRow, outOfLimits, axisRow, countRow, thresholdRow}
+use Rattle.block.specs.Rows.{lowest, lowestRow, searchRow, outOfLimits, axisRow, countRow, thresholdRow}
 use Rattle.block.specs.Size.{sizeOf, Limits}
 use Rattle.block.proofs.Order.{order-splits, order-last, first-has}
 use Rattle.block.proofs.Products.{product-le}
 use Rattle.block.proofs.Rows.{holds-where, holds-unless, lowest-refusal}
+use Rattle.block.proofs.Searches.{search-exactly}
 use Rattle.block.proofs.Sizes.{axes-within}
 use Rattle.cube_rule.specs.Decider.{joined, loopsOf}
 use Rattle.cube_rule.proofs.Laws.{cube-laws}
@@ -38,6 +39,10 @@ lowest-number n bad xs x e = ap (λ (r : Refusal). r .number) (lowest-refusal n 
 -- a row that holds where a test does not
 pub unless-number : (b : Bool) (n v : ℕ) (x : Refusal) → cond b Passes (refuses n v) ≡ Refuses x → x .number ≡ n
 unless-number b n v x e = ap (λ (r : Refusal). r .number) (holds-unless b n v x e)
+
+-- a row that searches
+pub search-number : (number : ℕ) (good : ℕ → Bool) (n : ℕ) (x : Refusal) → searchRow number good n ≡ Refuses x → x .number ≡ number
+search-number number good n x e = ap (λ (r : Refusal). r .number) (search-exactly number good n x .0 e .2)
 
 pub axis-number : (nx ny nz : ℕ) (x : Refusal) → axisRow nx ny nz ≡ Refuses x → x .number ≡ 1
 axis-number nx ny nz = lowest-number 1 outOfLimits (nx ∷ ny ∷ nz ∷ [])
@@ -94,7 +99,7 @@ mesh-numbers nx ny nz s cut words offsets room =
       ),
     )
 
-length-number : (quads : List ℕ) (x : Refusal) → lengthRow quads ≡ Refuses x → x .number ≡ 7
+pub length-number : (quads : List ℕ) (x : Refusal) → lengthRow quads ≡ Refuses x → x .number ≡ 7
 length-number quads = unless-number (eqb (length quads % 4) 0) 7 (length quads % 4)
 
 pub closed-numbers : (quads : List ℕ) (x : Refusal) → inOrder (lengthRow quads ∷ []) ≡ Refuses x → x .number ≡ 7

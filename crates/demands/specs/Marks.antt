@@ -23,11 +23,13 @@ use Rattle.mesh.specs.Answer.{saidCounts, CountsAnswered, Meshed}
 use Rattle.closed.specs.declared.Closure.{Closure}
 use Rattle.closed.specs.Closed.{saidClosure, ClosedAnswered}
 use Rattle.closed.specs.Chains.{ClosedWith}
+use Rattle.pieces.specs.declared.Pieced.{Pieced}
+use Rattle.pieces.specs.Answer.{saidPieces, PiecesFound}
 use Rattle.ply.specs.declared.Spacing.{Spacing}
 use Rattle.ply.specs.declared.Filed.{Filed}
 use Rattle.ply.specs.Answer.{saidFile, PlyWritten}
 use Rattle.lines.specs.Output.{refusalLine, Prints, Ran}
-use Rattle.parsniprow_c.specs.Told.{CeilingsTold, EdgeTold, CubeTold, CountsTold, MeshTold, ClosedTold, ClosedWithTold, PlyTold}
+use Rattle.parsniprow_c.specs.Told.{CeilingsTold, EdgeTold, CubeTold, CountsTold, MeshTold, ClosedTold, ClosedWithTold, PiecesTold, PlyTold}
 use Rattle.demands.specs.Answers.{MeshCall}
 
 -- the mark of a vertex is bit 12 of its word
@@ -71,6 +73,7 @@ pub record FourNever : Type 0 where
       → Meshed nx ny nz s cut w o q r w′ o′ q′ → NotFour (saidCounts r)
   pub closed : (quads : List ℕ) (r : Closure) → ClosedAnswered quads r → NotFour (saidClosure r)
   pub closed-with : (quads work : List ℕ) (r : Closure) (work′ : List ℕ) → ClosedWith quads work r work′ → NotFour (saidClosure r)
+  pub pieces : (n : ℕ) (quads piece size : List ℕ) (r : Pieced) (piece′ size′ : List ℕ) → PiecesFound n quads piece size r piece′ size′ → NotFour (saidPieces r)
   pub ply : (nx ny nz : ℕ) (words : List ℕ) (offsets : List Float) (quads : List ℕ) (s : Spacing) (file : List ℕ) (r : Filed) (file′ : List ℕ)
       → PlyWritten nx ny nz words offsets quads s file r file′ → NotFour (saidFile r)
   pub run : (bytes out : List ℕ) (r : ℕ) (out′ : List ℕ) → Ran bytes out r out′ → (v : ℕ) → v ≤ 4294967295 → Prints (refusalLine (record { number = 4; value = v })) out r out′ → ⊥
@@ -83,5 +86,6 @@ pub record FourNever : Type 0 where
       → MeshTold nx ny nz s t w o q place w′ o′ q′ place′ → getD place′ 0 0 ≡ 4 → ⊥
   pub closed-told : (quads place place′ : List ℕ) → ClosedTold quads place place′ → getD place′ 0 0 ≡ 4 → ⊥
   pub closed-with-told : (quads work place work′ place′ : List ℕ) → ClosedWithTold quads work place work′ place′ → getD place′ 0 0 ≡ 4 → ⊥
+  pub pieces-told : (n : ℕ) (quads piece size place piece′ size′ place′ : List ℕ) → PiecesTold n quads piece size place piece′ size′ place′ → getD place′ 0 0 ≡ 4 → ⊥
   pub ply-told : (nx ny nz : ℕ) (words : List ℕ) (offsets : List Float) (quads : List ℕ) (s : Spacing) (file bytes place file′ bytes′ place′ : List ℕ)
       → PlyTold nx ny nz words offsets quads s file bytes place file′ bytes′ place′ → getD place′ 0 0 ≡ 4 → ⊥

@@ -10,7 +10,7 @@ use lib.Seq.{ext-getD}
 use Rattle.laws.specs.Below.{over}
 use Rattle.laws.specs.Counting.{count}
 use Rattle.laws.proofs.Counting.{count-same}
-use Rattle.laws.proofs.Over.{each-length, each-at}
+use Rattle.laws.proofs.Over.{each, each-length, each-at}
 use Rattle.block.specs.declared.Refusal.{Refusal}
 use Rattle.block.specs.declared.Checked.{Checked}
 use Rattle.block.specs.declared.Checked.the-variants.{Passes, Refuses}
@@ -28,6 +28,16 @@ module _ (n : ℕ) (few : n < 4294967296) (quads : List ℕ) (whole : length qua
   -- how long the lists are at first
   pub begun : (up size : List ℕ) → stored up size 0 ≡ begin n → length up ≡ n
   begun up size e = ap (λ (st : State). length (st .up)) e ∙ each-length (λ (v : ℕ). v) n
+
+  -- there are such numbers
+  pub some-numbers : (numbers : List ℕ) × Numbers n quads numbers
+  some-numbers = (each number n, record { for-each = each-length number n; number = λ v h. subst (PieceOf quads v) (sym (each-at number n v 0 h)) (piece v h) })
+    where
+      number : ℕ → ℕ
+      number v = low n (topOf (at (after n quads (length quads / 4) .up)) n) v
+
+      piece : (v : ℕ) → v < n → PieceOf quads v (number v)
+      piece v h = piece-is n few quads below (length quads / 4) (omega arith) (joined n few quads below (length quads / 4) (omega arith)) v h
 
   module _ (up size : List ℕ) (longest l : ℕ) (el : l ≡ n) (e : stored up size longest ≡ after l quads (length quads / 4)) where
     last : stored up size longest ≡ after n quads (length quads / 4)

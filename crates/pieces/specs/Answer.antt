@@ -22,8 +22,11 @@ abbrev pub bufferRow : ℕ → ℕ → ℕ → Checked
 bufferRow n piece size = cond (leb n piece && leb n size) Passes (refuses 5 n)
 
 -- "Refusals: 7, 14, then 5", by the lengths of the two buffers
+abbrev pub piecesRows : ℕ → List ℕ → ℕ → ℕ → List Checked
+piecesRows n quads piece size = lengthRow quads ∷ numberRow n quads ∷ bufferRow n piece size ∷ []
+
 abbrev pub piecesVerdict : ℕ → List ℕ → ℕ → ℕ → Checked
-piecesVerdict n quads piece size = inOrder (lengthRow quads ∷ numberRow n quads ∷ bufferRow n piece size ∷ [])
+piecesVerdict n quads piece size = inOrder (piecesRows n quads piece size)
 
 -- the piece numbers of n vertices
 pub record Numbers (n : ℕ) (quads numbers : List ℕ) : Type 0 where
