@@ -13,3 +13,4 @@ pub mod Rows
 pub mod Found
 pub mod Fixed
 pub mod Rules
+pub mod Example
