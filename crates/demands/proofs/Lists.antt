@@ -1,5 +1,5 @@
 -- The quads of a mesh pass rows 7 and 14: there are four numbers a quad, and each is that of a vertex.
-use Prim.Native.Nat.{ℕ, _*_, _/_, _<_}
+use Prim.Native.Nat.{ℕ, _*_, _/_}
 use mathlib.Core.Path.{_≡_}
 use mathlib.Core.List.{List}
 use native.Mathlib.Omega.{arith}

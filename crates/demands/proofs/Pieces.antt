@@ -5,7 +5,6 @@ use mathlib.Core.Path.{_≡_, refl, ap, ap₂, sym, _∙_, subst}
 use mathlib.Core.Bool.{_&&_}
 use mathlib.Core.Logic.{_↔_, _⊎_, inl, inr}
 use mathlib.Core.List.{List, []}
-use native.Mathlib.Omega.{arith}
 use lib.Dec.{eqb, leb}
 use lib.ListN.{length, getD}
 use Rattle.laws.specs.Below.{over}
@@ -137,8 +136,7 @@ module _ (n : ℕ) (quads piece size : List ℕ) (p : Parts) (piece′ size′ :
 pub none-found : (n : ℕ) (piece size : List ℕ) (p : Parts) (piece′ size′ : List ℕ) → PiecesFound n [] piece size (pieced.Found p) piece′ size′
     → ((v : ℕ) → v < n → (getD piece′ v 0 ≡ v) × (getD size′ v 0 ≡ 1)) × (p ≡ record { count = n; longest = 0 })
 none-found n piece size p piece′ size′ promise =
-    let N = numbers-right n [] piece size p piece′ size′ promise in
-    (
+    let N = numbers-right n [] piece size p piece′ size′ promise in (
       λ v h. (number-at n [] piece size p piece′ size′ promise v h ∙ no-quads-number N v h, size-at n [] piece size p piece′ size′ promise v h ∙ no-quads-size N v h),
       pieces-accepts n [] piece size (pieced.Found p) piece′ size′ promise p .0 refl .1 ∙ ap₂ (λ (c l : ℕ). record { count = c; longest = l }) (no-quads-pieces N) (no-quads-longest n),
     )
@@ -155,8 +153,7 @@ pieces-allows n quads piece size few = go (piecesVerdict n quads (length piece) 
     go Passes e =
         let k = accepted-by n quads (length piece) (length size) e in
         let s = some-numbers n few quads (k .whole) (k .below) in
-        let numbers = s .0 in
-        (
+        let numbers = s .0 in (
           pieced.Found (partsOf n quads numbers),
           over numbers piece,
           over (sizes n numbers) size,

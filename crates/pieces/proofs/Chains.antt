@@ -1,9 +1,9 @@
 -- Chains of quads: the other way, and from a vertex in no quad.
 -- Assumes nothing.
 use Prim.Native.Nat.{ℕ}
-use mathlib.Core.Path.{_≡_, refl, sym, _∙_, subst}
+use mathlib.Core.Path.{_≡_, refl, _∙_, subst}
 use mathlib.Core.List.{List}
-use Rattle.pieces.specs.Chains.{VertexOf, Chain, none, one, more}
+use Rattle.pieces.specs.Chains.{Chain, none, one, more}
 use Rattle.pieces.specs.Rules.{InNoQuad}
 
 pub turn : {quads : List ℕ} {v w : ℕ} → Chain quads v w → Chain quads w v

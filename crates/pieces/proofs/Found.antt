@@ -1,7 +1,7 @@
 -- What is found in buffers of n items, and what is then answered: the numbers, the sizes, the count of pieces and the longest search.
 -- Assumes nothing.
-use Prim.Native.Nat.{ℕ, _+_, _*_, _/_, _%_, _≤_, _<_}
-use mathlib.Core.Path.{_≡_, refl, ap, ap₂, sym, _∙_, subst}
+use Prim.Native.Nat.{ℕ, _/_, _%_, _<_}
+use mathlib.Core.Path.{_≡_, ap, ap₂, sym, _∙_, subst}
 use mathlib.Core.List.{List, _++_}
 use native.Mathlib.Omega.{arith}
 use lib.Dec.{eqb}
@@ -22,7 +22,7 @@ use Rattle.pieces.specs.Forest.{State, at, topOf, begin, after}
 use Rattle.pieces.specs.Answer.{Numbers, members, sizes, partsOf, PiecesBy}
 use Rattle.pieces.specs.Steps.{stored, Standing, AllBelow, low, Numbered}
 use Rattle.pieces.proofs.Joins.{Stands}
-use Rattle.pieces.proofs.Quads.{joined, piece-is}
+use Rattle.pieces.proofs.Quads.{joined-to, piece-is}
 
 module _ (n : ℕ) (few : n < 4294967296) (quads : List ℕ) (whole : length quads % 4 ≡ 0) (below : AllBelow n quads) where
   -- how long the lists are at first
@@ -37,7 +37,7 @@ module _ (n : ℕ) (few : n < 4294967296) (quads : List ℕ) (whole : length qua
       number v = low n (topOf (at (after n quads (length quads / 4) .up)) n) v
 
       piece : (v : ℕ) → v < n → PieceOf quads v (number v)
-      piece v h = piece-is n few quads below (length quads / 4) (omega arith) (joined n few quads below (length quads / 4) (omega arith)) v h
+      piece v h = piece-is n few quads below (length quads / 4) (omega arith) (joined-to n few quads below (length quads / 4) (omega arith)) v h
 
   module _ (up size : List ℕ) (longest l : ℕ) (el : l ≡ n) (e : stored up size longest ≡ after l quads (length quads / 4)) where
     last : stored up size longest ≡ after n quads (length quads / 4)
@@ -45,24 +45,23 @@ module _ (n : ℕ) (few : n < 4294967296) (quads : List ℕ) (whole : length qua
 
     -- the links can be followed
     pub standing : Standing n up size
-    standing = subst (Stands n) (sym last) (joined n few quads below (length quads / 4) (omega arith) .stands)
+    standing = subst (Stands n) (sym last) (joined-to n few quads below (length quads / 4) (omega arith) .stands)
 
     -- the lowest vertex with the same top is the piece's number
     piece-here : (v : ℕ) → v < n → PieceOf quads v (low n (topOf (at up) n) v)
     piece-here v h =
         subst (λ (st : State). PieceOf quads v (low n (topOf (at (st .up)) n) v)) (sym last)
-        (piece-is n few quads below (length quads / 4) (omega arith) (joined n few quads below (length quads / 4) (omega arith)) v h)
+        (piece-is n few quads below (length quads / 4) (omega arith) (joined-to n few quads below (length quads / 4) (omega arith)) v h)
 
     pub found-all : (up′ size′ : List ℕ) (pieces : ℕ) → Numbered n up up′ size′ pieces
         → Numbers n quads up′ × ((size′ ≡ sizes n up′) × (record { count = pieces; longest = longest } ≡ partsOf n quads up′))
-    found-all up′ size′ pieces N =
-        (
-          record { for-each = N .up-length; number = λ v h. subst (PieceOf quads v) (sym (N .number v h)) (piece-here v h) },
-          (
-            ext-getD 0 size′ (sizes n up′) (N .size-length ∙ sym (each-length (members n up′) n)) (λ v h. counted v (rw (N .size-length) at h)),
-            ap₂ (λ (c l : ℕ). record { count = c; longest = l }) (N .pieces ∙ count-same _ _ n (λ v h. ap (λ (p : ℕ). eqb p v) (sym (N .number v h)))) (ap (λ (st : State). st .longest) last),
-          ),
-        )
+    found-all up′ size′ pieces N = (
+      record { for-each = N .up-length; number = λ v h. subst (PieceOf quads v) (sym (N .number v h)) (piece-here v h) },
+      (
+        ext-getD 0 size′ (sizes n up′) (N .size-length ∙ sym (each-length (members n up′) n)) (λ v h. counted v (rw (N .size-length) at h)),
+        ap₂ (λ (c l : ℕ). record { count = c; longest = l }) (N .pieces ∙ count-same _ _ n (λ v h. ap (λ (p : ℕ). eqb p v) (sym (N .number v h)))) (ap (λ (st : State). st .longest) last),
+      ),
+    )
       where
         counted : (v : ℕ) → v < n → getD size′ v 0 ≡ getD (sizes n up′) v 0
         counted v h =

@@ -1,21 +1,20 @@
 -- After the quads have joined their vertices, two vertices have one top if a chain of quads joins them, and only then. No search has followed more
 -- links than the whole part of the base-two logarithm of the number of vertices.
 -- Assumes nothing.
-use Prim.Native.Nat.{ℕ, zero, suc, _+_, _*_, _^_, _≤_, _<_, max}
+use Prim.Native.Nat.{ℕ, suc, _+_, _^_, _≤_, _<_, max}
 use mathlib.Core.Path.{_≡_, refl, ap, sym, _∙_, subst}
 use mathlib.Core.Bool.{Bool, true, false, cond}
-use mathlib.Core.Logic.{_↔_, _⊎_, inl, inr}
+use mathlib.Core.Logic.{_⊎_, inl, inr}
 use mathlib.Core.List.{List, []}
 use native.Mathlib.Omega.{arith}
 use lib.Dec.{eqb}
-use lib.ListN.{length, getD, set, length-set}
+use lib.ListN.{length, set, length-set}
 use borrow.Author.Tests.{eq-eqb, ne-eqb, eqb-true, eqb-false}
-use Rattle.laws.proofs.Over.{each-length, each-at}
 use Rattle.laws.proofs.Tests.{lt-or-ge}
 use Rattle.pieces.specs.Chains.{Chain, more}
-use Rattle.pieces.specs.Forest.{State, at, topOf, linksOf, begin, hung, goesUnder, united, counted, join, joinQuad, after}
-use Rattle.pieces.specs.Steps.{stored, Trees, Standing, Unites, AllBelow, low}
-use Rattle.pieces.proofs.Trees.{start, hungUp, hungSize, hang, small, found, settled}
+use Rattle.pieces.specs.Forest.{State, at, topOf, linksOf, hung, goesUnder, united, counted, join, joinQuad}
+use Rattle.pieces.specs.Steps.{stored, Trees, Standing, Unites}
+use Rattle.pieces.proofs.Trees.{hungUp, hungSize, hang, small, found, settled}
 use Rattle.pieces.proofs.Chains.{turn}
 use Rattle.pieces.proofs.Stored.{set-as}
 use Rattle.pieces.proofs.Unites.{under-true, under-false}

@@ -1,7 +1,7 @@
 -- The links and sizes while pieces get their numbers, as lists: what one vertex more does to them, where a search ends, and what they are at last.
 -- Assumes nothing.
-use Prim.Native.Nat.{ℕ, zero, suc, _+_, _≤_, _<_}
-use mathlib.Core.Path.{_≡_, refl, ap, sym, _∙_, subst}
+use Prim.Native.Nat.{ℕ, _+_, _≤_, _<_}
+use mathlib.Core.Path.{_≡_, ap, sym, _∙_, subst}
 use mathlib.Core.Bool.{Bool, true, false, not, cond}
 use mathlib.Core.Logic.{_⊎_, inl, inr}
 use mathlib.Core.List.{List}
@@ -13,7 +13,7 @@ use Rattle.laws.specs.Bits.{bit}
 use Rattle.laws.specs.Counting.{count}
 use Rattle.laws.proofs.Counting.{count-none, count-next}
 use Rattle.laws.proofs.Tests.{lt-or-ge}
-use Rattle.pieces.specs.Forest.{at, topOf, linksOf}
+use Rattle.pieces.specs.Forest.{at, topOf}
 use Rattle.pieces.specs.Steps.{Ends, Standing, NumberedTo, NumberedOne, Numbered, low}
 use Rattle.pieces.proofs.Searches.{nearer-by, ends-at}
 use Rattle.pieces.proofs.Stored.{set-as}

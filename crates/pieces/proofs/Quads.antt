@@ -1,20 +1,20 @@
 -- All quads, in order: the links stay those of trees, vertices with one top are joined by a chain of quads and the vertices of a quad have one top, and
 -- no search was long.
 -- Assumes nothing.
-use Prim.Native.Nat.{ℕ, zero, suc, _+_, _*_, _^_, _≤_, _<_}
+use Prim.Native.Nat.{ℕ, zero, suc, _+_, _*_, _≤_, _<_}
 use mathlib.Core.Path.{_≡_, refl, ap, sym, _∙_, subst}
 use mathlib.Core.Logic.{_⊎_, inl, inr}
 use mathlib.Core.List.{List}
 use native.Mathlib.Nat.{add-zero}
 use native.Mathlib.Numerals.{add-one}
 use native.Mathlib.Omega.{arith}
-use lib.ListN.{length, getD}
+use lib.ListN.{length}
 use Rattle.laws.proofs.Over.{each-length, each-at}
 use Rattle.laws.proofs.Tests.{lt-or-ge}
 use Rattle.pieces.specs.Chains.{VertexOf, Chain, none, one, more, PieceOf}
-use Rattle.pieces.specs.Forest.{State, at, topOf, linksOf, begin, join, joinQuad, after}
+use Rattle.pieces.specs.Forest.{State, at, topOf, begin, join, joinQuad, after}
 use Rattle.pieces.specs.Steps.{stored, Standing, AllBelow, low}
-use Rattle.pieces.proofs.Trees.{start, found, settled}
+use Rattle.pieces.proofs.Trees.{start, settled}
 use Rattle.pieces.proofs.Lowest.{low-le, low-lt, low-root}
 use Rattle.pieces.proofs.Joins.{Stands, top, Sound, Next, join-next, Short, join-short}
 
@@ -118,15 +118,15 @@ module _ (n : ℕ) (few : n < 4294967296) where
             (join-short n quads (after n quads m) (J .stands) _ _ at-first (at-place 1 (omega arith)) (J .short some)));
       }
 
-    pub joined : (m : ℕ) → 4 * m ≤ length quads → Joined m
+    pub joined-to : (m : ℕ) → 4 * m ≤ length quads → Joined m
     unfolding after
-    joined zero h = record {
+    joined-to zero h = record {
       stands = begin-stands;
       sound = λ x y hx hy e. subst (λ (z : ℕ). Chain quads x z) (sym (begin-top x hx) ∙ e ∙ begin-top y hy) none;
       whole = λ q v l. absurd (omega arith);
       short = λ some. omega arith;
     }
-    joined (suc m) h = joined-next m (omega arith) (joined m (omega arith))
+    joined-to (suc m) h = joined-next m (omega arith) (joined-to m (omega arith))
 
     -- ---- what the last state says
 
@@ -155,7 +155,7 @@ module _ (n : ℕ) (few : n < 4294967296) where
     pub ready-at : (m : ℕ) → 4 * m ≤ length quads → (up size : List ℕ) (longest : ℕ) → stored up size longest ≡ after n quads m
         → (length up ≡ n) × Standing (length up) up size
     ready-at m h up size longest e =
-        let S : Standing n up size = subst (Stands n) (sym e) (joined m h .stands) in
+        let S : Standing n up size = subst (Stands n) (sym e) (joined-to m h .stands) in
         (S .up-length, subst (λ (l : ℕ). Standing l up size) (sym (S .up-length)) S)
 
 -- one quad more

@@ -1,17 +1,15 @@
 -- What follows where no row refuses: the quads are whole, their numbers are below the number of vertices, and both buffers are long enough.
 -- Assumes nothing.
 use Prim.Native.Nat.{ℕ, zero, suc, _+_, _*_, _/_, _%_, _≤_, _<_}
-use mathlib.Core.Path.{_≡_, refl, ap, sym, _∙_, subst}
+use mathlib.Core.Path.{_≡_, refl, sym, subst}
 use mathlib.Core.Bool.{true}
-use mathlib.Core.List.{List, [], _∷_}
-use native.Mathlib.Nat.{add-zero}
+use mathlib.Core.List.{List, []}
 use native.Mathlib.Omega.{arith}
 use lib.Dec.{leb, ltb}
 use lib.ListN.{length}
 use borrow.Author.Tests.{leb-true, ltb-true}
 use Rattle.laws.proofs.Tests.{and-both}
 use Rattle.block.specs.declared.Checked.the-variants.{Passes}
-use Rattle.block.specs.Answer.{inOrder}
 use Rattle.block.proofs.Order.{order-first, order-rest}
 use Rattle.block.proofs.Rows.{unless-none}
 use Rattle.block.proofs.Searches.{search-none}

@@ -22,7 +22,7 @@ use Rattle.pieces.specs.Steps.{AllBelow}
 use Rattle.pieces.specs.Rules.{InNoQuad, WholeLog}
 use Rattle.pieces.proofs.Counts.{count-this, taken-once}
 use Rattle.pieces.proofs.Chains.{turn, alone-chain}
-use Rattle.pieces.proofs.Quads.{joined, after-none}
+use Rattle.pieces.proofs.Quads.{joined-to, after-none}
 use Rattle.pieces.proofs.Fixed.{piece-fixed}
 
 module _ {n : ℕ} {quads numbers : List ℕ} (N : Numbers n quads numbers) where
@@ -86,7 +86,7 @@ no-quads-longest n = ap (λ (st : State). st .longest) (after-none n [])
 -- "With n vertices, at least one, no search follows more links than the whole part of the base-two logarithm of n"
 module _ (n : ℕ) (quads : List ℕ) (few : n < 4294967296) (whole : length quads % 4 ≡ 0) (below : AllBelow n quads) where
   pub longest-bound : 0 < n → 2 ^ longestSearch n quads ≤ n
-  longest-bound some = joined n few quads below (length quads / 4) (omega arith) .short some
+  longest-bound some = joined-to n few quads below (length quads / 4) (omega arith) .short some
 
   pub longest-log : (k : ℕ) → WholeLog n k → longestSearch n quads ≤ k
   longest-log k w = go (lt-or-ge k (longestSearch n quads))

@@ -42,9 +42,6 @@ module _ {n : ℕ} {up : List ℕ} (E : Ends n up) where
 
 -- ---- in trees
 
-pub ends : {n : ℕ} {up size : List ℕ} → Standing n up size → Ends n up
-ends S = record { long = S .up-length; few = S .few; nearer = S .trees .step }
-
 -- what two searches find are tops
 pub tops : {n : ℕ} {up size : List ℕ} → Standing n up size → (v w : ℕ) → v < n → w < n → (a b : ℕ) → a ≡ topOf (at up) n v → b ≡ topOf (at up) n w → Tops n up a b
 tops {n} {up} {size} S v w hv hw a b ea eb = record {

@@ -55,13 +55,12 @@ module _ (up size : List ℕ) (a b : ℕ) where
 -- two tops can be hung, either under the other
 pub hangable : {n : ℕ} {up size : List ℕ} {a b : ℕ} → Standing n up size → Tops n up a b → (a ≡ b → ⊥)
     → (a < length up) × (a < length size) × (b < length size) × (at size a + at size b < 4294967296)
-hangable {n} {up} {size} {a} {b} S t ne =
-    (
-      rw (S .up-length) (t .first-lt),
-      rw (S .size-length) (t .first-lt),
-      rw (S .size-length) (t .second-lt),
-      omega (arith, two-tops (S .trees) a b (t .first-lt) (t .second-lt) (t .first-top) (t .second-top) ne, S .few),
-    )
+hangable {n} {up} {size} {a} {b} S t ne = (
+  rw (S .up-length) (t .first-lt),
+  rw (S .size-length) (t .first-lt),
+  rw (S .size-length) (t .second-lt),
+  omega (arith, two-tops (S .trees) a b (t .first-lt) (t .second-lt) (t .first-top) (t .second-top) ne, S .few),
+)
 
 pub turned : {n : ℕ} {up : List ℕ} {a b : ℕ} → Tops n up a b → Tops n up b a
 turned t = record { first-lt = t .second-lt; second-lt = t .first-lt; first-top = t .second-top; second-top = t .first-top }

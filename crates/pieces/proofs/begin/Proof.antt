@@ -51,8 +51,7 @@ loop-less c = search needs
 loop-again : tie.Need-loop-again Inv-loop μ-loop
 loop-again c =
     let l = c .before .loop in
-    let first = c .before .before in
-    (
+    let first = c .before .before in (
       search needs,
       length-set (l .up) (l .v) (l .v) ∙ l .inv .1,
       length-set (l .size) (l .v) 1 ∙ l .inv .2,

@@ -1,7 +1,6 @@
 -- `check_buffers` meets its contract.
 -- Assumes nothing.
 use mathlib.Core.Path.{_∙_, sym}
-use native.Mathlib.Omega.{arith}
 use borrow.Author.Tests.{le-leb, lt-leb}
 use Rattle.laws.proofs.Tests.{and-fails, and-last}
 use Rattle.block.proofs.Rows.{given-small, unless-passes, unless-refuses}

@@ -1,9 +1,7 @@
 -- `find` meets its contract.
 -- Assumes nothing.
-use mathlib.Core.Path.{_≡_, ap, sym, _∙_}
-use Prim.Native.Nat.{ℕ, _<_}
-use native.Mathlib.Omega.{arith}
-use lib.ListN.{length}
+use mathlib.Core.Path.{ap, sym, _∙_}
+use Prim.Native.Nat.{_<_}
 use Rattle.pieces.specs.Forest.{begin}
 use Rattle.pieces.proofs.Found.{begun, standing, found-all}
 use borrow.Author.Needs.{needs}

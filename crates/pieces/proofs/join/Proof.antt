@@ -1,8 +1,8 @@
 -- `join` meets its contract: two searches, and the tops that they find are united.
 -- Assumes nothing.
 use mathlib.Core.Path.{_∙_, ap}
-use Prim.Native.Nat.{ℕ, max}
-use Rattle.pieces.proofs.Searches.{ends, tops}
+use Prim.Native.Nat.{max}
+use Rattle.pieces.proofs.Searches.{tops}
 use Rattle.pieces.proofs.Joins.{join-is}
 use borrow.Author.Needs.{needs}
 use Rattle.pieces.proofs.join.Statement.{statement}

@@ -1,10 +1,9 @@
 -- `number_all` meets its contract: the vertices below v have their numbers.
 -- Assumes nothing.
 use mathlib.Core.Path.{_≡_, ap, sym, _∙_, subst}
-use Prim.Native.Nat.{ℕ, _+_, _-_, _≤_, _<_}
+use Prim.Native.Nat.{ℕ, _-_, _≤_}
 use native.Mathlib.Omega.{arith}
 use borrow.Author.Needs.{needs}
-use lib.ListN.{length}
 use Rattle.pieces.specs.Forest.{at, topOf}
 use Rattle.pieces.specs.Steps.{Ends}
 use Rattle.pieces.proofs.Midway.{Midway, midway-first, midway-ends, midway-top, midway-next, midway-last}
