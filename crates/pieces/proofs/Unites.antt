@@ -46,11 +46,11 @@ module _ (up size : List ℕ) (a b : ℕ) where
   pub unites-one : a ≡ b → Unites a b up size up size
   unites-one e = λ k. rw (eq-eqb a b e)
 
-  pub unites-under : (up′ size′ : List ℕ) → (a ≡ b → ⊥) → goesUnder size a b ≡ true → up′ ≡ set up a b → size′ ≡ set (set size b (at size a + at size b)) a 0 → Unites a b up size up′ size′
-  unites-under up′ size′ ne g eu es = λ k. rw (ne-eqb a b ne, g, eu, es)
+  pub unites-under : (up′ size′ : List ℕ) (c : Bool) → (a ≡ b → ⊥) → c ≡ goesUnder size a b → c ≡ true → up′ ≡ set up a b → size′ ≡ set (set size b (at size a + at size b)) a 0 → Unites a b up size up′ size′
+  unites-under up′ size′ c ne g t eu es = λ k. rw (ne-eqb a b ne, ← g, t, eu, es)
 
-  pub unites-over : (up′ size′ : List ℕ) → (a ≡ b → ⊥) → goesUnder size a b ≡ false → up′ ≡ set up b a → size′ ≡ set (set size a (at size b + at size a)) b 0 → Unites a b up size up′ size′
-  unites-over up′ size′ ne g eu es = λ k. rw (ne-eqb a b ne, g, eu, es)
+  pub unites-over : (up′ size′ : List ℕ) (c : Bool) → (a ≡ b → ⊥) → c ≡ goesUnder size a b → c ≡ false → up′ ≡ set up b a → size′ ≡ set (set size a (at size b + at size a)) b 0 → Unites a b up size up′ size′
+  unites-over up′ size′ c ne g t eu es = λ k. rw (ne-eqb a b ne, ← g, t, eu, es)
 
 -- two tops can be hung, either under the other
 pub hangable : {n : ℕ} {up size : List ℕ} {a b : ℕ} → Standing n up size → Tops n up a b → (a ≡ b → ⊥)

@@ -1,6 +1,6 @@
 -- `unite` meets its contract.
 -- Assumes nothing.
-use mathlib.Core.Path.{sym, _∙_}
+use mathlib.Core.Path.{sym}
 use Rattle.pieces.proofs.Unites.{unites-one, unites-under, unites-over, hangable, turned}
 use borrow.Author.Needs.{needs}
 use Rattle.pieces.proofs.unite.Statement.{statement}
@@ -44,7 +44,7 @@ returns-2 : tie.Need-returns-2
 returns-2 c =
     let first = c .before .before .before .before .before .before .before .before .before .before .before .before .before .before in
     let h = c .before .before .before .before .hang in
-    unites-under (first .args .up .now) (first .args .size .now) _ _ _ _ (c .before .before .before .before .before .before .before .before .before .before .before .if1 .left) (sym (c .before .before .before .before .before .before .before .before .goes-under .ensures) ∙ c .before .before .before .before .before .before .before .if2 .taken) (h .ensures .0) (h .ensures .1)
+    unites-under (first .args .up .now) (first .args .size .now) _ _ _ _ _ (c .before .before .before .before .before .before .before .before .before .before .before .if1 .left) (c .before .before .before .before .before .before .before .before .goes-under .ensures) (c .before .before .before .before .before .before .before .if2 .taken) (h .ensures .0) (h .ensures .1)
 
 same-length-3 : tie.Need-same-length-3
 same-length-3 c = search needs
@@ -56,7 +56,7 @@ returns-3 : tie.Need-returns-3
 returns-3 c =
     let first = c .before .before .before .before .before .before .before .before .before .before .before .before .before .before in
     let h = c .before .before .before .before .hang2 in
-    unites-over (first .args .up .now) (first .args .size .now) _ _ _ _ (c .before .before .before .before .before .before .before .before .before .before .before .if1 .left) (sym (c .before .before .before .before .before .before .before .before .goes-under .ensures) ∙ c .before .before .before .before .before .before .before .if2 .left) (h .ensures .0) (h .ensures .1)
+    unites-over (first .args .up .now) (first .args .size .now) _ _ _ _ _ (c .before .before .before .before .before .before .before .before .before .before .before .if1 .left) (c .before .before .before .before .before .before .before .before .goes-under .ensures) (c .before .before .before .before .before .before .before .if2 .left) (h .ensures .0) (h .ensures .1)
 
 pub unite-spec : {M : Type 1} → statement M
 unite-spec =
