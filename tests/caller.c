@@ -1,4 +1,4 @@
-/* A caller of the installed library, in the words that C and C++ share: the paper's samples through each of the eight
+/* A caller of the installed library, in the words that C and C++ share: the paper's samples through each of the nine
    functions, in a thread with a stack of 64 KiB, which the header says is enough. Prints what is wrong and ends with
    status 1, or ends with status 0.
    Assumes the installed header and archive, and POSIX threads. */
@@ -112,6 +112,24 @@ static void ask_closed_with(const uint32_t *quads)
     expect("a quad alone with work", answers(answer, 0, 0, 0) && answer[3] == 0 && work[3] == 3 && work[7] == 4);
 }
 
+/* The mesh of the block with a ceiling: its last vertex is in no quad. */
+static void ask_pieces(const uint32_t *quads)
+{
+    uint32_t piece[MARKED_VERTICES + 1], size[MARKED_VERTICES + 1], answer[3] = {9, 9, 9};
+    for (size_t at = 0; at <= MARKED_VERTICES; at++)
+        piece[at] = size[at] = 99;
+    parsniprow_pieces(MARKED_VERTICES, quads, 4 * QUADS, piece, MARKED_VERTICES, size, MARKED_VERTICES - 1, answer, 3);
+    expect("too little room for the sizes", answers(answer, 5, MARKED_VERTICES, 0) && piece[0] == 99 && size[0] == 99);
+    parsniprow_pieces(VERTICES - 1, quads, 4 * QUADS, piece, MARKED_VERTICES, size, MARKED_VERTICES, answer, 3);
+    expect("a quad of a vertex that is not there", answers(answer, 14, 1, 0) && piece[0] == 99 && size[0] == 99);
+    parsniprow_pieces(0, quads, 3, piece, 0, size, 0, answer, 3);
+    expect("pieces of three numbers", answers(answer, 7, 3, 0));
+    parsniprow_pieces(MARKED_VERTICES, quads, 4 * QUADS, piece, MARKED_VERTICES + 1, size, MARKED_VERTICES + 1, answer,
+                      3);
+    expect("pieces", answers(answer, 0, 2, 2) && piece[0] == 0 && piece[7] == 0 && piece[8] == 8 && piece[9] == 99);
+    expect("their sizes", size[0] == 8 && size[7] == 0 && size[8] == 1 && size[9] == 99);
+}
+
 static void ask_ply(void)
 {
     static const unsigned char vertex[8] = {0x34, 0x33, 0x33, 0x33, 0x33, 0x33, 0xB3, 0x3F};
@@ -161,6 +179,7 @@ static void *ask(void *unused)
     ask_block(quads);
     ask_closed(quads);
     ask_closed_with(quads);
+    ask_pieces(quads);
     ask_ply();
     ask_large();
     return unused;

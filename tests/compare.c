@@ -1,6 +1,6 @@
-/* Compares the library with the plain implementation on many random blocks, edges, cubes, lists of quads, lists of
-   samples and meshes that become files: the answers, and every byte of every lent buffer, with what is beside it. Of
-   blocks that have a margin of one sign the mesh must be closed.
+/* Compares the library with the plain implementation on many random blocks, edges, cubes, lists of quads and their
+   pieces, lists of samples and meshes that become files: the answers, and every byte of every lent buffer, with what is
+   beside it. Of blocks that have a margin of one sign the mesh must be closed.
    Usage: compare [blocks [seed [first block]]].
    From 20,000 blocks on it also tries what takes seconds, and fails if something that it should try never occurred. The
    last line is a summary, and the exit status is 0 only if nothing differed and nothing was missing.
@@ -17,8 +17,9 @@
 enum { DEFAULT_BLOCKS = 20000, DEFAULT_SEED = 1, ENOUGH_BLOCKS = 20000, LINE = 118, MOST_MISSING = 64 };
 
 static const char *const function_names[FUNCTIONS] = {
-    "parsniprow_edge",   "parsniprow_cube",        "parsniprow_counts",   "parsniprow_mesh",
-    "parsniprow_closed", "parsniprow_closed_with", "parsniprow_ceilings", "parsniprow_ply",
+    "parsniprow_edge",   "parsniprow_cube",        "parsniprow_counts", "parsniprow_mesh",
+    "parsniprow_closed", "parsniprow_closed_with", "parsniprow_pieces", "parsniprow_ceilings",
+    "parsniprow_ply",
 };
 
 static uint64_t asked[FUNCTIONS][BESIDES], differences;
@@ -149,6 +150,8 @@ static void try_fixed(void)
     try_fixed_files();
     working_on(strcpy(occasion, "among the blocks with a margin that are asked once"));
     try_fixed_margins();
+    working_on(strcpy(occasion, "among the pieces that are asked once"));
+    try_fixed_pieces();
 }
 
 static void try_with_block(uint64_t seed, uint64_t block)
@@ -167,6 +170,7 @@ static void try_with_block(uint64_t seed, uint64_t block)
     try_files(&trial);
     if (block % 2 == 0)
         try_margin(&trial);
+    try_pieces(&trial);
 }
 
 static void print_missing(void)
@@ -177,7 +181,7 @@ static void print_missing(void)
 
 static int report(uint64_t blocks)
 {
-    uint64_t edges, cubes, lists, ceilings, files, margins;
+    uint64_t edges, cubes, lists, ceilings, files, margins, pieces;
     char of_missing[40] = "";
     int enough = blocks >= ENOUGH_BLOCKS;
     tally_blocks();
@@ -187,6 +191,7 @@ static int report(uint64_t blocks)
     ceilings = tally_ceilings();
     files = tally_files();
     margins = tally_margins();
+    pieces = tally_pieces();
     tally_asked();
     printf("\n");
     if (enough) {
@@ -194,10 +199,10 @@ static int report(uint64_t blocks)
         snprintf(of_missing, sizeof of_missing, "%zu cases missing, ", missing_count);
     }
     printf("compare: %llu blocks, %llu edges, %llu cubes, %llu lists of quads, %llu of samples, %llu files, "
-           "%llu blocks with a margin, %s%llu differences\n",
+           "%llu blocks with a margin, %llu lists for pieces, %s%llu differences\n",
            (unsigned long long)blocks, (unsigned long long)edges, (unsigned long long)cubes, (unsigned long long)lists,
-           (unsigned long long)ceilings, (unsigned long long)files, (unsigned long long)margins, of_missing,
-           (unsigned long long)differences);
+           (unsigned long long)ceilings, (unsigned long long)files, (unsigned long long)margins,
+           (unsigned long long)pieces, of_missing, (unsigned long long)differences);
     return differences > 0 || (enough && missing_count > 0);
 }
 

@@ -15,6 +15,7 @@
 #define parsniprow_mesh plain_mesh
 #define parsniprow_closed plain_closed
 #define parsniprow_closed_with plain_closed_with
+#define parsniprow_pieces plain_pieces
 #define parsniprow_ceilings plain_ceilings
 #define parsniprow_ply plain_ply
 #endif
@@ -24,7 +25,7 @@ enum { ANSWER = 3, CLOSED_ANSWER = 4, LOOPS = 4, COORDINATES = 12, MOST_SHIFT = 
 /* The mark of a vertex whose cube has a corner at the ceiling, a bit of its word. */
 enum { MARK = 4096 };
 
-enum function { EDGE, CUBE, COUNTS, MESH, CLOSED, CLOSED_WITH, CEILINGS, PLY, FUNCTIONS };
+enum function { EDGE, CUBE, COUNTS, MESH, CLOSED, CLOSED_WITH, PIECES, CEILINGS, PLY, FUNCTIONS };
 
 /* ---- judging a call ---- */
 
@@ -73,8 +74,8 @@ struct trial {
 };
 
 /* Asks the counts and the mesh of a block and fills in the trial but for its chance; then what goes with the block:
-   some edges, some of its cubes, some lists of quads, its samples at the ceiling, some files, and another block, whose
-   samples on the faces of the box are all of one sign. */
+   some edges, some of its cubes, some lists of quads, its samples at the ceiling, some files, another block, whose
+   samples on the faces of the box are all of one sign, and the pieces of some lists. */
 void try_block(struct trial *trial);
 void try_edges(struct trial *trial);
 void try_cubes(struct trial *trial);
@@ -82,6 +83,7 @@ void try_lists(struct trial *trial);
 void try_ceilings(struct trial *trial);
 void try_files(struct trial *trial);
 void try_margin(struct trial *trial);
+void try_pieces(struct trial *trial);
 
 /* The closed question takes the square of a list without work, so it is asked so only up to this many quads. */
 enum { SQUARE_QUADS = 352 };
@@ -105,6 +107,7 @@ void try_fixed_lists(void);
 void try_fixed_ceilings(void);
 void try_fixed_files(void);
 void try_fixed_margins(void);
+void try_fixed_pieces(void);
 
 /* What takes seconds, and is asked only with enough blocks. */
 void try_longest_file(void);
@@ -117,5 +120,6 @@ uint64_t tally_lists(void);
 uint64_t tally_ceilings(void);
 uint64_t tally_files(void);
 uint64_t tally_margins(void);
+uint64_t tally_pieces(void);
 
 #endif

@@ -1,6 +1,8 @@
 /* The paper's rules in plain C by another method than the library's: loops are walked link by link, edges are looked at
    one by one, faces come from the corners, a quad's vertices are searched for, the sides of a list of quads are sorted.
-   A file is refused by one rule after the other, each over the whole mesh, and its head is made by printf.
+   The number of a piece is spread from its lowest vertex through all quads that hold a vertex which has it. Only the
+   longest search is found as the paper says it, since that is a rule about a method. A file is refused by one rule
+   after the other, each over the whole mesh, and its head is made by printf.
    Assumes doubles rounded to nearest, each operation by itself (-ffp-contract=off). */
 #include "plain.h"
 
@@ -38,6 +40,15 @@ static void impossible(const char *what)
 {
     fprintf(stderr, "plain: %s\n", what);
     abort();
+}
+
+/* Room for so many items. The caller frees it. */
+static void *room_for(size_t count, size_t item)
+{
+    void *room = malloc(count > 0 ? count * item : 1);
+    if (!room)
+        impossible("no memory");
+    return room;
 }
 
 /* ---- edges ---- */
@@ -378,13 +389,21 @@ static struct refusal check_rest(size_t quads_len)
     return quads_len % SIDES != 0 ? refuse(7, (uint32_t)(quads_len % SIDES)) : accepted;
 }
 
-/* ---- answer places ---- */
-
 /* A value above 4294967295 is given as that. */
 static uint32_t cut_to_u32(size_t value)
 {
     return value > UINT32_MAX ? UINT32_MAX : (uint32_t)value;
 }
+
+static struct refusal check_numbers(size_t vertices, const uint32_t *quads, size_t quads_len)
+{
+    for (size_t at = 0; at < quads_len; at++)
+        if (quads[at] >= vertices)
+            return refuse(14, cut_to_u32(at / SIDES));
+    return accepted;
+}
+
+/* ---- answer places ---- */
 
 /* As many items as the place has room for; what lies behind is kept. */
 static void put_words(uint32_t *place, size_t place_len, const uint32_t *items, size_t count)
@@ -457,9 +476,7 @@ static int by_start(const void *a, const void *b)
 /* All sides of a list, sorted. The caller frees them. */
 static struct side *sorted_sides(const uint32_t *quads, size_t quads_len, int (*order)(const void *, const void *))
 {
-    struct side *sides = malloc((quads_len + 1) * sizeof *sides);
-    if (!sides)
-        impossible("no memory");
+    struct side *sides = room_for(quads_len, sizeof *sides);
     for (size_t at = 0; at < quads_len; at++) {
         sides[at].from = quads[at];
         sides[at].to = quads[at % SIDES == SIDES - 1 ? at - (SIDES - 1) : at + 1];
@@ -513,6 +530,126 @@ static void write_starts(const uint32_t *quads, size_t quads_len, size_t vertice
         work[is_first ? sides[i].from : vertices + sides[i - 1].at] = sides[i].at;
     }
     free(sides);
+}
+
+/* ---- pieces of a list of quads ---- */
+
+static struct refusal check_pieces(uint32_t n, const uint32_t *quads, size_t quads_len, size_t piece_len,
+                                   size_t size_len)
+{
+    struct refusal refusal = check_rest(quads_len);
+    if (!refusal.number)
+        refusal = check_numbers(n, quads, quads_len);
+    if (!refusal.number && (piece_len < n || size_len < n))
+        refusal = refuse(5, n);
+    return refusal;
+}
+
+/* Where each vertex stands in a list: last at last[v], and before[at] is the place before at with the same vertex;
+   quads_len where there is none. */
+struct places {
+    const uint32_t *quads;
+    size_t quads_len, *last, *before;
+};
+
+static struct places places_of(uint32_t n, const uint32_t *quads, size_t quads_len)
+{
+    struct places places;
+    places.quads = quads;
+    places.quads_len = quads_len;
+    places.last = room_for(n, sizeof *places.last);
+    places.before = room_for(quads_len, sizeof *places.before);
+    for (uint32_t vertex = 0; vertex < n; vertex++)
+        places.last[vertex] = quads_len;
+    for (size_t at = 0; at < quads_len; at++) {
+        places.before[at] = places.last[quads[at]];
+        places.last[quads[at]] = at;
+    }
+    return places;
+}
+
+/* Spreads the number of a piece from its lowest vertex through all quads. The answer is how many vertices got it: they
+   stand in reached, in the order in which they did. In piece, none stands for no number yet. */
+static uint32_t spread(const struct places *places, uint32_t lowest, uint32_t none, uint32_t *reached, uint32_t *piece)
+{
+    uint32_t count = 1;
+    piece[lowest] = lowest;
+    reached[0] = lowest;
+    for (uint32_t i = 0; i < count; i++)
+        for (size_t at = places->last[reached[i]]; at < places->quads_len; at = places->before[at])
+            for (size_t side = 0; side < SIDES; side++) {
+                uint32_t vertex = places->quads[at / SIDES * SIDES + side];
+                if (piece[vertex] == none) {
+                    piece[vertex] = lowest;
+                    reached[count++] = vertex;
+                }
+            }
+    return count;
+}
+
+/* Each vertex gets the number of its piece, and each lowest vertex the piece's size. The answer is how many pieces
+   there are. */
+static uint32_t number_pieces(uint32_t n, const uint32_t *quads, size_t quads_len, uint32_t *piece, uint32_t *size)
+{
+    struct places places = places_of(n, quads, quads_len);
+    uint32_t *reached = room_for(n, sizeof *reached), count = 0;
+    for (uint32_t vertex = 0; vertex < n; vertex++) {
+        piece[vertex] = n;
+        size[vertex] = 0;
+    }
+    for (uint32_t vertex = 0; vertex < n; vertex++)
+        if (piece[vertex] == n) {
+            size[vertex] = spread(&places, vertex, n, reached, piece);
+            count++;
+        }
+    free(reached);
+    free(places.last);
+    free(places.before);
+    return count;
+}
+
+/* What each vertex hangs under, where n stands for nothing; how many vertices each top has; and how many links the
+   longest search has followed. */
+struct hanging {
+    uint32_t n, *link, *held, longest;
+};
+
+static uint32_t search_top(struct hanging *hanging, uint32_t vertex)
+{
+    uint32_t links = 0;
+    for (; hanging->link[vertex] != hanging->n; vertex = hanging->link[vertex])
+        links++;
+    if (links > hanging->longest)
+        hanging->longest = links;
+    return vertex;
+}
+
+/* The top with fewer vertices is hung under the other, and at a tie the higher one. */
+static void join_vertices(struct hanging *hanging, uint32_t first, uint32_t second)
+{
+    uint32_t a = search_top(hanging, first), b = search_top(hanging, second), *held = hanging->held;
+    int is_a_hung = held[a] == held[b] ? a > b : held[a] < held[b];
+    uint32_t hung = is_a_hung ? a : b, top = is_a_hung ? b : a;
+    if (a == b)
+        return;
+    hanging->link[hung] = top;
+    held[top] += held[hung];
+}
+
+/* Each quad in order joins its first vertex with its second, third and fourth. */
+static uint32_t longest_search(uint32_t n, const uint32_t *quads, size_t quads_len)
+{
+    struct hanging hanging = {n, room_for(n, sizeof(uint32_t)), room_for(n, sizeof(uint32_t)), 0};
+    for (uint32_t vertex = 0; vertex < n; vertex++) {
+        hanging.link[vertex] = n;
+        hanging.held[vertex] = 1;
+    }
+    for (size_t at = 0; at < quads_len; at += SIDES)
+        for (size_t side = 1; side < SIDES; side++)
+            join_vertices(&hanging, quads[at], quads[at + side]);
+    free(hanging.link);
+    free(hanging.held);
+    return hanging.longest;
 }
 
 /* ---- the PLY file ---- */
@@ -577,10 +714,7 @@ static struct refusal check_spacing(const struct drawing *drawing)
 
 static struct refusal check_quads(const struct drawing *drawing)
 {
-    for (size_t at = 0; at < drawing->quads_len; at++)
-        if (drawing->quads[at] >= drawn_vertices(drawing))
-            return refuse(14, cut_to_u32(at / SIDES));
-    return accepted;
+    return check_numbers(drawn_vertices(drawing), drawing->quads, drawing->quads_len);
 }
 
 /* Prints the head of the file, and gives its length. */
@@ -722,9 +856,7 @@ void plain_mesh(uint32_t nx, uint32_t ny, uint32_t nz, const uint16_t *samples, 
         say_refused(answer, answer_len, refusal);
         return;
     }
-    first = malloc((cubes(&block) + 1) * sizeof *first);
-    if (!first)
-        impossible("no memory");
+    first = room_for(cubes(&block) + 1, sizeof *first);
     vertex_count = number_vertices(&block, first);
     quad_count = number_quads(&block, NULL, NULL, NULL);
     if (words_len < WORDS * (size_t)vertex_count || offsets_len < AXES * (size_t)vertex_count) {
@@ -772,6 +904,19 @@ void plain_closed_with(const uint32_t *quads, size_t quads_len, uint64_t *work, 
     if (!refusal.number)
         write_starts(quads, quads_len, (size_t)vertices, work);
     say_closed(quads, quads_len, refusal, answer, answer_len);
+}
+
+void plain_pieces(uint32_t n, const uint32_t *quads, size_t quads_len, uint32_t *piece, size_t piece_len,
+                  uint32_t *size, size_t size_len, uint32_t *answer, size_t answer_len)
+{
+    struct refusal refusal = check_pieces(n, quads, quads_len, piece_len, size_len);
+    uint32_t count;
+    if (refusal.number) {
+        say_refused(answer, answer_len, refusal);
+        return;
+    }
+    count = number_pieces(n, quads, quads_len, piece, size);
+    say(answer, answer_len, 0, count, longest_search(n, quads, quads_len));
 }
 
 void plain_ceilings(const uint16_t *samples, size_t samples_len, uint32_t *answer, size_t answer_len)

@@ -42,6 +42,13 @@ void plain_closed(const uint32_t *quads, size_t quads_len, uint32_t *answer, siz
 void plain_closed_with(const uint32_t *quads, size_t quads_len, uint64_t *work, size_t work_len, uint32_t *answer,
                        size_t answer_len);
 
+/* The pieces of a list over n vertices: two vertices belong together if a chain of quads joins them, and the number of
+   a piece is its lowest vertex. Each vertex gets the number of its piece, the lowest vertex of a piece also how many
+   vertices the piece has, and any other 0. Answer: 0, pieces, links of the longest search. Refusals 7, 14, 5, tried in
+   this order. Both buffers are kept on refusal, and behind n items always. */
+void plain_pieces(uint32_t n, const uint32_t *quads, size_t quads_len, uint32_t *piece, size_t piece_len,
+                  uint32_t *size, size_t size_len, uint32_t *answer, size_t answer_len);
+
 /* The samples at the ceiling. Answer: 0, how many there are, the lowest index of one or, where there is none,
    samples_len; a number above 4294967295 is given as that. No refusal. */
 void plain_ceilings(const uint16_t *samples, size_t samples_len, uint32_t *answer, size_t answer_len);

@@ -1,9 +1,11 @@
 /* Runs the plain implementation on the paper's samples: the example block with its whole output, the nine cubes, the
    edges, the refusals, lists of quads and the table of faces; on samples at the ceiling, which are metal and leave a
-   mark; on two samples that are joined across a face, whose mesh is closed; on the work of the closed question; and on files of the
-   example's mesh and of the empty one. Prints each sample and its verdict; exits with 1 if one differs.
+   mark; on two samples that are joined across a face, whose mesh is closed; on the work of the closed question; on the
+   pieces of small lists that were worked out by hand and of the example's mesh; and on files of that mesh and of the
+   empty one. Prints each sample and its verdict; exits with 1 if one differs.
    Assumes nothing of the library. */
 #include "bench_cubes.h"
+#include "hand_lists.h"
 #include "plain.h"
 
 #include <stdio.h>
@@ -364,6 +366,77 @@ static void works(void)
     work("4294967300 items needed: cut", highest, 4, LIST_WORK, 15, UINT32_MAX, NULL, 0);
 }
 
+/* ---- pieces ---- */
+
+enum { PIECE_ROOM = 20, GRAIN_VERTICES = 8, GRAINS_SAMPLES = 45, GRAINS_VERTICES = 16, GRAINS_QUADS = 12 };
+
+/* Rooms of such lengths are lent, and they must hold this at their front and else what they held. */
+static void pieces(const char *name, uint32_t n, const uint32_t *quads, size_t quads_len, size_t piece_len,
+                   size_t size_len, const uint32_t wanted[ANSWER], const uint32_t *wanted_piece,
+                   const uint32_t *wanted_size)
+{
+    uint32_t piece[PIECE_ROOM], size[PIECE_ROOM], answer[ANSWER], written = wanted[0] == 0 ? n : 0;
+    int is_good;
+    for (size_t i = 0; i < PIECE_ROOM; i++)
+        piece[i] = size[i] = KEPT;
+    plain_pieces(n, quads, quads_len, piece, piece_len, size, size_len, answer, ANSWER);
+    is_good = says(answer, wanted[0], wanted[1], wanted[2]);
+    for (size_t i = 0; i < PIECE_ROOM; i++)
+        is_good = is_good && piece[i] == (i < written ? wanted_piece[i] : KEPT) &&
+                  size[i] == (i < written ? wanted_size[i] : KEPT);
+    verdict(name, is_good);
+}
+
+static void pieces_of_hand_lists(void)
+{
+    for (size_t i = 0; i < HAND_LISTS; i++) {
+        const struct hand_list *list = &hand_lists[i];
+        pieces(list->name, list->n, list->quads, list->quads_len, list->piece_len, list->size_len, list->answer,
+               list->piece, list->size);
+    }
+}
+
+/* The example's first quad hangs 4, 6 and 2 under 0, its second one 3, 7 and 5 under 1, and its third one 1 under 0;
+   then 5 is searched for with two links. With the last sample at the ceiling there is a ninth vertex, in no quad. */
+static void pieces_of_example(void)
+{
+    static const uint32_t whole[ANSWER] = {0, 1, 2}, and_alone[ANSWER] = {0, 2, 2};
+    static const uint32_t piece[MOST_VERTICES] = {0, 0, 0, 0, 0, 0, 0, 0, 8};
+    static const uint32_t size[MOST_VERTICES] = {8, 0, 0, 0, 0, 0, 0, 0, 1};
+    uint16_t samples[EXAMPLE_SAMPLES];
+    uint32_t words[2 * MOST_VERTICES], quads[4 * EXAMPLE_QUADS], answer[ANSWER];
+    double offsets[3 * MOST_VERTICES];
+    example_block(samples);
+    plain_mesh(3, 3, 3, samples, EXAMPLE_SAMPLES, 100, words, 2 * MOST_VERTICES, offsets, 3 * MOST_VERTICES, quads,
+               4 * EXAMPLE_QUADS, answer, ANSWER);
+    pieces("pieces of the example: 1", answer[1], quads, 4 * EXAMPLE_QUADS, PIECE_ROOM, PIECE_ROOM, whole, piece,
+           size);
+    samples[EXAMPLE_SAMPLES - 1] = CEILING;
+    plain_mesh(3, 3, 3, samples, EXAMPLE_SAMPLES, 100, words, 2 * MOST_VERTICES, offsets, 3 * MOST_VERTICES, quads,
+               4 * EXAMPLE_QUADS, answer, ANSWER);
+    pieces("its last sample at the ceiling: 2", answer[1], quads, 4 * EXAMPLE_QUADS, PIECE_ROOM, PIECE_ROOM, and_alone,
+           piece, size);
+}
+
+/* Two samples of metal with one of hollow between them: each has eight vertices and six quads, as the example has. */
+static void pieces_of_two_grains(void)
+{
+    static const uint32_t two[ANSWER] = {0, 2, 2};
+    uint16_t samples[GRAINS_SAMPLES] = {0};
+    uint32_t words[2 * GRAINS_VERTICES], quads[4 * GRAINS_QUADS], answer[ANSWER];
+    uint32_t piece[GRAINS_VERTICES], size[GRAINS_VERTICES] = {0};
+    double offsets[3 * GRAINS_VERTICES];
+    samples[1 + 3 * (1 + 3)] = samples[1 + 3 * (1 + 3 * 3)] = 400;
+    for (uint32_t vertex = 0; vertex < GRAINS_VERTICES; vertex++)
+        piece[vertex] = vertex / GRAIN_VERTICES * GRAIN_VERTICES;
+    size[0] = size[GRAIN_VERTICES] = GRAIN_VERTICES;
+    plain_mesh(3, 3, 5, samples, GRAINS_SAMPLES, 100, words, 2 * GRAINS_VERTICES, offsets, 3 * GRAINS_VERTICES, quads,
+               4 * GRAINS_QUADS, answer, ANSWER);
+    verdict("two grains: 16 vertices and 12 quads", says(answer, 0, GRAINS_VERTICES, GRAINS_QUADS));
+    pieces("pieces of two grains: 2", GRAINS_VERTICES, quads, 4 * GRAINS_QUADS, PIECE_ROOM, PIECE_ROOM, two, piece,
+           size);
+}
+
 /* ---- two samples, joined across a face ---- */
 
 enum { PORE_SAMPLES = 48, PORE_VERTICES = 14, PORE_QUADS = 12 };
@@ -477,6 +550,9 @@ int main(void)
     ceilings_of_blocks();
     lists();
     works();
+    pieces_of_hand_lists();
+    pieces_of_example();
+    pieces_of_two_grains();
     pore_of_two("two samples of metal: closed", 300, 0, 1);
     pore_of_two("a pore of two samples: closed", 0, 150, 2);
     files();
