@@ -1,8 +1,8 @@
 /* Times the library and the plain implementation on one block. Usage: bench file nx ny nz t mesh.ply sealed.ply, the
-   file raw little-endian 16-bit numbers, x fastest. Writes the mesh to mesh.ply, with a spacing of 0.1 millimetres
-   along each axis. Where a sample on the six faces of the box is metal, the block is then sealed: all samples there
-   become 0. The mesh of the sealed block is written to sealed.ply; of a block that needs no sealing there is no such
-   file. Prints a line for each figure, its name and its value:
+   file raw little-endian 16-bit numbers, x fastest; or bench worst, see worst_... below. Writes the mesh to mesh.ply,
+   with a spacing of 0.1 millimetres along each axis. Where a sample on the six faces of the box is metal, the block is
+   then sealed: all samples there become 0. The mesh of the sealed block is written to sealed.ply; of a block that needs
+   no sealing there is no such file. Prints a line for each figure, its name and its value:
      crossed, rim, doubtful  crossed edges, steps out of the block from metal samples, faces with four crossed edges
      vertices, quads         of the mesh
      counts, mesh            seconds of the library's two calls; mesh writes into memory that was written to before
@@ -15,11 +15,19 @@
                              works in was written to before
      is_closed               its answer, 1 if the mesh is closed and 0 if not
      fault_quad              the quad of the first side at fault, where it is not
+     pieces                  seconds of the library's call that gives each vertex the number of its piece, into buffers
+                             that were written to before
+     piece_count             how many pieces there are
+     longest                 how many links the longest search followed
      sealed_...              vertices, quads, closed and is_closed of the sealed block, where there is one
+     worst_...               vertices, quads, pieces, piece_count and longest of a list of quads that makes the longest
+                             search as long as it can be; bench worst prints these alone. They are of no block, so
+                             bench/run asks once
    A time is the best of 15 runs, or of as many as begin within half a second, but at least 2.
    Assumes that both are linked in; built with -DSELF there is no library, and its times and answers are not printed.
    The counts, the meshes and the files of the two must agree, bit by bit, or there are no times. The mesh must be
-   closed if no sample on the six faces of the box is metal, and a side that is given as at fault must be so. */
+   closed if no sample on the six faces of the box is metal, and a side that is given as at fault must be so. No quad
+   may join two pieces, and the pieces' numbers, sizes and count must fit together. */
 #define _POSIX_C_SOURCE 199309L
 
 #include "../include/parsniprow.h"
@@ -38,6 +46,9 @@
 #endif
 
 enum { MOST_RUNS = 15, LEAST_RUNS = 2, ANSWER = 3, CLOSED_ANSWER = 4, SHORT_FILE = 15 };
+/* The links of the longest search of the worst list, which has 2 to this power vertices and as many quads. With 24 it
+   takes a second and 450 MB in all; noise of 128 samples an axis takes 620 MB. Each link more would double both. */
+enum { WORST_LINKS = 24 };
 static const double long_enough = 0.5, spacing = 0.1;
 
 typedef void counts_function(uint32_t, uint32_t, uint32_t, const uint16_t *, size_t, uint16_t, uint32_t *, size_t);
@@ -331,6 +342,91 @@ static void print_closed_time(const struct mesh *mesh, const char *word, int mus
     if (answer[1] == 0)
         printf("%sfault_quad %u\n", word, (unsigned)answer[2]);
 }
+
+/* A mesh, of which only the quads count, the two buffers for its pieces, and the answer of the last run. */
+struct pieces {
+    const struct mesh *mesh;
+    uint32_t *piece, *size, answer[ANSWER];
+};
+
+static double pieces_seconds(void *with)
+{
+    struct pieces *pieces = with;
+    const struct mesh *mesh = pieces->mesh;
+    double from = now();
+    parsniprow_pieces((uint32_t)mesh->vertex_count, mesh->quads, 4 * mesh->quad_count, pieces->piece,
+                      mesh->vertex_count, pieces->size, mesh->vertex_count, pieces->answer, ANSWER);
+    return now() - from;
+}
+
+/* Whether no quad joins two pieces, each piece has the number of its lowest vertex, and the sizes and the count are
+   those of the pieces. So each set of joined vertices is within a piece. If there are as many sets as pieces, they are
+   the same; peers.py counts the sets. */
+static int fit_together(const struct pieces *pieces)
+{
+    const struct mesh *mesh = pieces->mesh;
+    const uint32_t *piece = pieces->piece;
+    size_t bytes = mesh->vertex_count * sizeof *pieces->size, count = 0;
+    uint32_t *found = taken(bytes);
+    int good = 1;
+    memset(found, 0, bytes);
+    for (size_t vertex = 0; good && vertex < mesh->vertex_count; vertex++) {
+        good = piece[vertex] <= vertex && piece[piece[vertex]] == piece[vertex];
+        if (good)
+            count += found[piece[vertex]]++ == 0;
+    }
+    for (size_t n = 0; good && n < 4 * mesh->quad_count; n++)
+        good = piece[mesh->quads[n]] == piece[mesh->quads[n - n % 4]];
+    good = good && memcmp(found, pieces->size, bytes) == 0 && count == pieces->answer[1];
+    free(found);
+    return good;
+}
+
+/* The names of the figures begin with that word. Gives the links of the longest search. */
+static uint32_t print_pieces_time(const struct mesh *mesh, const char *word)
+{
+    struct pieces pieces = {mesh, NULL, NULL, {0}};
+    double pieces_time;
+    pieces.piece = taken(mesh->vertex_count * sizeof *pieces.piece);
+    pieces.size = taken(mesh->vertex_count * sizeof *pieces.size);
+    memset(pieces.piece, 0xA5, mesh->vertex_count * sizeof *pieces.piece);
+    memset(pieces.size, 0xA5, mesh->vertex_count * sizeof *pieces.size);
+    pieces_time = best_of(pieces_seconds, &pieces);
+    if (pieces.answer[0] != 0)
+        stop("the pieces were refused");
+    if (!fit_together(&pieces))
+        stop("the pieces do not fit together");
+    printf("%spieces %.9f\n%spiece_count %u\n%slongest %u\n", word, pieces_time, word, (unsigned)pieces.answer[1],
+           word, (unsigned)pieces.answer[2]);
+    free(pieces.piece);
+    free(pieces.size);
+    return pieces.answer[2];
+}
+
+/* Puts a quad of one vertex and, three times, another. */
+static void put_pair(struct mesh *list, uint32_t first, uint32_t other)
+{
+    uint32_t *quad = list->quads + 4 * list->quad_count++;
+    quad[0] = first;
+    quad[1] = quad[2] = quad[3] = other;
+}
+
+/* Pieces of one size are joined two by two until one is left. Then its last vertex, which hangs lowest, is looked
+   for. */
+static void print_worst(void)
+{
+    uint32_t n = (uint32_t)1 << WORST_LINKS;
+    struct mesh list = {NULL, NULL, NULL, n, 0};
+    list.quads = taken(4 * (size_t)n * sizeof *list.quads);
+    for (uint32_t half = 1; half < n; half *= 2)
+        for (uint32_t first = 0; first < n; first += 2 * half)
+            put_pair(&list, first, first + half);
+    put_pair(&list, n - 1, n - 1);
+    printf("worst_vertices %zu\nworst_quads %zu\n", list.vertex_count, list.quad_count);
+    if (print_pieces_time(&list, "worst_") != WORST_LINKS)
+        stop("the longest search of the worst list is another");
+    free(list.quads);
+}
 #endif
 
 static int same(const struct mesh *a, const struct mesh *b)
@@ -364,6 +460,7 @@ static void print_times(const char *file_name, int must_be_closed)
 #else
     printf("counts %.6f\nmesh %.6f\nwhole %.6f\n", counts_time, mesh_time, whole_time);
     print_closed_time(&lent, "", must_be_closed);
+    print_pieces_time(&lent, "");
 #endif
     printf("plain %.6f\n", plain_time);
     give_back(&lent);
@@ -396,8 +493,14 @@ static void print_sealed(const char *file_name)
 int main(int argc, char **argv)
 {
     size_t rim;
+#ifndef SELF
+    if (argc == 2 && strcmp(argv[1], "worst") == 0) {
+        print_worst();
+        return 0;
+    }
+#endif
     if (argc != 8)
-        stop("usage: bench file nx ny nz t mesh.ply sealed.ply");
+        stop("usage: bench file nx ny nz t mesh.ply sealed.ply, or bench worst");
     block = read_block(argv + 1);
     rim = print_shape();
     print_times(argv[6], rim == 0);

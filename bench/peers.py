@@ -1,6 +1,7 @@
 #!/usr/bin/python3
 """Times the programs that Debian has for the same work on one block. Usage:
-  peers.py versions                prints a line for each peer: key, name, package, version ("-" if it is not installed)
+  peers.py versions                prints a line for each peer: key, name, package, version ("-" if it is not
+                                   installed), and block or mesh, which is what it works on
   peers.py key file nx ny nz t     prints "points polygons seconds" of the peer on the block
   peers.py ply_writer mesh.ply     prints a line for each figure of VTK's PLY writer on the mesh, name and value:
                                      vtk_bytes    of the file that it writes
@@ -12,6 +13,15 @@
                                      vtk_boundary     edges of one quad that it found
                                      vtk_nonmanifold  edges of more than two quads that it found
                                    or nothing if VTK is not installed
+  peers.py pieces mesh.ply [n]     prints a line for each figure of the mesh's pieces, name and value; n is how many the
+                                   library found:
+                                     unused        vertices in no quad
+                                     scipy_pieces  seconds of making SciPy's matrix and of its connected components
+                                     scipy_alone   seconds of the components alone, of a matrix that is there already
+                                     scipy_count   components that it found
+                                     vtk_pieces    seconds of VTK's connectivity filter
+                                     vtk_count     regions that it found
+                                   without those of a program that is not installed
 
 The file is raw little-endian 16-bit numbers, x fastest. A time is the best of 15 runs, or of as many as begin within
 half a second, but at least 2. The block is in memory, in the form that the peer takes, before the first run; the peer
@@ -22,9 +32,14 @@ Of the feature edges only the call that finds them is timed, on the same mesh in
 from vertices to quads within that call, and it does so where the mesh has links already: those save no time. VTK 9.1.0
 first asks for room for a tenth of the points times a twentieth of them, 8 bytes each. Where it gets none, it ends the
 process by SIGABRT.
+Of the pieces SciPy has the list of quads as an array, as the library has it, and VTK has the mesh in its own form
+before the time begins. Both give a number to each vertex, not only how many pieces there are. A vertex in no quad is a
+piece of its own for the library and for SciPy. VTK goes from quad to quad, so such a vertex is in no region, and it is
+not in the mesh that its filter makes. So SciPy's components must be as many as the library's pieces, and so must VTK's
+regions and the vertices in no quad together, or there are no times.
 
 Assumes that the process may run on one processor only (taskset), as OpenVDB takes all that it is allowed; the peers are
-Debian's packages python3-vtk9, python3-skimage and python3-openvdb, in Debian's own python."""
+Debian's packages python3-vtk9, python3-skimage, python3-openvdb and python3-scipy, in Debian's own python."""
 import os
 import sys
 import tempfile
@@ -260,6 +275,80 @@ def print_edge_times(name):
     print(f"vtk_closed {seconds:.6f}\nvtk_boundary {boundary}\nvtk_nonmanifold {found - boundary}")
 
 
+# ---- pieces: SciPy's connected components and VTK's connectivity filter ----
+
+def scipy_version():
+    import scipy.sparse.csgraph
+    return scipy.__version__
+
+
+def quad_graph(quads, points):
+    """The matrix of the graph that joins the first vertex of each quad with the second, the third and the fourth. Its
+    compressed rows are made here of the quads sorted by their first vertex. SciPy can make them of pairs by itself, but
+    it takes two to three times as long, as it looks for pairs that stand there twice. Entries are doubles: of others
+    the call would make doubles first."""
+    import numpy
+    from scipy.sparse import csr_matrix
+    first = quads[:, 0]
+    begins = numpy.zeros(points + 1, "int32")
+    numpy.cumsum(3 * numpy.bincount(first, minlength=points), out=begins[1:])
+    others = quads[numpy.argsort(first, kind="stable"), 1:].reshape(-1)
+    return csr_matrix((numpy.ones(len(others)), others, begins), shape=(points, points))
+
+
+def print_scipy_pieces(quads, points):
+    """Gives how many components there are."""
+    from scipy.sparse.csgraph import connected_components
+    matrix = quad_graph(quads, points)
+    alone = best_time(lambda: lambda: connected_components(matrix, directed=False))[1]
+    made, seconds = best_time(lambda: lambda: connected_components(quad_graph(quads, points), directed=False))
+    print(f"scipy_pieces {seconds:.6f}\nscipy_alone {alone:.6f}\nscipy_count {made[0]}")
+    return made[0]
+
+
+def connectivity(mesh):
+    """A filter that makes a mesh of all regions, where each point has the number of its region."""
+    from vtkmodules.vtkFiltersCore import vtkPolyDataConnectivityFilter
+    regions = vtkPolyDataConnectivityFilter()
+    regions.SetInputData(mesh)
+    regions.SetExtractionModeToAllRegions()
+    regions.ColorRegionsOn()
+    return regions
+
+
+def print_vtk_pieces(places, quads):
+    """Gives how many regions there are. The filter of each run is new, as of the feature edges."""
+    one_vtk_thread()
+    mesh = vtk_mesh(places, quads)
+
+    def next_run():
+        regions = connectivity(mesh)
+        return lambda: regions.Update() or regions
+
+    made, seconds = best_time(next_run)
+    print(f"vtk_pieces {seconds:.6f}\nvtk_count {made.GetNumberOfExtractedRegions()}")
+    return made.GetNumberOfExtractedRegions()
+
+
+def print_piece_times(name, told=None):
+    has_scipy, has_vtk = found_version(scipy_version) != "-", found_version(vtk_version) != "-"
+    if not has_scipy and not has_vtk:
+        return
+    import numpy
+    with open(name, "rb") as file:
+        places, faces = ply_parts(file.read(), "<f8")
+    quads = numpy.ascontiguousarray(faces["quad"])
+    unused = int((numpy.bincount(quads.reshape(-1), minlength=len(places)) == 0).sum())
+    print(f"unused {unused}")
+    counts = set() if told is None else {int(told)}
+    if has_scipy:
+        counts.add(print_scipy_pieces(quads, len(places)))
+    if has_vtk:
+        counts.add(print_vtk_pieces(places, quads) + unused)
+    if len(counts) != 1:
+        sys.exit("peers.py: the programs do not count the same pieces: " + ", ".join(map(str, sorted(counts))))
+
+
 # ---- all of them ----
 
 PEERS = {
@@ -268,16 +357,20 @@ PEERS = {
     "lewiner": ("scikit-image", "python3-skimage", skimage_version, lewiner),
     "volume_to_mesh": ("OpenVDB", "python3-openvdb", openvdb_version, volume_to_mesh),
 }
-ON_A_MESH = {"ply_writer": print_ply_times, "feature_edges": print_edge_times}
+ON_A_MESH = {"ply_writer": print_ply_times, "feature_edges": print_edge_times, "pieces": print_piece_times}
+
+
+def found_version(version):
+    try:
+        return version()
+    except ImportError:
+        return "-"
 
 
 def print_versions():
     for key, (name, package, version, _) in PEERS.items():
-        try:
-            found = version()
-        except ImportError:
-            found = "-"
-        print(key, name, package, found, sep="\t")
+        print(key, name, package, found_version(version), "block", sep="\t")
+    print("components", "SciPy", "python3-scipy", found_version(scipy_version), "mesh", sep="\t")
 
 
 def best_time(next_run):
@@ -299,17 +392,18 @@ def main():
     if sys.argv[1:] == ["versions"]:
         print_versions()
         return
-    on_a_mesh = len(sys.argv) == 3 and sys.argv[1] in ON_A_MESH
-    if not on_a_mesh and (len(sys.argv) != 7 or sys.argv[1] not in PEERS):
+    words = sys.argv[1:]
+    on_a_mesh = (len(words) == 2 and words[0] in ON_A_MESH) or (len(words) == 3 and words[0] == "pieces")
+    if not on_a_mesh and (len(words) != 6 or words[0] not in PEERS):
         sys.exit("usage: peers.py versions, or peers.py ply_writer mesh.ply, or peers.py feature_edges mesh.ply, or "
-                 "peers.py key file nx ny nz t, the key one of " + ", ".join(PEERS))
+                 "peers.py pieces mesh.ply [n], or peers.py key file nx ny nz t, the key one of " + ", ".join(PEERS))
     if len(os.sched_getaffinity(0)) != 1:
         sys.exit("peers.py: may run on more than one processor, so OpenVDB would take more than one thread")
     if on_a_mesh:
-        ON_A_MESH[sys.argv[1]](sys.argv[2])
+        ON_A_MESH[words[0]](*words[1:])
         return
-    lengths = [int(word) for word in sys.argv[3:6]]
-    run, size = PEERS[sys.argv[1]][3](sys.argv[2], lengths, float(sys.argv[6]))
+    lengths = [int(word) for word in words[2:5]]
+    run, size = PEERS[words[0]][3](words[1], lengths, float(words[5]))
     mesh, seconds = best_time(lambda: run)
     print(*size(mesh), f"{seconds:.6f}")
 

@@ -2,8 +2,9 @@
 """Prints the results of one run of the benchmark as Markdown. Usage: tables.py results, the file that bench/run writes.
 
 Its lines, with tabs between the words: processor, compiler, library (the machine that its module was compiled for, or
-none); peer, key, name, package, version; figure, kind, size, name, value; made, kind, size, key, points, polygons,
-seconds. Of a figure or a time that stands there twice the least counts.
+none); peer, key, name, package, version, and block or mesh, which is what it works on; figure, kind, size, name, value;
+made, kind, size, key, points, polygons, seconds; the name, which begins with worst_, and the value of a figure of the
+worst list for the pieces, if there is a library. Of a figure or a time that stands there twice the least counts.
 Ends with status 1 if a peer's mesh is not of the size to be expected from the block's crossed edges, or if VTK finds a
 boundary edge in a closed mesh, for then the times are of different work."""
 import math
@@ -17,7 +18,7 @@ def read_results(name):
         for line in file:
             head, *rest = line.rstrip("\n").split("\t")
             if head == "peer":
-                peers[rest[0]] = {"name": rest[1], "package": rest[2], "version": rest[3]}
+                peers[rest[0]] = {"name": rest[1], "package": rest[2], "version": rest[3], "given": rest[4]}
             elif head == "figure":
                 block = blocks.setdefault((rest[0], int(rest[1])), {"made": {}})
                 block[rest[2]] = min(float(rest[3]), block.get(rest[2], math.inf))
@@ -54,12 +55,13 @@ def whole(number):
     return f"{int(number):,}"
 
 
-def with_ratio(block, seconds, time="whole"):
-    """Seconds, and in brackets the library's time of that name divided by them."""
-    return f"{three_digits(seconds)} ({block[time] / seconds:.2f})" if time in block else three_digits(seconds)
+def with_ratio(block, seconds, time="whole", unit=1.0):
+    """Seconds times the unit, and in brackets the library's time of that name divided by the seconds."""
+    shown = three_digits(unit * seconds)
+    return f"{shown} ({block[time] / seconds:.2f})" if time in block else shown
 
 
-# ---- the five tables ----
+# ---- the six tables ----
 
 def module_mark(words):
     """What the head of a column says of a library that is not the one that ships."""
@@ -177,6 +179,47 @@ def print_closed(words, blocks):
     print_table(heads, rows)
 
 
+PIECES_WAYS = {"scipy_pieces": "SciPy with its matrix", "scipy_alone": "SciPy's call alone",
+               "vtk_pieces": "vtkPolyDataConnectivityFilter"}
+
+
+def pieces_counts(block):
+    """How many pieces each peer counted, of those that are there."""
+    counts = [whole(block["scipy_count"])] if "scipy_count" in block else []
+    return counts + ([f"{whole(block['vtk_count'])} + {whole(block['unused'])}"] if "vtk_count" in block else [])
+
+
+def print_pieces(words, blocks):
+    """SciPy's call alone is given more than the list of quads, so it is not a candidate for the faster peer."""
+    timed = words["library"] != "none"
+    ways = {way: name for way, name in PIECES_WAYS.items() if all(way in block for block in blocks.values())}
+    peers = [way for way in ways if way != "scipy_alone"]
+    heads = ["block", "vertices", "quads"]
+    if timed:
+        heads += ["pieces", "longest search", f"library{module_mark(words)}, ms"]
+    heads += [f"{name}, ms" for name in ways.values()] + (["faster peer"] if timed and peers else [])
+    counted = ["SciPy" if way == "scipy_pieces" else "VTK + vertices in no quad" for way in peers]
+    heads += ["pieces counted: " + " / ".join(counted)] if peers else []
+    rows = []
+    for (kind, size), block in blocks.items():
+        row = [f"{kind} {size}", whole(block["vertices"]), whole(block["quads"])]
+        if timed:
+            row += [whole(block["piece_count"]), whole(block["longest"]), f"**{three_digits(1e3 * block['pieces'])}**"]
+        row += [with_ratio(block, block[way], "pieces", 1e3) for way in ways]
+        if timed and peers:
+            best = min(peers, key=lambda way: block[way])
+            row.append(f"{ways[best]} ({block['pieces'] / block[best]:.2f})")
+        rows.append(row + ([" / ".join(pieces_counts(block))] if peers else []))
+    print_table(heads, rows)
+
+
+def print_worst(words):
+    quads, seconds = int(words["worst_quads"]), float(words["worst_pieces"])
+    print(f"The worst list: {whole(words['worst_vertices'])} vertices, {whole(quads)} quads, pieces: "
+          f"{words['worst_piece_count']}, longest search: {words['worst_longest']} links, "
+          f"{three_digits(1e3 * seconds)} ms, {1e9 * seconds / quads:.1f} ns a quad.", end="\n\n")
+
+
 # ---- what the meshes must have in common ----
 
 def faults(peers, blocks):
@@ -275,6 +318,25 @@ edges, which are those of one quad, and for non-manifold edges, which are those 
   fault, counted over all quads. VTK finds no boundary edge in a closed mesh.
 """
 
+PIECES_TEXT = """
+Pieces: milliseconds, measured as above; in brackets the library's time divided by that time. The library's call is
+`parsniprow_pieces`, into buffers that were written to before. The longest search is in links followed.
+
+- SciPy (scipy.sparse.csgraph.connected_components) works on the matrix of a graph. `with its matrix` has the list of
+  quads before the time begins, as the library has it, and makes the matrix within the time, by the fastest of the ways
+  that were tried. `call alone` has the matrix before the time begins. The faster peer is that of SciPy with its matrix
+  and VTK.
+- VTK (vtkPolyDataConnectivityFilter, all regions, each point with the number of its region) has the mesh as its own
+  polygons before the time begins, and only its call Update() is timed. It builds its links from vertices to quads
+  within that call, and it makes a new mesh of all regions.
+- The library is lent its memory. The peers take theirs within their time.
+- Checked: no quad joins two of the library's pieces, and their numbers, sizes and count fit together. SciPy counts as
+  many, and so does VTK with the vertices in no quad, which are in none of its regions. So the pieces are the same.
+- The worst list joins pieces of one size two by two until one is left, and then looks for the vertex that hangs lowest.
+  The longest search is then the base-two logarithm of the vertices, the most that there can be. It was timed in one
+  round, by itself.
+"""
+
 SIZES_TEXT = """
 What each program made. A doubtful face is one with four crossed edges. Checked: Flying Edges has a point for each
 crossed edge, OpenVDB a quad for each crossed edge and for each step out of the block from metal, Marching Cubes 99 to
@@ -292,8 +354,9 @@ def main():
     words, every_peer, blocks = read_results(sys.argv[1])
     peers = {key: peer for key, peer in every_peer.items() if peer["version"] != "-"}
     print_heading(words, peers, [peer for key, peer in every_peer.items() if key not in peers])
+    makers = {key: peer for key, peer in peers.items() if peer["given"] == "block"}
     print_text(TIMES_TEXT)
-    print_times(words, peers, blocks)
+    print_times(words, makers, blocks)
     if words["library"] != "none":
         print_text(GROWTH_TEXT)
         print_growth(blocks)
@@ -301,12 +364,16 @@ def main():
     print_files(words, blocks)
     print_text(CLOSED_TEXT)
     print_closed(words, blocks)
+    print_text(PIECES_TEXT)
+    print_pieces(words, blocks)
+    if words["library"] != "none":
+        print_worst(words)
     print_text(SIZES_TEXT)
-    print_sizes(peers, blocks)
+    print_sizes(makers, blocks)
     wrong = faults(peers, blocks) + closed_faults(blocks)
     for fault in wrong:
         print(fault)
-    if peers and not wrong:
+    if makers and not wrong:
         print("All meshes passed these checks.")
     sys.exit(1 if wrong else 0)
 
