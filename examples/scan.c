@@ -1,24 +1,28 @@
 /* The scan tool: reads a raw block of 16-bit grey values, has the library draw the surface between metal and hollow,
-   and writes how many vertices and quads it has and whether it is closed, on request also the vertices and quads
-   themselves: as plain text, as a PLY file for a viewer, or both.
-   Usage: scan FILE NX NY NZ THRESHOLD BYTE-ORDER [--mesh OUT] [--ply OUT --spacing X Y Z]; "scan --help" says what each
-   of them is.
+   and writes how many vertices and quads it has, whether it is closed, and in how many pieces it comes; on request also
+   the vertices and quads themselves, as plain text or as a PLY file for a viewer, and a table of the pieces.
+   Usage: scan FILE NX NY NZ THRESHOLD BYTE-ORDER [--mesh OUT] [--ply OUT --spacing X Y Z [--piece NUMBER]]
+   [--pieces OUT]; "scan --help" says what each of them is.
    Assumes a POSIX system, and the library linked in (include/parsniprow.h).
 
    Standard output is the record, in lines of a word and what it says: what was asked, and the library's answer.
      file, axes, threshold, byte-order    what was asked, as it was read
      spacing X Y Z                        the same, where a PLY file is asked for
+     piece NUMBER                         the same, where the PLY file is to have one piece alone
      values LEAST to GREATEST             the grey values in the file
      ceiling COUNT                        how many of them are 65535, the detector's ceiling
      vertices COUNT, quads COUNT          the mesh
      closed yes, closed no                whether each side of its quads is walked as often one way as the other
+     pieces COUNT                         in how many pieces it comes: two vertices are in one if a chain of quads joins
+                                          them, and a vertex in no quad is a piece of its own
      marked COUNT                         how many vertices have a corner of their cube at the ceiling
      ply BYTES                            how long the PLY file is, where one is asked for
      refused NUMBER value VALUE           there is no mesh, and no line of values or counts
      note SENTENCE                        what the answer does not mean, or what to do
    Standard error has progress, a line each second, and a sentence where there is no answer; standard output then has
    nothing.
-   Exit status: 0 a mesh; 1 a file or memory failed; 2 bad arguments; 3 refused by the library.
+   Exit status: 0 a mesh; 1 a file or memory failed, or the mesh does not have the piece asked for; 2 bad arguments;
+   3 refused by the library.
 
    The OUT of --mesh is plain text: four lines that begin with # and say what follows, the record's lines without notes,
    a line for each vertex by rising number from 0,
@@ -26,10 +30,18 @@
                                           first 1 where the vertex is marked, the others its edges
    and a line for each quad, the numbers of its vertices: q A B C D. The vertex is at (I + X, J + Y, K + Z) in grid
    steps; X, Y and Z have so many digits that the same double is read back.
-   The OUT of --ply is the file that parsniprow_ply makes, in millimetres. It has neither masks nor marks.
+   The OUT of --ply is the file that parsniprow_ply makes, in millimetres. It has neither masks nor marks. With --piece
+   it has the vertices and quads of that piece alone, in the same order, the vertices numbered anew from 0.
    A spacing that the library refuses is refused before FILE is opened, as an axis is.
-   OUT must not be there yet: nothing is overwritten. It is written as OUT.part and renamed when it is whole. Where both
-   are asked for, both are whole before the first is renamed. */
+   The OUT of --pieces is a table with commas: a line that names the columns, then a line for each piece. The piece with
+   the most vertices comes first; of two with as many, the one with more quads, and then the one with the lower number.
+     piece                                its number, which is its lowest vertex
+     vertices, quads                      how many it has
+     x-least, x-greatest, and so on       the box that it lies in: the least and the greatest I, J and K of its vertices
+     closed                               yes or no, asked of its quads alone; - where it has none
+     marked                               how many of its vertices are marked
+   OUT must not be there yet: nothing is overwritten. It is written as OUT.part and renamed when it is whole. Where more
+   than one is asked for, all are whole before the first is renamed. */
 #define _XOPEN_SOURCE 700
 
 #include "parsniprow.h"
@@ -54,10 +66,10 @@ enum { ARGUMENTS = 6, LENGTH = 1, MOST_AT_ONCE = 1 << 20, MEGABYTE = 1000000 };
 enum { MARK = 1 << 12 }; /* in the word of a vertex */
 
 /* What was asked. Names as shown are one line, whatever the file is called. The spacing is that of the PLY file, if one
-   is asked for; as text it is null where it is not given. */
+   is asked for, and the piece is the one that it is to have; as text they are null where they are not given. */
 struct request {
-    const char *file, *file_shown, *byte_order, *spacing_text[AXES];
-    uint32_t length[AXES];
+    const char *file, *file_shown, *byte_order, *spacing_text[AXES], *piece_text;
+    uint32_t length[AXES], piece;
     uint16_t threshold;
     double spacing[AXES];
 };
@@ -69,21 +81,33 @@ struct block {
     uint32_t ceiling_count, first_ceiling;
 };
 
+/* A piece of a mesh, of whose vertices so many have been met. Its quads name its vertices by their numbers in the
+   piece, from 0. */
+struct piece {
+    uint32_t number, vertex_count, met_count, quad_count, marked_count, least[AXES], greatest[AXES], *quads;
+    int is_closed;
+};
+
+/* Of each vertex, piece is the number of its piece; of the lowest vertex of a piece, own is how many vertices the piece
+   has. Once the pieces are listed, piece is the place of a vertex's piece in the list by rising number, and own is the
+   number of the vertex in its piece. */
 struct mesh {
-    uint32_t *words, *quads, vertex_count, quad_count, marked_count;
+    uint32_t *words, *quads, *piece, *own, vertex_count, quad_count, marked_count, piece_count;
     int is_closed;
     double *offsets;
+    struct piece *pieces;
     uint8_t *ply;
     uint64_t ply_len;
 };
 
 /* ---- progress, told by a clock, so that it is told within a long call too ---- */
 
-enum stage { OPENING, READING, COUNTING, MESHING, CHECKING, DRAWING, WRITING };
+enum stage { OPENING, READING, COUNTING, MESHING, CHECKING, FINDING, LISTING, CHECKING_EACH, DRAWING, WRITING };
 enum { WHOLE = 100, NO_PERCENT = 127, STAGE_STEP = 128 };
 
 static const char *const stage_names[] = {"opening the file", "reading", "counting", "making the mesh",
-                                          "checking its sides", "making the PLY file", "writing"};
+                                          "checking its sides", "finding the pieces", "listing the pieces",
+                                          "checking the sides of each piece", "making the PLY file", "writing"};
 /* stage and percent in one number, so that the clock never sees the one change without the other */
 static volatile sig_atomic_t progress;
 static struct timespec started;
@@ -136,14 +160,16 @@ static void tell_progress(int signal_number)
 
 /* ---- the files that are written, of which no way out leaves an unfinished one behind ---- */
 
-enum { MESH_FILE, PLY_FILE, OUTS };
+enum { MESH_FILE, PLY_FILE, PIECES_FILE, OUTS };
 
 /* A file that is asked for if it has a name. As long as it is unfinished its name is part. */
 static struct out {
     const char *option, *thing, *name, *shown;
     char *part;
     volatile sig_atomic_t is_part_there;
-} outs[OUTS] = {{"--mesh", "the mesh", NULL, NULL, NULL, 0}, {"--ply", "the PLY file", NULL, NULL, NULL, 0}};
+} outs[OUTS] = {{"--mesh", "the mesh", NULL, NULL, NULL, 0},
+                {"--ply", "the PLY file", NULL, NULL, NULL, 0},
+                {"--pieces", "the table of pieces", NULL, NULL, NULL, 0}};
 
 static void remove_parts(void)
 {
@@ -252,10 +278,11 @@ static const char *shown(const char *text)
 
 static void help(void)
 {
-    puts("target/scan FILE NX NY NZ THRESHOLD BYTE-ORDER [--mesh OUT] [--ply OUT --spacing X Y Z]\n"
+    puts("target/scan FILE NX NY NZ THRESHOLD BYTE-ORDER [--mesh OUT] [--ply OUT --spacing X Y Z [--piece NUMBER]]\n"
+         "            [--pieces OUT]\n"
          "\n"
          "Draws the surface between metal and hollow in a scan as a mesh of quads, and writes how many vertices and\n"
-         "quads it has, and whether it is closed. Nothing is smoothed.\n"
+         "quads it has, whether it is closed, and in how many pieces it comes. Nothing is smoothed.\n"
          "\n"
          "  FILE        the scan: 16-bit grey values and nothing else, along x first, then y, then z\n"
          "  NX NY NZ    how many values there are along x, y and z, each 2 to 256. FILE must have 2 x NX x NY x NZ\n"
@@ -267,19 +294,24 @@ static void help(void)
          "  --ply OUT --spacing X Y Z\n"
          "              also writes them to the file OUT as PLY, which viewers read, in millimetres. X, Y and Z are\n"
          "              the millimetres from one value to the next along x, y and z, each above 0 and at most 1000\n"
+         "  --piece NUMBER\n"
+         "              the file of --ply then has this piece alone. The table of --pieces has the number of each\n"
+         "  --pieces OUT\n"
+         "              also writes a table of the pieces to the file OUT, with commas, as spreadsheets read it\n"
          "\n"
-         "OUT must not be there yet. Both files can be asked for, under two names.");
+         "OUT must not be there yet. More than one file can be asked for, each under a name of its own.");
     puts("\n"
          "Numbers are plain digits; X, Y and Z may have a point and digits behind it. For example:\n"
          "\n"
          "  target/scan housing.raw 256 256 200 23000 little --mesh housing-mesh.txt\n"
          "  target/scan housing.raw 256 256 200 23000 little --ply housing.ply --spacing 0.125 0.125 0.2\n"
+         "  target/scan housing.raw 256 256 200 23000 little --pieces housing-pieces.csv\n"
          "\n"
          "Standard output has what was asked, then the lines \"values\", \"ceiling\", \"vertices\", \"quads\",\n"
-         "\"closed\" and \"marked\", and with --ply the line \"ply\" with the bytes of the file; or the line\n"
-         "\"refused NUMBER value VALUE\", no count, and what to do. The file of --mesh has the same lines, then a\n"
-         "line for each vertex, in steps of the grid at I+X, J+Y, K+Z, with the mask of the edges of cube I J K that\n"
-         "it joins; then a line for each quad:\n"
+         "\"closed\", \"pieces\" and \"marked\", and with --ply the line \"ply\" with the bytes of the file; or the\n"
+         "line \"refused NUMBER value VALUE\", no count, and what to do. The file of --mesh has the same lines, then\n"
+         "a line for each vertex, in steps of the grid at I+X, J+Y, K+Z, with the mask of the edges of cube I J K\n"
+         "that it joins; then a line for each quad:\n"
          "\n"
          "  v NUMBER I J K X Y Z MASK\n"
          "  q VERTEX VERTEX VERTEX VERTEX");
@@ -288,12 +320,19 @@ static void help(void)
          "quads. It is always so where the values on the six sides of the box are all metal, or all hollow. It says\n"
          "no only where a side of the box cuts a surface off. That is no finding about the part.\n"
          "\n"
+         "The line \"pieces\" says in how many pieces the mesh comes. Two vertices are in one piece if a chain of\n"
+         "quads joins them. A vertex in no quad is a piece of its own. The number of a piece is its lowest vertex.\n"
+         "The table of --pieces has a line for each, the largest first: its number, its vertices and quads, the\n"
+         "least and the greatest I, J and K of its vertices, whether its quads alone are closed (- if it has none),\n"
+         "and how many of its vertices are marked. A piece is not yet a pore: the outside is a piece too.\n"
+         "\n"
          "A value of 65535 is the detector's ceiling. What the detector saw there is not known. It is drawn as\n"
          "metal. The line \"ceiling\" says how many such values there are. A vertex is marked if a corner of its\n"
          "cube is at the ceiling. The line \"marked\" says how many vertices are. The MASK of a marked vertex begins\n"
          "with 1, that of any other with 0. A PLY file does not show which vertices are marked.\n"
          "\n"
-         "Exit status: 0 a mesh; 1 a file or memory failed; 2 bad arguments; 3 refused.");
+         "Exit status: 0 a mesh; 1 a file or memory failed, or the mesh does not have the piece asked for; 2 bad\n"
+         "arguments; 3 refused.");
     finish(STATUS_MESH);
 }
 
@@ -359,11 +398,27 @@ static int read_option(struct request *request, char **words, int left)
             read_out(&outs[which], words[1]);
             return 1;
         }
+    if (strcmp(words[0], "--piece") == 0) {
+        check_option(words[0], request->piece_text != NULL, left >= 1, "the NUMBER of a piece");
+        request->piece = number("NUMBER of --piece", words[1], UINT32_MAX, "0 to 4294967295");
+        request->piece_text = words[1];
+        return 1;
+    }
     if (strcmp(words[0], "--spacing") != 0)
-        fail(STATUS_ARGUMENTS, "\"%s\" stands where only --mesh, --ply and --spacing can.", shown(words[0]));
+        fail(STATUS_ARGUMENTS, "\"%s\" stands where only --mesh, --ply, --pieces, --spacing and --piece can.",
+             shown(words[0]));
     check_option(words[0], request->spacing_text[0] != NULL, left >= AXES, "X, Y and Z");
     read_spacing(request, words + 1);
     return AXES;
+}
+
+static void check_names(void)
+{
+    for (int one = 0; one < OUTS; one++)
+        for (int other = one + 1; other < OUTS; other++)
+            if (outs[one].name && outs[other].name && strcmp(outs[one].name, outs[other].name) == 0)
+                fail(STATUS_ARGUMENTS, "%s and %s both name %s, and they must name two files.", outs[one].option,
+                     outs[other].option, outs[other].shown);
 }
 
 static void read_options(struct request *request, int given, char **words)
@@ -374,8 +429,9 @@ static void read_options(struct request *request, int given, char **words)
         fail(STATUS_ARGUMENTS, "--ply is given without --spacing X Y Z, the millimetres from one value to the next.");
     if (request->spacing_text[0] && !outs[PLY_FILE].name)
         fail(STATUS_ARGUMENTS, "--spacing is given without --ply OUT, and only a PLY file has millimetres.");
-    if (outs[MESH_FILE].name && outs[PLY_FILE].name && strcmp(outs[MESH_FILE].name, outs[PLY_FILE].name) == 0)
-        fail(STATUS_ARGUMENTS, "--mesh and --ply both name %s, and they must name two files.", outs[PLY_FILE].shown);
+    if (request->piece_text && !outs[PLY_FILE].name)
+        fail(STATUS_ARGUMENTS, "--piece is given without --ply OUT, and only a PLY file can have one piece alone.");
+    check_names();
 }
 
 static struct request read_arguments(int argc, char **argv)
@@ -386,8 +442,7 @@ static struct request read_arguments(int argc, char **argv)
     if (given == 1 && strcmp(argv[1], "--help") == 0)
         help();
     if (given < ARGUMENTS)
-        fail(STATUS_ARGUMENTS, "There are %d arguments, and there must be %d before any --mesh or --ply.", given,
-             ARGUMENTS);
+        fail(STATUS_ARGUMENTS, "There are %d arguments, and there must be %d before any option.", given, ARGUMENTS);
     request.file = argv[1];
     request.file_shown = shown(argv[1]);
     for (int axis = 0; axis < AXES; axis++)
@@ -412,6 +467,8 @@ static void put_request(FILE *to, const struct request *request)
     if (request->spacing_text[0])
         fprintf(to, "spacing %s %s %s\n", request->spacing_text[0], request->spacing_text[1],
                 request->spacing_text[2]);
+    if (request->piece_text)
+        fprintf(to, "piece %s\n", request->piece_text);
 }
 
 static void put_counts(FILE *to, const struct block *block, const struct mesh *mesh)
@@ -421,6 +478,7 @@ static void put_counts(FILE *to, const struct block *block, const struct mesh *m
     fprintf(to, "vertices %" PRIu32 "\n", mesh->vertex_count);
     fprintf(to, "quads %" PRIu32 "\n", mesh->quad_count);
     fprintf(to, "closed %s\n", mesh->is_closed ? "yes" : "no");
+    fprintf(to, "pieces %" PRIu32 "\n", mesh->piece_count);
     fprintf(to, "marked %" PRIu32 "\n", mesh->marked_count);
     if (outs[PLY_FILE].name)
         fprintf(to, "ply %" PRIu64 "\n", mesh->ply_len);
@@ -489,6 +547,9 @@ static void report(const struct request *request, const struct block *block, con
                "margin round it.\n");
         printf("note Compare the threshold with the values, and check the axes and the byte order.\n");
     }
+    if (outs[PIECES_FILE].name)
+        printf("note A piece is not yet a pore: the outside is a piece too, and so is a bore that does not open to it; "
+               "a pore that a side of the box cuts may be several. docs/FOR-ASSESSORS.md says how to read them.\n");
     finish(STATUS_MESH);
 }
 
@@ -646,35 +707,196 @@ static void make_mesh(const struct request *request, const struct block *block, 
         mesh->marked_count += (mesh->words[WORDS_A_VERTEX * vertex + 1] & MARK) != 0;
 }
 
-/* The library works in memory with an item for each vertex and one for each number of the quads. */
-static void check_closed(const struct request *request, struct mesh *mesh)
+/* Whether the quads over so many vertices are closed. The library works in memory with an item for each vertex and one
+   for each number of the quads. */
+static int is_closed(const struct request *request, uint32_t vertex_count, const uint32_t *quads, uint32_t quad_count)
 {
-    size_t quads_len = (size_t)VERTICES_A_QUAD * mesh->quad_count, work_len = mesh->vertex_count + quads_len;
+    size_t quads_len = (size_t)VERTICES_A_QUAD * quad_count, work_len = vertex_count + quads_len;
     uint64_t *work, needed = work_len * sizeof *work;
     uint32_t answer[CLOSED_ANSWER];
-    enter(CHECKING);
     work = room(needed, needed, "The check whether the mesh is closed");
-    parsniprow_closed_with(mesh->quads, quads_len, work, work_len, answer, CLOSED_ANSWER);
+    parsniprow_closed_with(quads, quads_len, work, work_len, answer, CLOSED_ANSWER);
     free(work);
     if (answer[0] != NO_REFUSAL)
         refuse(request, answer);
-    mesh->is_closed = answer[1] == 1;
+    return answer[1] == 1;
+}
+
+static void check_closed(const struct request *request, struct mesh *mesh)
+{
+    enter(CHECKING);
+    mesh->is_closed = is_closed(request, mesh->vertex_count, mesh->quads, mesh->quad_count);
+}
+
+static void find_pieces(const struct request *request, struct mesh *mesh)
+{
+    size_t count = mesh->vertex_count, bytes = count * sizeof *mesh->piece;
+    uint32_t answer[ANSWER];
+    enter(FINDING);
+    mesh->piece = room(bytes, 2 * bytes, "The search for pieces");
+    mesh->own = room(bytes, 2 * bytes, "The search for pieces");
+    parsniprow_pieces(mesh->vertex_count, mesh->quads, (size_t)VERTICES_A_QUAD * mesh->quad_count, mesh->piece, count,
+                      mesh->own, count, answer, ANSWER);
+    if (answer[0] != NO_REFUSAL)
+        refuse(request, answer);
+    mesh->piece_count = answer[1];
+}
+
+/* ---- the pieces, one by one ---- */
+
+/* The indices of a vertex's cube along x, y and z. */
+static void find_cube(const struct request *request, const struct mesh *mesh, size_t vertex, uint32_t *index)
+{
+    uint32_t cube = mesh->words[WORDS_A_VERTEX * vertex];
+    for (int axis = 0; axis < AXES; axis++) {
+        index[axis] = cube % (request->length[axis] - 1);
+        cube /= request->length[axis] - 1;
+    }
+}
+
+static void add_vertex(struct piece *piece, const uint32_t *cube, uint32_t word)
+{
+    for (int axis = 0; axis < AXES; axis++) {
+        if (piece->met_count == 0 || cube[axis] < piece->least[axis])
+            piece->least[axis] = cube[axis];
+        if (cube[axis] > piece->greatest[axis])
+            piece->greatest[axis] = cube[axis];
+    }
+    piece->marked_count += (word & MARK) != 0;
+    piece->met_count++;
+}
+
+/* A piece is met first at its lowest vertex, so the pieces are listed by rising number. */
+static void list_pieces(const struct request *request, struct mesh *mesh)
+{
+    uint64_t needed = mesh->piece_count * sizeof *mesh->pieces;
+    uint32_t listed = 0;
+    mesh->pieces = room(needed, needed, "The list of pieces");
+    memset(mesh->pieces, 0, needed);
+    for (uint32_t vertex = 0; vertex < mesh->vertex_count; vertex++) {
+        uint32_t lowest = mesh->piece[vertex], place = lowest == vertex ? listed++ : mesh->piece[lowest], cube[AXES];
+        struct piece *piece = &mesh->pieces[place];
+        if (lowest == vertex) {
+            piece->number = vertex;
+            piece->vertex_count = mesh->own[vertex];
+        }
+        mesh->piece[vertex] = place;
+        mesh->own[vertex] = piece->met_count;
+        find_cube(request, mesh, vertex, cube);
+        add_vertex(piece, cube, mesh->words[WORDS_A_VERTEX * vertex + 1]);
+    }
+}
+
+static struct piece *piece_of_quad(const struct mesh *mesh, size_t quad)
+{
+    return &mesh->pieces[mesh->piece[mesh->quads[VERTICES_A_QUAD * quad]]];
+}
+
+/* Counts the quads of each piece, shares the room out by these counts, and then puts each quad where it belongs. */
+static void group_quads(struct mesh *mesh)
+{
+    uint64_t needed = (uint64_t)VERTICES_A_QUAD * mesh->quad_count * sizeof *mesh->quads;
+    uint32_t *room_left = room(needed, needed, "The list of quads by piece");
+    for (size_t quad = 0; quad < mesh->quad_count; quad++)
+        piece_of_quad(mesh, quad)->quad_count++;
+    for (size_t place = 0; place < mesh->piece_count; place++) {
+        struct piece *piece = &mesh->pieces[place];
+        piece->quads = room_left;
+        room_left += (size_t)VERTICES_A_QUAD * piece->quad_count;
+        piece->quad_count = 0;
+    }
+    for (size_t quad = 0; quad < mesh->quad_count; quad++) {
+        struct piece *piece = piece_of_quad(mesh, quad);
+        uint32_t *into = piece->quads + (size_t)VERTICES_A_QUAD * piece->quad_count++;
+        for (size_t corner = 0; corner < VERTICES_A_QUAD; corner++)
+            into[corner] = mesh->own[mesh->quads[VERTICES_A_QUAD * quad + corner]];
+    }
+}
+
+/* The larger comes first: more vertices, then more quads. Of two as large it is the one with the lower number. */
+static int by_size(const void *one, const void *other)
+{
+    const struct piece *a = one, *b = other;
+    if (a->vertex_count != b->vertex_count)
+        return a->vertex_count > b->vertex_count ? -1 : 1;
+    if (a->quad_count != b->quad_count)
+        return a->quad_count > b->quad_count ? -1 : 1;
+    return (a->number > b->number) - (a->number < b->number);
+}
+
+static void check_pieces(const struct request *request, struct mesh *mesh)
+{
+    for (size_t place = 0; place < mesh->piece_count; place++) {
+        struct piece *piece = &mesh->pieces[place];
+        advance(CHECKING_EACH, place, mesh->piece_count);
+        piece->is_closed = is_closed(request, piece->vertex_count, piece->quads, piece->quad_count);
+    }
+    qsort(mesh->pieces, mesh->piece_count, sizeof *mesh->pieces, by_size);
+}
+
+/* What is asked of the pieces beyond how many there are. */
+static void tell_pieces(const struct request *request, struct mesh *mesh)
+{
+    if (outs[PIECES_FILE].name || request->piece_text) {
+        enter(LISTING);
+        list_pieces(request, mesh);
+        group_quads(mesh);
+    }
+    if (outs[PIECES_FILE].name)
+        check_pieces(request, mesh);
+    if (!request->piece_text) {
+        free(mesh->piece);
+        free(mesh->own);
+    }
+}
+
+static const struct piece *piece_asked(const struct request *request, const struct mesh *mesh)
+{
+    for (size_t place = 0; place < mesh->piece_count; place++)
+        if (mesh->pieces[place].number == request->piece)
+            return &mesh->pieces[place];
+    fail(STATUS_FAILED, "The mesh has no piece with the number %" PRIu32 ". The table that --pieces OUT writes has the "
+         "number of each piece.", request->piece);
+    return NULL;
+}
+
+/* The piece asked for as a mesh of its own. */
+static struct mesh one_piece(const struct request *request, const struct mesh *mesh)
+{
+    const struct piece *piece = piece_asked(request, mesh);
+    size_t words = WORDS_A_VERTEX * sizeof *mesh->words, offsets = OFFSETS_A_VERTEX * sizeof *mesh->offsets;
+    uint64_t needed = piece->vertex_count * (words + offsets);
+    struct mesh one = {0};
+    one.vertex_count = piece->vertex_count;
+    one.quads = piece->quads;
+    one.quad_count = piece->quad_count;
+    one.words = room(piece->vertex_count * words, needed, "The piece");
+    one.offsets = room(piece->vertex_count * offsets, needed, "The piece");
+    for (size_t vertex = 0; vertex < mesh->vertex_count; vertex++)
+        if (mesh->piece[vertex] == mesh->piece[piece->number]) {
+            size_t own = mesh->own[vertex];
+            memcpy(one.words + WORDS_A_VERTEX * own, mesh->words + WORDS_A_VERTEX * vertex, words);
+            memcpy(one.offsets + OFFSETS_A_VERTEX * own, mesh->offsets + OFFSETS_A_VERTEX * vertex, offsets);
+        }
+    return one;
 }
 
 /* The first answer says how much room is needed. It is not cut: the largest mesh needs 2430842766 bytes. */
 static void make_ply(const struct request *request, struct mesh *mesh)
 {
+    struct mesh drawn;
     uint32_t answer[ANSWER];
     uint8_t no_byte = 0;
     uint64_t needed;
     enter(DRAWING);
-    mesh->ply = &no_byte;
-    ask_ply(request, mesh, 0, answer);
+    drawn = request->piece_text ? one_piece(request, mesh) : *mesh;
+    drawn.ply = &no_byte;
+    ask_ply(request, &drawn, 0, answer);
     if (answer[0] != NO_ROOM)
         refuse(request, answer);
     needed = answer[1];
-    mesh->ply = room(needed, needed, "The PLY file");
-    mesh->ply_len = ask_ply(request, mesh, needed, answer);
+    drawn.ply = mesh->ply = room(needed, needed, "The PLY file");
+    mesh->ply_len = ask_ply(request, &drawn, needed, answer);
     if (answer[0] != NO_REFUSAL)
         refuse(request, answer);
 }
@@ -713,12 +935,11 @@ static FILE *open_part(struct out *out)
 
 static int put_vertex(FILE *to, const struct request *request, const struct mesh *mesh, size_t vertex)
 {
-    uint32_t cube = mesh->words[WORDS_A_VERTEX * vertex], word = mesh->words[WORDS_A_VERTEX * vertex + 1];
-    uint32_t along_x = request->length[0] - 1, along_y = request->length[1] - 1;
     const double *offset = mesh->offsets + OFFSETS_A_VERTEX * vertex;
-    return fprintf(to, "v %zu %" PRIu32 " %" PRIu32 " %" PRIu32 " %.17g %.17g %.17g %04" PRIX32 "\n", vertex,
-                   cube % along_x, cube / along_x % along_y, cube / along_x / along_y, offset[0], offset[1], offset[2],
-                   word) > 0;
+    uint32_t cube[AXES];
+    find_cube(request, mesh, vertex, cube);
+    return fprintf(to, "v %zu %" PRIu32 " %" PRIu32 " %" PRIu32 " %.17g %.17g %.17g %04" PRIX32 "\n", vertex, cube[0],
+                   cube[1], cube[2], offset[0], offset[1], offset[2], mesh->words[WORDS_A_VERTEX * vertex + 1]) > 0;
 }
 
 static int put_quad(FILE *to, const struct mesh *mesh, size_t quad)
@@ -764,11 +985,33 @@ static int put_ply(FILE *to, const struct mesh *mesh)
     return 1;
 }
 
+static int put_piece(FILE *to, const struct piece *piece)
+{
+    const uint32_t *least = piece->least, *greatest = piece->greatest;
+    const char *closed = piece->quad_count == 0 ? "-" : piece->is_closed ? "yes" : "no";
+    return fprintf(to, "%" PRIu32 ",%" PRIu32 ",%" PRIu32 ",%" PRIu32 ",%" PRIu32 ",%" PRIu32 ",%" PRIu32 ",%" PRIu32
+                   ",%" PRIu32 ",%s,%" PRIu32 "\n", piece->number, piece->vertex_count, piece->quad_count, least[0],
+                   greatest[0], least[1], greatest[1], least[2], greatest[2], closed, piece->marked_count) > 0;
+}
+
+static int put_pieces(FILE *to, const struct mesh *mesh)
+{
+    fputs("piece,vertices,quads,x-least,x-greatest,y-least,y-greatest,z-least,z-greatest,closed,marked\n", to);
+    for (size_t place = 0; place < mesh->piece_count; place++) {
+        advance(WRITING, place, mesh->piece_count);
+        if (!put_piece(to, &mesh->pieces[place]))
+            return 0;
+    }
+    return !ferror(to);
+}
+
 static void write_part(int which, const struct request *request, const struct block *block, const struct mesh *mesh)
 {
     struct out *out = &outs[which];
     FILE *to = open_part(out);
-    if (!(which == PLY_FILE ? put_ply(to, mesh) : put_mesh(to, request, block, mesh)) || fclose(to) != 0)
+    int is_put = which == MESH_FILE ? put_mesh(to, request, block, mesh)
+                 : which == PLY_FILE ? put_ply(to, mesh) : put_pieces(to, mesh);
+    if (!is_put || fclose(to) != 0)
         fail(STATUS_FAILED, "%s could not be written to its end: %s. Nothing of it is left. Make room, or name "
              "another folder.", out->shown, strerror(errno));
 }
@@ -812,6 +1055,8 @@ int main(int argc, char **argv)
     count_ceilings(&block);
     make_mesh(&request, &block, &mesh);
     check_closed(&request, &mesh);
+    find_pieces(&request, &mesh);
+    tell_pieces(&request, &mesh);
     if (outs[PLY_FILE].name)
         make_ply(&request, &mesh);
     write_files(&request, &block, &mesh);
