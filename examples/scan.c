@@ -847,6 +847,7 @@ static void tell_pieces(const struct request *request, struct mesh *mesh)
     if (!request->piece_text) {
         free(mesh->piece);
         free(mesh->own);
+        mesh->piece = mesh->own = NULL;
     }
 }
 

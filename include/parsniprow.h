@@ -26,7 +26,7 @@
      3       t is 0 or 65535                   t
      5       words_len is under 2, or          vertices needed
              offsets_len under 3, a vertex;
-             piece_len or size_len is under 1
+             piece_len or size_len is under n
      6       quads_len is under 4 a quad       quads needed
      7       quads_len is no multiple of 4     quads_len modulo 4
      13      a spacing is not above 0, or      lowest such axis, 0 to 2
@@ -147,7 +147,7 @@ void parsniprow_closed_with(const uint32_t *quads, size_t quads_len, uint64_t *w
 
 /* The pieces of a list of quads over n vertices. Two vertices belong to one piece if a chain of quads joins them. A
    vertex in no quad is a piece of its own. The number of a piece is its lowest vertex. The time grows with n and with
-   the list, and no work memory is needed but the two buffers.
+   the list, each at most times the base-two logarithm of n, and no memory is needed but the two buffers.
      n       the number of vertices
      quads   4 vertex numbers a quad, each below n
      piece   room for 1 item a vertex: the number of its piece

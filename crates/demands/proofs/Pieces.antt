@@ -91,7 +91,7 @@ module _ (n : ℕ) (quads piece size : List ℕ) (p : Parts) (piece′ size′ :
       ∙ over-front (sizes n (promise .numbers)) size v 0 (rw (each-length (members n (promise .numbers)) n) h)
       ∙ each-at (members n (promise .numbers)) n v 0 h
 
-  -- "each vertex's number is the lowest vertex that a chain of quads joins it with"
+  -- "a piece's number is its lowest vertex": the lowest that a chain of quads joins the vertex with
   pub number-found : (v : ℕ) → v < n → PieceOf quads v (getD piece′ v 0)
   number-found v h = subst (PieceOf quads v) (sym (number-at v h)) (numbers-right .number v h)
 

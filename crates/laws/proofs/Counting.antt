@@ -1,17 +1,20 @@
 -- How many numbers below n pass a test: bounds, sums of two ranges, and the count over a box, which is a product.
 -- Assumes nothing.
 use Prim.Native.Nat.{ℕ, zero, suc, _+_, _*_, _-_, _/_, _%_, _≤_, _<_}
-use mathlib.Core.Path.{_≡_, refl, ap, ap₂, _∙_}
+use mathlib.Core.Path.{_≡_, refl, ap, ap₂, sym, _∙_}
 use mathlib.Core.Bool.{Bool, true, false, _&&_}
 use mathlib.Core.Logic.{⊎-elim}
 use mathlib.Core.List.{List}
 use native.Mathlib.Nat.{add-zero, add-suc, add-comm, zero-mul, mul-zero, mul-suc, mul-add, add-mul, add-assoc, eq-or-lt-of-le, le-of-suc-le-suc, not-suc-le-zero}
 use native.Mathlib.Numerals.{add-one}
 use native.Mathlib.Omega.{arith}
+use lib.Dec.{eqb}
 use lib.ListN.{length, length-append}
+use borrow.Author.Tests.{eq-eqb, ne-eqb}
 use Rattle.laws.specs.Bits.{bit}
 use Rattle.laws.specs.Counting.{count}
 use Rattle.laws.specs.Below.{below}
+use Rattle.laws.proofs.Bits.{bit-le}
 use Rattle.laws.proofs.Index.{pair-mod, pair-div}
 
 pub count-same : (f g : ℕ → Bool) (n : ℕ) → ((m : ℕ) → m < n → f m ≡ g m) → count f n ≡ count g n
@@ -63,6 +66,26 @@ pub count-le : (f g : ℕ → Bool) (n : ℕ) → ((m : ℕ) → m < n → bit (
 unfolding count
 count-le f g zero h = omega arith
 count-le f g (suc n) h = omega (arith, count-le f g n (λ m l. h m (omega arith)), h n (omega arith))
+
+pub count-le-all : (f : ℕ → Bool) (n : ℕ) → count f n ≤ n
+unfolding count
+count-le-all f zero = omega arith
+count-le-all f (suc n) = omega (arith, count-le-all f n, bit-le (f n))
+
+-- a number passes h if it passes f or g, of which it passes one at most
+pub count-two : (f g h : ℕ → Bool) (n : ℕ) → ((m : ℕ) → m < n → bit (h m) ≡ bit (f m) + bit (g m)) → count h n ≡ count f n + count g n
+unfolding count
+count-two f g h zero e = refl
+count-two f g h (suc n) e = omega (arith, count-two f g h n (λ m l. e m (omega arith)), e n (omega arith))
+
+-- just one number is k
+pub count-this : (n k : ℕ) → k < n → count (λ (m : ℕ). eqb m k) n ≡ 1
+unfolding count
+count-this zero k h = absurd (not-suc-le-zero h)
+count-this (suc n) k h =
+    ⊎-elim (λ (e : k ≡ n). rw (eq-eqb n k (sym e)) (omega (arith, clear-count (λ (m : ℕ). eqb m k) n (λ m l. ne-eqb m k (λ z. omega (arith, z, e, l))))))
+    (λ (l : k < n). rw (ne-eqb n k (λ z. omega (arith, z, l))) (omega (arith, count-this n k l)))
+    (eq-or-lt-of-le (le-of-suc-le-suc h))
 
 -- a test that every number passes, or every number but 0
 pub count-all : (f : ℕ → Bool) (n : ℕ) → ((m : ℕ) → m < n → f m ≡ true) → count f n ≡ n

@@ -2,13 +2,13 @@
 -- Assumes nothing.
 use mathlib.Core.Path.{_≡_, refl, ap, sym, _∙_}
 use mathlib.Core.Logic.{_⊎_, inl, inr}
-use mathlib.Core.List.{List, [], _∷_, _++_, append-assoc}
+use mathlib.Core.List.{List, [], _∷_, _++_, append-assoc, append-nil}
 use Prim.Native.Nat.{ℕ, zero, suc, _+_, _-_, _≤_, _<_}
 use native.Mathlib.Nat.{eq-or-lt-of-le, le-of-suc-le-suc, not-suc-le-zero}
 use native.Mathlib.Numerals.{add-one}
 use native.Mathlib.Omega.{arith}
 use lib.ListN.{length, getD, set, take, drop, length-append, length-drop, List·getD-append}
-use lib.Seq.{drop-cons, take-at, set-at, getD-at, getD-append-add, getD-drop}
+use lib.Seq.{drop-length, drop-cons, take-at, set-at, getD-at, getD-append-add, getD-drop}
 use Rattle.laws.specs.Below.{below, over}
 
 pub over-length : {A : Type 0} (xs b : List A) → length xs ≤ length b → length (over xs b) ≡ length b
@@ -58,6 +58,11 @@ module _ {A : Type 0} (f : ℕ → A) where
 
     pub over-put : (l : List A) (n : ℕ) (v : A) → l ≡ over (each n) b → v ≡ f n → n < length b → set l n v ≡ over (each (n + 1)) b
     over-put l n v e ev h = rw (e, ev) (over-more n h)
+
+    -- every place of the buffer
+    pub over-each : (n : ℕ) → length b ≡ n → over (each n) b ≡ each n
+    unfolding over
+    over-each n e = rw (each-length n, ← e, drop-length b) (append-nil _)
 
     -- a place that is written
     pub over-at : (n i : ℕ) (d : A) → i < n → getD (over (each n) b) i d ≡ f i

@@ -20,7 +20,7 @@ unfolding total
 total-same f g zero e = refl
 total-same f g (suc n) e = ap₂ (λ (x y : ℕ). x + y) (e n (omega arith)) (total-same f g n (λ m l. e m (omega arith)))
 
-total-plus : (f g : ℕ → ℕ) (n : ℕ) → total (λ (x : ℕ). f x + g x) n ≡ total f n + total g n
+pub total-plus : (f g : ℕ → ℕ) (n : ℕ) → total (λ (x : ℕ). f x + g x) n ≡ total f n + total g n
 unfolding total
 total-plus f g zero = refl
 total-plus f g (suc n) = omega (arith, total-plus f g n)
@@ -30,7 +30,7 @@ unfolding total
 total-four f g k l zero = refl
 total-four f g k l (suc n) = omega (arith, total-four f g k l n)
 
-total-nothing : (n : ℕ) → total (λ (x : ℕ). 0) n ≡ 0
+pub total-nothing : (n : ℕ) → total (λ (x : ℕ). 0) n ≡ 0
 unfolding total
 total-nothing zero = refl
 total-nothing (suc n) = omega (arith, total-nothing n)

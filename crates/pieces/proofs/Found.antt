@@ -20,7 +20,8 @@ use Rattle.pieces.specs.declared.Pieced.the-variants as pieced
 use Rattle.pieces.specs.Chains.{PieceOf}
 use Rattle.pieces.specs.Forest.{State, at, topOf, begin, after}
 use Rattle.pieces.specs.Answer.{Numbers, members, sizes, partsOf, PiecesBy}
-use Rattle.pieces.specs.Steps.{stored, Standing, AllBelow, low, Numbered}
+use Rattle.pieces.specs.Rules.{AllBelow}
+use Rattle.pieces.specs.Steps.{stored, Standing, low, Numbered}
 use Rattle.pieces.proofs.Joins.{Stands}
 use Rattle.pieces.proofs.Quads.{joined-to, piece-is}
 

@@ -13,7 +13,8 @@ use Rattle.laws.proofs.Over.{each-length, each-at}
 use Rattle.laws.proofs.Tests.{lt-or-ge}
 use Rattle.pieces.specs.Chains.{VertexOf, Chain, none, one, more, PieceOf}
 use Rattle.pieces.specs.Forest.{State, at, topOf, begin, join, joinQuad, after}
-use Rattle.pieces.specs.Steps.{stored, Standing, AllBelow, low}
+use Rattle.pieces.specs.Rules.{AllBelow}
+use Rattle.pieces.specs.Steps.{stored, Standing, low}
 use Rattle.pieces.proofs.Trees.{start, settled}
 use Rattle.pieces.proofs.Lowest.{low-le, low-lt, low-root}
 use Rattle.pieces.proofs.Joins.{Stands, top, Sound, Next, join-next, Short, join-short}

@@ -17,7 +17,7 @@ use Rattle.lists.specs.Rows.{lengthRow, quadBelow, numberRow}
 use Rattle.lists.proofs.Rows.{length-exactly}
 use Rattle.pieces.specs.Forest.{at}
 use Rattle.pieces.specs.Answer.{bufferRow, piecesVerdict}
-use Rattle.pieces.specs.Steps.{AllBelow}
+use Rattle.pieces.specs.Rules.{AllBelow}
 
 -- row 14 passes: each number is below n
 pub all-below : (n : ℕ) (quads : List ℕ) → length quads % 4 ≡ 0 → numberRow n quads ≡ Passes → AllBelow n quads

@@ -1,7 +1,7 @@
 -- What makes the promise of `pieces` believable: one number exactly if a chain joins, sizes that sum to n, a vertex in no quad, a list without quads, and
 -- the bound of the longest search.
 -- Assumes nothing.
-use Prim.Native.Nat.{ℕ, suc, _/_, _%_, _^_, _≤_, _<_}
+use Prim.Native.Nat.{ℕ, suc, _*_, _/_, _%_, _^_, _≤_, _<_}
 use mathlib.Core.Path.{_≡_, refl, ap, sym, _∙_, subst}
 use mathlib.Core.Bool.{Bool, true, false}
 use mathlib.Core.Logic.{_↔_, _⊎_, inl, inr}
@@ -12,15 +12,15 @@ use lib.Dec.{eqb}
 use lib.ListN.{length, getD}
 use lib.Pow.{pow-pos, pow-mono}
 use borrow.Author.Tests.{eq-eqb, ne-eqb, eqb-true, eqb-false}
+use Rattle.laws.specs.Counting.{count}
 use Rattle.laws.specs.Pack.{total}
-use Rattle.laws.proofs.Counting.{count-all, clear-count, count-same}
+use Rattle.laws.proofs.Counting.{count-all, clear-count, count-same, count-this}
 use Rattle.laws.proofs.Tests.{lt-or-ge}
 use Rattle.pieces.specs.Chains.{Chain, none, more}
-use Rattle.pieces.specs.Forest.{State, longestSearch}
+use Rattle.pieces.specs.Forest.{State, at, topOf, after, longestSearch}
 use Rattle.pieces.specs.Answer.{Numbers, members, piecesIn}
-use Rattle.pieces.specs.Steps.{AllBelow}
-use Rattle.pieces.specs.Rules.{InNoQuad, WholeLog}
-use Rattle.pieces.proofs.Counts.{count-this, taken-once}
+use Rattle.pieces.specs.Rules.{AllBelow, InNoQuad, WholeLog}
+use Rattle.pieces.proofs.Counts.{taken-once}
 use Rattle.pieces.proofs.Chains.{turn, alone-chain}
 use Rattle.pieces.proofs.Quads.{joined-to, after-none}
 use Rattle.pieces.proofs.Fixed.{piece-fixed}
@@ -87,6 +87,15 @@ no-quads-longest n = ap (λ (st : State). st .longest) (after-none n [])
 module _ (n : ℕ) (quads : List ℕ) (few : n < 4294967296) (whole : length quads % 4 ≡ 0) (below : AllBelow n quads) where
   pub longest-bound : 0 < n → 2 ^ longestSearch n quads ≤ n
   longest-bound some = joined-to n few quads below (length quads / 4) (omega arith) .short some
+
+  -- the stored state after m quads: a search of n steps ends at a top, and the size of a top is how many vertices have it
+  pub search-ends : (m : ℕ) → 4 * m ≤ length quads → (v : ℕ) → v < n
+      → at (after n quads m .up) (topOf (at (after n quads m .up)) n v) ≡ topOf (at (after n quads m .up)) n v
+  search-ends m h v l = joined-to n few quads below m h .stands .trees .tops v l
+
+  pub size-of-top : (m : ℕ) → 4 * m ≤ length quads → (r : ℕ) → r < n → at (after n quads m .up) r ≡ r
+      → at (after n quads m .size) r ≡ count (λ (v : ℕ). eqb (topOf (at (after n quads m .up)) n v) r) n
+  size-of-top m h r l e = joined-to n few quads below m h .stands .trees .counted r l e
 
   pub longest-log : (k : ℕ) → WholeLog n k → longestSearch n quads ≤ k
   longest-log k w = go (lt-or-ge k (longestSearch n quads))

@@ -1,4 +1,4 @@
--- What a search needs to know: it follows no more links than it has steps, and at a top it is over.
+-- Searches: one follows no more links than it has steps, at a top it is over, in trees it finds a top, and where something falls at each link it comes to an end.
 -- Assumes nothing.
 use Prim.Native.Nat.{ℕ, zero, suc, _+_, _≤_, _<_}
 use mathlib.Core.Path.{_≡_, refl, ap, sym, _∙_}

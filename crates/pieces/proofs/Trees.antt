@@ -10,10 +10,9 @@ use lib.Dec.{eqb}
 use borrow.Author.Tests.{eq-eqb, ne-eqb, eqb-true, eqb-false}
 use Rattle.laws.specs.Bits.{bit}
 use Rattle.laws.specs.Counting.{count}
-use Rattle.laws.proofs.Counting.{count-same}
+use Rattle.laws.proofs.Counting.{count-same, count-le-all, count-two, count-this}
 use Rattle.pieces.specs.Forest.{topOf, linksOf}
 use Rattle.pieces.specs.Steps.{Trees}
-use Rattle.pieces.proofs.Counts.{count-le-all, count-two, count-this}
 
 -- ---- trees
 

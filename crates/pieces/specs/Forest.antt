@@ -1,5 +1,5 @@
 -- The stored state by which pieces are found: links from vertex to vertex, and how many vertices hang under each top (document 02, Six). What is promised
--- of pieces does not speak of it. Only the links of the longest search do.
+-- of pieces does not speak of it, but for the links of the longest search.
 use Prim.Native.Nat.{ℕ, zero, suc, _+_, _*_, _/_, max}
 use mathlib.Core.Bool.{Bool, cond, _&&_, _||_}
 use mathlib.Core.List.{List, [], _∷_}
@@ -50,7 +50,7 @@ united a b st = cond (eqb a b) st (cond (goesUnder (st .size) a b) (hung a b st)
 abbrev pub counted : ℕ → ℕ → State → State
 counted k l st = record { up = st .up; size = st .size; longest = max (st .longest) (max k l) }
 
--- "each join searches both tops": v and w of n vertices. No search needs n steps (`search-is`).
+-- "each join searches both tops": v and w of n vertices. So many steps are always enough (`found`).
 unfoldable pub join : ℕ → ℕ → ℕ → State → State
 join n v w st =
     united (topOf (at (st .up)) n v) (topOf (at (st .up)) n w)

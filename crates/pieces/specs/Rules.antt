@@ -1,8 +1,14 @@
--- Words for the theorems about pieces: a vertex in no quad, and the whole part of a logarithm.
+-- Words for the theorems about pieces: numbers below a bound, a vertex in no quad, and the whole part of a logarithm.
 -- Assumes nothing.
 use Prim.Native.Nat.{ℕ, suc, _^_, _≤_, _<_}
 use mathlib.Core.List.{List}
+use lib.ListN.{length}
 use Rattle.pieces.specs.Chains.{VertexOf}
+use Rattle.pieces.specs.Forest.{at}
+
+-- each number of a list is below n
+abbrev pub AllBelow : ℕ → List ℕ → Type 0
+AllBelow n quads = (k : ℕ) → k < length quads → at quads k < n
 
 -- v is in no quad
 abbrev pub InNoQuad : List ℕ → ℕ → Type 0

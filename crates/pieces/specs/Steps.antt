@@ -52,10 +52,6 @@ pub record Tops (n : ℕ) (up : List ℕ) (a b : ℕ) : Type 0 where
 abbrev pub Unites : ℕ → ℕ → List ℕ → List ℕ → List ℕ → List ℕ → Type 0
 Unites a b up size up′ size′ = (k : ℕ) → stored up′ size′ k ≡ united a b (stored up size k)
 
--- each number of a list is below n
-abbrev pub AllBelow : ℕ → List ℕ → Type 0
-AllBelow n quads = (k : ℕ) → k < length quads → at quads k < n
-
 -- the lowest vertex below n with the top r
 abbrev pub lowestWith : ℕ → (ℕ → ℕ) → ℕ → ℕ
 lowestWith n root r = leading (λ (w : ℕ). not (eqb (root w) r)) n

@@ -4,13 +4,14 @@
 use block::Checked;
 use block::Refusal;
 ghost use mathlib.Core.Path.{_≡_};
-ghost use Prim.Native.Nat.{_+_, _*_, _/_, _%_, _≤_, _<_, max};
+ghost use Prim.Native.Nat.{_+_, _/_, _%_, _≤_, _<_, max};
 ghost use mathlib.Core.Bool.{_&&_, _||_};
 ghost use lib.Dec.{eqb, ltb};
 ghost use lib.ListN.{length, set};
 ghost use Rattle.pieces.specs.Forest.{at, topOf, linksOf, begin, join, joinQuad, after};
 ghost use Rattle.pieces.specs.Answer.{bufferRow, piecesVerdict, Numbers, sizes, partsOf, PiecesFound};
-ghost use Rattle.pieces.specs.Steps.{stored, Ends, Standing, Tops, Unites, AllBelow, NumberedOne, Numbered};
+ghost use Rattle.pieces.specs.Rules.{AllBelow};
+ghost use Rattle.pieces.specs.Steps.{stored, Ends, Standing, Tops, Unites, NumberedOne, Numbered};
 
 // How many pieces there are, and the links followed in the longest single search.
 pub struct Parts {
