@@ -1,5 +1,5 @@
--- After the quads have joined their vertices, two vertices have one top if a chain of quads joins them, and only then. No search has followed more
--- links than the whole part of the base-two logarithm of the number of vertices.
+-- One join: the links stay those of trees, its two vertices have one top then, vertices that had one top have one still, and where a chain of quads joins
+-- the two, vertices with one top are joined by a chain. Its two searches are short. Then what the code makes of it.
 -- Assumes nothing.
 use Prim.Native.Nat.{ℕ, suc, _+_, _^_, _≤_, _<_, max}
 use mathlib.Core.Path.{_≡_, refl, ap, sym, _∙_, subst}

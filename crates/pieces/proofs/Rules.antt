@@ -1,5 +1,5 @@
--- What makes the promise of `pieces` believable: one number exactly if a chain joins, sizes that sum to n, a vertex in no quad, a list without quads, and
--- the bound of the longest search.
+-- What makes the promise of `pieces` believable: one number exactly if a chain joins, sizes that sum to n, a vertex in no quad, a list without quads,
+-- what the stored state says of tops and sizes, and the bound of the longest search.
 -- Assumes nothing.
 use Prim.Native.Nat.{ℕ, suc, _*_, _/_, _%_, _^_, _≤_, _<_}
 use mathlib.Core.Path.{_≡_, refl, ap, sym, _∙_, subst}
