@@ -2,20 +2,22 @@
 -- the two, vertices with one top are joined by a chain. Its two searches are short. Then what the code makes of it.
 -- Assumes nothing.
 use Prim.Native.Nat.{ℕ, suc, _+_, _^_, _≤_, _<_, max}
-use mathlib.Core.Path.{_≡_, refl, ap, sym, _∙_, subst}
-use mathlib.Core.Bool.{Bool, true, false, cond}
+use mathlib.Core.Path.{_≡_, refl, ap, ap₂, sym, _∙_, subst}
+use mathlib.Core.Bool.{Bool, true, false, not, cond, _&&_}
 use mathlib.Core.Logic.{_⊎_, inl, inr}
 use mathlib.Core.List.{List, []}
 use native.Mathlib.Omega.{arith}
 use lib.Dec.{eqb}
 use lib.ListN.{length, set, length-set}
 use borrow.Author.Tests.{eq-eqb, ne-eqb, eqb-true, eqb-false}
+use Rattle.laws.specs.Bits.{bit}
 use Rattle.laws.proofs.Tests.{lt-or-ge}
 use Rattle.pieces.specs.Chains.{Chain, more}
 use Rattle.pieces.specs.Forest.{State, at, topOf, linksOf, hung, goesUnder, united, counted, join, joinQuad}
-use Rattle.pieces.specs.Steps.{stored, Trees, Standing, Unites}
+use Rattle.pieces.specs.Steps.{stored, Trees, Standing, Tops, Unites, Follows, Joins}
 use Rattle.pieces.proofs.Trees.{hungUp, hungSize, hang, small, found, settled}
 use Rattle.pieces.proofs.Chains.{turn}
+use Rattle.pieces.proofs.Searches.{at-top, one-link, tops}
 use Rattle.pieces.proofs.Stored.{set-as}
 use Rattle.pieces.proofs.Unites.{under-true, under-false}
 
@@ -45,6 +47,9 @@ module _ (n : ℕ) (quads : List ℕ) where
   abbrev pub top : State → ℕ → ℕ
   top st x = topOf (at (st .up)) n x
 
+  abbrev pub links : State → ℕ → ℕ
+  links st x = linksOf (at (st .up)) n x
+
   -- vertices with one top are joined by a chain
   abbrev pub Sound : State → Type 0
   Sound st = (x y : ℕ) → x < n → y < n → top st x ≡ top st y → Chain quads x y
@@ -54,6 +59,8 @@ module _ (n : ℕ) (quads : List ℕ) where
     pub stands : Stands n st′
     pub keep : (x y : ℕ) → x < n → y < n → top st x ≡ top st y → top st′ x ≡ top st′ y
     pub done : top st′ v ≡ top st′ w
+    -- a way goes on from the top that it had
+    pub onward : (x : ℕ) → x < n → (top st′ x ≡ top st′ (top st x)) × (links st′ x ≡ links st x + links st′ (top st x))
     pub sound : Sound st → Chain quads v w → Sound st′
 
   -- c, the top of v, is hung under d, the top of w
@@ -68,6 +75,10 @@ module _ (n : ℕ) (quads : List ℕ) where
     };
     keep = λ x y hx hy e. is x hx ∙ ap (λ (r : ℕ). cond (eqb r c) d r) e ∙ sym (is y hy);
     done = is v hv ∙ from-v ∙ sym from-w ∙ sym (is w hw);
+    onward = λ x hx. (
+      is x hx ∙ sym (ap (λ (r : ℕ). cond (eqb r c) d r) (own x hx)) ∙ sym (is (top st x) (S .trees .inside x hx)),
+      found grown x hx .1 ∙ longer (eqb (top st x) c) (links st x) ∙ ap (λ (k : ℕ). links st x + k) (sym (found grown (top st x) (S .trees .inside x hx) .1 ∙ rw (own x hx, still x hx))),
+    );
     sound = λ s j x y hx hy e. chained s j x y hx hy (eqb (top st x) c) (eqb (top st y) c) refl refl (sym (is x hx) ∙ e ∙ is y hy);
   }
     where
@@ -92,6 +103,17 @@ module _ (n : ℕ) (quads : List ℕ) where
       is : (x : ℕ) → x < n → top (hung c d st) x ≡ new x
       is x hx = found grown x hx .0
 
+      -- a top is its own, by no link
+      own : (x : ℕ) → x < n → top st (top st x) ≡ top st x
+      own x hx = S .trees .stay (top st x) (S .trees .inside x hx) (S .trees .tops x hx) .0
+
+      still : (x : ℕ) → x < n → links st (top st x) ≡ 0
+      still x hx = S .trees .stay (top st x) (S .trees .inside x hx) (S .trees .tops x hx) .1
+
+      longer : (b : Bool) (k : ℕ) → cond b (suc k) k ≡ k + cond b 1 0
+      longer true k = omega arith
+      longer false k = omega arith
+
       from-v : new v ≡ d
       from-v = rw (ev, eq-eqb c c refl)
 
@@ -109,7 +131,7 @@ module _ (n : ℕ) (quads : List ℕ) where
   united-next st S v w hv hw = go (eqb (top st v) (top st w)) refl
     where
       swap : (st′ : State) → Next st st′ w v → Next st st′ v w
-      swap st′ N = record { stands = N .stands; keep = N .keep; done = sym (N .done); sound = λ s j. N .sound s (turn j) }
+      swap st′ N = record { stands = N .stands; keep = N .keep; done = sym (N .done); onward = N .onward; sound = λ s j. N .sound s (turn j) }
 
       two : (x : Bool) → goesUnder (st .size) (top st v) (top st w) ≡ x → (top st v ≡ top st w → ⊥)
           → Next st (cond x (hung (top st v) (top st w) st) (hung (top st w) (top st v) st)) v w
@@ -118,14 +140,22 @@ module _ (n : ℕ) (quads : List ℕ) where
 
       go : (x : Bool) → eqb (top st v) (top st w) ≡ x
           → Next st (cond x st (cond (goesUnder (st .size) (top st v) (top st w)) (hung (top st v) (top st w) st) (hung (top st w) (top st v) st))) v w
-      go true e = record { stands = S; keep = λ x y hx hy z. z; done = eqb-true (top st v) (top st w) e; sound = λ s j. s }
+      go true e = record {
+        stands = S;
+        keep = λ x y hx hy z. z;
+        done = eqb-true (top st v) (top st w) e;
+        onward = λ x hx.
+            let s = S .trees .stay (top st x) (S .trees .inside x hx) (S .trees .tops x hx) in
+            (sym (s .0), omega (arith, s .1));
+        sound = λ s j. s;
+      }
       go false e = two (goesUnder (st .size) (top st v) (top st w)) refl (eqb-false (top st v) (top st w) e)
 
   pub join-next : (st : State) → Stands n st → (v w : ℕ) → v < n → w < n → Next st (join n v w st) v w
   unfolding join
   join-next st S v w hv hw =
       let N = united-next (counted (linksOf (at (st .up)) n v) (linksOf (at (st .up)) n w) st) S v w hv hw in
-      record { stands = N .stands; keep = N .keep; done = N .done; sound = N .sound }
+      record { stands = N .stands; keep = N .keep; done = N .done; onward = N .onward; sound = N .sound }
 
   -- the longest search so far is short
   abbrev pub Short : State → Type 0
@@ -163,6 +193,77 @@ join-is up size up′ size′ v w longest r a b k l ea ek eb el u er =
     ap (stored up′ size′) er
     ∙ u (max longest (max k l))
     ∙ (λ p. united (ea p) (eb p) (stored up size (max longest (max (ek p) (el p)))))
+
+-- where the first of two tops hangs once they are united
+hung-top : {n : ℕ} {up size : List ℕ} {a b : ℕ} → Standing n up size → Tops n up a b → (up′ size′ : List ℕ) → Unites a b up size up′ size′
+    → (topOf (at up′) n a ≡ cond (not (eqb a b) && goesUnder size a b) b a) × (linksOf (at up′) n a ≡ bit (not (eqb a b) && goesUnder size a b))
+hung-top {n} {up} {size} {a} {b} S t up′ size′ u = go (eqb a b) (goesUnder size a b) refl refl
+  where
+    stored-up : (x y : Bool) → eqb a b ≡ x → goesUnder size a b ≡ y → up′ ≡ (cond x (stored up size 0) (cond y (hung a b (stored up size 0)) (hung b a (stored up size 0)))) .up
+    stored-up x y p q = ap (λ (st : State). st .up) (u 0) ∙ ap₂ (λ (c d : Bool). (cond c (stored up size 0) (cond d (hung a b (stored up size 0)) (hung b a (stored up size 0)))) .up) p q
+
+    -- a stays a top
+    as-it-was : at up′ a ≡ a → (topOf (at up′) n a ≡ a) × (linksOf (at up′) n a ≡ 0)
+    as-it-was e = at-top (at up′) n a e
+
+    go : (x y : Bool) → eqb a b ≡ x → goesUnder size a b ≡ y → (topOf (at up′) n a ≡ cond (not x && y) b a) × (linksOf (at up′) n a ≡ bit (not x && y))
+    go true y p q = as-it-was (ap (λ (l : List ℕ). at l a) (stored-up true y p q) ∙ t .first-top)
+    go false false p q =
+        as-it-was (ap (λ (l : List ℕ). at l a) (stored-up false false p q) ∙ (λ i. set-as up b a (rw (S .up-length) (t .second-lt)) i a) ∙ rw (p) (t .first-top))
+    go false true p q = one-link (at up′) n a b (t .first-lt) (λ e. eqb-false a b p (sym e)) here there
+      where
+        here : at up′ a ≡ b
+        here = ap (λ (l : List ℕ). at l a) (stored-up false true p q) ∙ (λ i. set-as up a b (rw (S .up-length) (t .first-lt)) i a) ∙ rw (eq-eqb a a refl)
+
+        there : at up′ b ≡ b
+        there = ap (λ (l : List ℕ). at l b) (stored-up false true p q) ∙ (λ i. set-as up a b (rw (S .up-length) (t .first-lt)) i b) ∙ rw (ne-eqb b a (λ e. eqb-false a b p (sym e))) (t .second-top)
+
+-- a vertex whose way is known is joined with w: its top and that of w are united, and its way goes on
+joins-is : (up size up′ size′ : List ℕ) (w a k longest b l a′ k′ longest′ : ℕ) (c : Bool) → w < length up → Standing (length up) up size
+    → b ≡ topOf (at up) (length up) w → l ≡ linksOf (at up) (length up) w
+    → Unites a b up size up′ size′ → c ≡ (not (eqb a b) && goesUnder size a b)
+    → longest′ ≡ max longest (max k l) → a′ ≡ cond c b a → k′ ≡ k + bit c
+    → Joins w up size a k longest up′ size′ a′ k′ longest′
+joins-is up size up′ size′ w a k longest b l a′ k′ longest′ c hw S eb el u ec em ea ek = λ v F. (is v F, way v F)
+  where
+    is : (v : ℕ) → Follows (length up) up v a k → stored up′ size′ longest′ ≡ join (length up) v w (stored up size longest)
+    is v F = join-is up size up′ size′ v w longest longest′ a b k l (F .finds) (F .follows) eb el u em
+
+    way : (v : ℕ) → Follows (length up) up v a k → Follows (length up) up′ v a′ k′
+    way v F =
+        let t = tops S v w (F .inside) hw a b (F .finds) eb in
+        let h = hung-top S t up′ size′ u in
+        let o = subst (λ (st : State). (topOf (at (st .up)) (length up) v ≡ topOf (at (st .up)) (length up) (topOf (at up) (length up) v)) × (linksOf (at (st .up)) (length up) v ≡ linksOf (at up) (length up) v + linksOf (at (st .up)) (length up) (topOf (at up) (length up) v)))
+        (sym (is v F)) (join-next (length up) [] (stored up size longest) S v w (F .inside) hw .onward v (F .inside)) in
+        record {
+          inside = F .inside;
+          finds = ea ∙ ap (λ (x : Bool). cond x b a) ec ∙ sym (h .0) ∙ ap (topOf (at up′) (length up)) (F .finds) ∙ sym (o .0);
+          follows = ek ∙ ap₂ (λ (x y : ℕ). x + y) (F .follows) (ap bit ec ∙ sym (h .1) ∙ ap (linksOf (at up′) (length up)) (F .finds)) ∙ sym (o .1);
+        }
+
+-- by a link, where its top was hung, or not at all
+pub joins-under : (up size up′ size′ : List ℕ) (w a k longest b l longest′ : ℕ) (c : Bool) → w < length up → Standing (length up) up size
+    → b ≡ topOf (at up) (length up) w → l ≡ linksOf (at up) (length up) w
+    → Unites a b up size up′ size′ → c ≡ (not (eqb a b) && goesUnder size a b)
+    → longest′ ≡ max longest (max k l) → c ≡ true → Joins w up size a k longest up′ size′ b (k + 1) longest′
+joins-under up size up′ size′ w a k longest b l longest′ c hw S eb el u ec em t =
+    joins-is up size up′ size′ w a k longest b l b (k + 1) longest′ c hw S eb el u ec em (sym (ap (λ (x : Bool). cond x b a) t)) (sym (ap (λ (x : Bool). k + bit x) t))
+
+pub joins-over : (up size up′ size′ : List ℕ) (w a k longest b l longest′ : ℕ) (c : Bool) → w < length up → Standing (length up) up size
+    → b ≡ topOf (at up) (length up) w → l ≡ linksOf (at up) (length up) w
+    → Unites a b up size up′ size′ → c ≡ (not (eqb a b) && goesUnder size a b)
+    → longest′ ≡ max longest (max k l) → c ≡ false → Joins w up size a k longest up′ size′ a k longest′
+joins-over up size up′ size′ w a k longest b l longest′ c hw S eb el u ec em t =
+    joins-is up size up′ size′ w a k longest b l a k longest′ c hw S eb el u ec em (sym (ap (λ (x : Bool). cond x b a) t)) (omega (arith, ap bit t))
+
+-- and then it can be joined again
+pub ready-on : (up size up′ size′ : List ℕ) (v w a k longest a′ k′ longest′ : ℕ) → w < length up → Standing (length up) up size → Follows (length up) up v a k
+    → Joins w up size a k longest up′ size′ a′ k′ longest′
+    → (length up′ ≡ length up) × Standing (length up′) up′ size′ × Follows (length up′) up′ v a′ k′ × (stored up′ size′ longest′ ≡ join (length up) v w (stored up size longest))
+ready-on up size up′ size′ v w a k longest a′ k′ longest′ hw S F J =
+    let j = J v F in
+    let r = ready-again up size up′ size′ longest longest′ v w (F .inside) hw S (j .0) in
+    (r .0, r .1, subst (λ (m : ℕ). Follows m up′ v a′ k′) (sym (r .0)) (j .1), j .0)
 
 -- three joins of one quad
 pub quad-is : (n m l v0 v1 v2 v3 : ℕ) (st a b c : State) → a ≡ join n v0 v1 st → m ≡ n → b ≡ join m v0 v2 a → l ≡ n → c ≡ join l v0 v3 b → c ≡ joinQuad n v0 v1 v2 v3 st

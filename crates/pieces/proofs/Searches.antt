@@ -25,6 +25,14 @@ unfolding topOf linksOf
 at-top up zero v e = (refl, refl)
 at-top up (suc steps) v e = (rw (eq-eqb (up v) v e), rw (eq-eqb (up v) v e))
 
+-- one link from a top
+pub one-link : (up : ℕ → ℕ) (n v w : ℕ) → v < n → (w ≡ v → ⊥) → up v ≡ w → up w ≡ w → (topOf up n v ≡ w) × (linksOf up n v ≡ 1)
+unfolding topOf linksOf
+one-link up zero v w h ne e f = absurd (omega arith)
+one-link up (suc n) v w h ne e f =
+    let t = at-top up n w f in
+    (rw (e, ne-eqb w v ne) (t .0), rw (e, ne-eqb w v ne) (ap suc (t .1)))
+
 module _ {n : ℕ} {up : List ℕ} (E : Ends n up) where
   -- a link leads to a vertex
   pub inside : (v : ℕ) → v < n → at up v < n

@@ -1,8 +1,8 @@
 -- Two tops are united: which goes under which, and that both trees together have no more than n vertices.
 -- Assumes nothing.
 use Prim.Native.Nat.{ℕ, _+_, _≤_, _<_}
-use mathlib.Core.Path.{_≡_, refl}
-use mathlib.Core.Bool.{Bool, true, false, _&&_, _||_}
+use mathlib.Core.Path.{_≡_, refl, sym, _∙_}
+use mathlib.Core.Bool.{Bool, true, false, not, _&&_, _||_}
 use mathlib.Core.List.{List}
 use native.Mathlib.Omega.{arith}
 use lib.Dec.{eqb, ltb}
@@ -43,14 +43,16 @@ under-false size a b = go (ltb (at size a) (at size b)) refl
 -- ---- and what is stored then
 
 module _ (up size : List ℕ) (a b : ℕ) where
-  pub unites-one : a ≡ b → Unites a b up size up size
-  unites-one e = λ k. rw (eq-eqb a b e)
+  pub unites-one : a ≡ b → Unites a b up size up size × (false ≡ (not (eqb a b) && goesUnder size a b))
+  unites-one e = (λ k. rw (eq-eqb a b e), rw (eq-eqb a b e))
 
-  pub unites-under : (up′ size′ : List ℕ) (c : Bool) → (a ≡ b → ⊥) → c ≡ goesUnder size a b → c ≡ true → up′ ≡ set up a b → size′ ≡ set (set size b (at size a + at size b)) a 0 → Unites a b up size up′ size′
-  unites-under up′ size′ c ne g t eu es = λ k. rw (ne-eqb a b ne, ← g, t, eu, es)
+  pub unites-under : (up′ size′ : List ℕ) (c : Bool) → (a ≡ b → ⊥) → c ≡ goesUnder size a b → c ≡ true → up′ ≡ set up a b → size′ ≡ set (set size b (at size a + at size b)) a 0
+      → Unites a b up size up′ size′ × (true ≡ (not (eqb a b) && goesUnder size a b))
+  unites-under up′ size′ c ne g t eu es = (λ k. rw (ne-eqb a b ne, ← g, t, eu, es), rw (ne-eqb a b ne) (sym (sym g ∙ t)))
 
-  pub unites-over : (up′ size′ : List ℕ) (c : Bool) → (a ≡ b → ⊥) → c ≡ goesUnder size a b → c ≡ false → up′ ≡ set up b a → size′ ≡ set (set size a (at size b + at size a)) b 0 → Unites a b up size up′ size′
-  unites-over up′ size′ c ne g t eu es = λ k. rw (ne-eqb a b ne, ← g, t, eu, es)
+  pub unites-over : (up′ size′ : List ℕ) (c : Bool) → (a ≡ b → ⊥) → c ≡ goesUnder size a b → c ≡ false → up′ ≡ set up b a → size′ ≡ set (set size a (at size b + at size a)) b 0
+      → Unites a b up size up′ size′ × (false ≡ (not (eqb a b) && goesUnder size a b))
+  unites-over up′ size′ c ne g t eu es = (λ k. rw (ne-eqb a b ne, ← g, t, eu, es), rw (ne-eqb a b ne) (sym (sym g ∙ t)))
 
 -- two tops can be hung, either under the other
 pub hangable : {n : ℕ} {up size : List ℕ} {a b : ℕ} → Standing n up size → Tops n up a b → (a ≡ b → ⊥)

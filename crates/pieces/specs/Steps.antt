@@ -9,7 +9,7 @@ use lib.ListN.{length, set}
 use Rattle.laws.specs.Bits.{bit}
 use Rattle.laws.specs.Counting.{count}
 use Rattle.laws.specs.Leading.{leading}
-use Rattle.pieces.specs.Forest.{State, at, topOf, linksOf, united}
+use Rattle.pieces.specs.Forest.{State, at, topOf, linksOf, united, join}
 
 -- the stored state by its parts
 abbrev pub stored : List ℕ → List ℕ → ℕ → State
@@ -51,6 +51,23 @@ pub record Tops (n : ℕ) (up : List ℕ) (a b : ℕ) : Type 0 where
 -- links and sizes after two tops are united; what is counted of searches is the same
 abbrev pub Unites : ℕ → ℕ → List ℕ → List ℕ → List ℕ → List ℕ → Type 0
 Unites a b up size up′ size′ = (k : ℕ) → stored up′ size′ k ≡ united a b (stored up size k)
+
+-- a search from v finds this top by so many links
+pub record Follows (n : ℕ) (up : List ℕ) (v top links : ℕ) : Type 0 where
+  pub inside : v < n
+  pub finds : top ≡ topOf (at up) n v
+  pub follows : links ≡ linksOf (at up) n v
+
+-- a search from some vertex does
+pub record Reached (n : ℕ) (up : List ℕ) (top links : ℕ) : Type 0 where
+  pub from : ℕ
+  pub way : Follows n up from top links
+
+-- the vertex whose way is known, whichever it is, is joined with w, and its way is known then
+abbrev pub Joins : ℕ → List ℕ → List ℕ → ℕ → ℕ → ℕ → List ℕ → List ℕ → ℕ → ℕ → ℕ → Type 0
+Joins w up size top links longest up′ size′ top′ links′ longest′ =
+    (v : ℕ) → Follows (length up) up v top links
+    → (stored up′ size′ longest′ ≡ join (length up) v w (stored up size longest)) × Follows (length up) up′ v top′ links′
 
 -- the lowest vertex below n with the top r
 abbrev pub lowestWith : ℕ → (ℕ → ℕ) → ℕ → ℕ

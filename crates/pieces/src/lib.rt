@@ -5,13 +5,13 @@ use block::Checked;
 use block::Refusal;
 ghost use mathlib.Core.Path.{_≡_};
 ghost use Prim.Native.Nat.{_+_, _/_, _%_, _≤_, _<_, max};
-ghost use mathlib.Core.Bool.{_&&_, _||_};
+ghost use mathlib.Core.Bool.{not, _&&_, _||_};
 ghost use lib.Dec.{eqb, ltb};
 ghost use lib.ListN.{length, set};
-ghost use Rattle.pieces.specs.Forest.{at, topOf, linksOf, begin, join, joinQuad, after};
+ghost use Rattle.pieces.specs.Forest.{at, topOf, linksOf, begin, goesUnder, joinQuad, after};
 ghost use Rattle.pieces.specs.Answer.{bufferRow, piecesVerdict, Numbers, sizes, partsOf, PiecesFound};
 ghost use Rattle.pieces.specs.Rules.{AllBelow};
-ghost use Rattle.pieces.specs.Steps.{stored, Ends, Standing, Tops, Unites, NumberedOne, Numbered};
+ghost use Rattle.pieces.specs.Steps.{stored, Ends, Standing, Tops, Unites, Reached, Joins, NumberedOne, Numbered};
 
 // How many pieces there are, and the links followed in the longest single search.
 pub struct Parts {
@@ -29,6 +29,13 @@ pub enum Pieced {
 struct Way {
     top: u32,
     links: u32,
+}
+
+// The way of the first vertex of a quad to its top, and the longest search so far.
+struct Walk {
+    top: u32,
+    links: u32,
+    longest: u32,
 }
 
 // Row 5: either buffer is shorter than the number of vertices.
@@ -124,30 +131,43 @@ fn goes_under(s: u32, t: u32, a: u32, b: u32) -> bool
     false
 }
 
-// Two tops become one: one of them is hung under the other.
-fn unite(up: &mut [u32], size: &mut [u32], a: u32, b: u32)
+// Two tops become one: one of them is hung under the other. The answer is whether it is the first.
+fn unite(up: &mut [u32], size: &mut [u32], a: u32, b: u32) -> bool
     requires { ⌜ Standing (length (now up)) (now up) (now size) × Tops (length (now up)) (now up) a b ⌝ }
-    ensures { λ _. ⌜ Unites a b (now (up .entry)) (now (size .entry)) (now (up .exit)) (now (size .exit)) ⌝ }
+    ensures { λ r. ⌜ Unites a b (now (up .entry)) (now (size .entry)) (now (up .exit)) (now (size .exit)) ⌝ }
+    ensures { λ r. ⌜ r ≡ (not (eqb a b) && goesUnder (now (size .entry)) a b) ⌝ }
 {
     if a == b {
-        return;
+        return false;
     }
     if goes_under(size[a as usize], size[b as usize], a, b) {
         hang(up, size, a, b);
-    } else {
-        hang(up, size, b, a);
+        return true;
     }
+    hang(up, size, b, a);
+    false
 }
 
-// Two vertices are joined. The answer is the longest search so far.
-fn join(up: &mut [u32], size: &mut [u32], v: u32, w: u32, longest: u32) -> u32
-    requires { ⌜ (v < length (now up)) × (w < length (now up)) × Standing (length (now up)) (now up) (now size) ⌝ }
-    ensures { λ r. ⌜ stored (now (up .exit)) (now (size .exit)) r ≡ join (length (now (up .entry))) v w (stored (now (up .entry)) (now (size .entry)) longest) ⌝ }
+// A vertex whose way is known is joined with another. Its way goes on by a link if its top is hung, and else it stays: so it is not searched again.
+fn join(up: &mut [u32], size: &mut [u32], first: Walk, w: u32) -> Walk
+    requires { ⌜ (w < length (now up)) × Standing (length (now up)) (now up) (now size) × Reached (length (now up)) (now up) (first .top) (first .links) ⌝ }
+    ensures { λ r. ⌜ Joins w (now (up .entry)) (now (size .entry)) (first .top) (first .links) (first .longest) (now (up .exit)) (now (size .exit)) (r .top) (r .links) (r .longest) ⌝ }
 {
-    let first = search(up, v);
     let second = search(up, w);
-    unite(up, size, first.top, second.top);
-    larger(longest, larger(first.links, second.links))
+    let under = unite(up, size, first.top, second.top);
+    let longest = larger(first.longest, larger(first.links, second.links));
+    if under {
+        return Walk {
+            top: second.top,
+            links: first.links + 1,
+            longest,
+        };
+    }
+    Walk {
+        top: first.top,
+        links: first.links,
+        longest,
+    }
 }
 
 // The first vertex of a quad is joined with the second, the third and the fourth.
@@ -163,9 +183,20 @@ fn join_quad(
     requires { ⌜ (v0 < length (now up)) × (v1 < length (now up)) × (v2 < length (now up)) × (v3 < length (now up)) × Standing (length (now up)) (now up) (now size) ⌝ }
     ensures { λ r. ⌜ stored (now (up .exit)) (now (size .exit)) r ≡ joinQuad (length (now (up .entry))) v0 v1 v2 v3 (stored (now (up .entry)) (now (size .entry)) longest) ⌝ }
 {
-    let a = join(up, size, v0, v1, longest);
-    let b = join(up, size, v0, v2, a);
-    join(up, size, v0, v3, b)
+    let way = search(up, v0);
+    let a = join(
+        up,
+        size,
+        Walk {
+            top: way.top,
+            links: way.links,
+            longest,
+        },
+        v1,
+    );
+    let b = join(up, size, a, v2);
+    let c = join(up, size, b, v3);
+    c.longest
 }
 
 // All quads, in order. The answer is the longest search.

@@ -1,32 +1,43 @@
--- `join_quad` meets its contract.
+-- `join_quad` meets its contract: the way of the first vertex is known at each join.
 -- Assumes nothing.
 use mathlib.Core.Path.{_∙_}
-use Rattle.pieces.proofs.Joins.{ready-again, quad-is}
+use lib.ListN.{length}
+use Rattle.pieces.specs.Steps.{Follows}
+use Rattle.pieces.proofs.Joins.{ready-on, quad-is}
 use borrow.Author.Needs.{needs}
 use Rattle.pieces.proofs.join_quad.Statement.{statement}
 use Rattle.pieces.proofs.join_quad.Tie as tie
 use Rattle.pieces.proofs.join_quad.Reads as reads
 use Rattle.pieces.proofs.join_quad.Lts as lts
 use Rattle.pieces.proofs.join.Reads as join-reads
+use Rattle.pieces.proofs.search.Reads as search-reads
+
+search-requires : tie.Need-search-requires
+search-requires c κs = search needs
 
 join-requires : tie.Need-join-requires
-join-requires c κs = search needs
+join-requires c κs =
+    let first = c .before .before .before .before .before .before in
+    let w = c .before .before .search .ensures in
+    let f : Follows (length (first .args .up .now)) (first .args .up .now) (first .args .v0) _ _ = record { inside = first .pre .0; finds = w .0; follows = w .1 .0 } in
+    (first .pre .1, first .pre .4, record { from = first .args .v0; way = f })
 
 join-requires-2 : tie.Need-join-requires-2
 join-requires-2 c κs =
-    let first = c .before .before .before .before .before .before .before .before .before .before .before in
-    let a = c .before .before .before .before .before .before .join in
-    let n = ready-again (first .args .up .now) (first .args .size .now) _ _ _ _ _ _ (first .pre .0) (first .pre .1) (first .pre .4) (a .ensures) in
-    (rw (n .0) (first .pre .0), rw (n .0) (first .pre .2), n .1)
+    let first = c .before .before .before .before .before .before .before .before .before .before .before .before .before in
+    let w = c .before .before .before .before .before .before .before .before .before .search .ensures in
+    let f : Follows (length (first .args .up .now)) (first .args .up .now) (first .args .v0) _ _ = record { inside = first .pre .0; finds = w .0; follows = w .1 .0 } in
+    let a = ready-on (first .args .up .now) (first .args .size .now) _ _ (first .args .v0) _ _ _ _ _ _ _ (first .pre .1) (first .pre .4) f (c .before .before .before .before .before .before .join .ensures) in
+    (rw (a .0) (first .pre .2), a .1, record { from = first .args .v0; way = a .2 })
 
 join-requires-3 : tie.Need-join-requires-3
 join-requires-3 c κs =
-    let first = c .before .before .before .before .before .before .before .before .before .before .before .before .before .before .before .before .before .before in
-    let a = c .before .before .before .before .before .before .before .before .before .before .before .before .before .join in
-    let b = c .before .before .before .before .before .before .join2 in
-    let n = ready-again (first .args .up .now) (first .args .size .now) _ _ _ _ _ _ (first .pre .0) (first .pre .1) (first .pre .4) (a .ensures) in
-    let m = ready-again _ _ _ _ _ _ _ _ (rw (n .0) (first .pre .0)) (rw (n .0) (first .pre .2)) (n .1) (b .ensures) in
-    (rw (m .0, n .0) (first .pre .0), rw (m .0, n .0) (first .pre .3), m .1)
+    let first = c .before .before .before .before .before .before .before .before .before .before .before .before .before .before .before .before .before .before .before .before in
+    let w = c .before .before .before .before .before .before .before .before .before .before .before .before .before .before .before .before .search .ensures in
+    let f : Follows (length (first .args .up .now)) (first .args .up .now) (first .args .v0) _ _ = record { inside = first .pre .0; finds = w .0; follows = w .1 .0 } in
+    let a = ready-on (first .args .up .now) (first .args .size .now) _ _ (first .args .v0) _ _ _ _ _ _ _ (first .pre .1) (first .pre .4) f (c .before .before .before .before .before .before .before .before .before .before .before .before .before .join .ensures) in
+    let b = ready-on _ _ _ _ (first .args .v0) _ _ _ _ _ _ _ (rw (a .0) (first .pre .2)) (a .1) (a .2) (c .before .before .before .before .before .before .join2 .ensures) in
+    (rw (b .0, a .0) (first .pre .3), b .1, record { from = first .args .v0; way = b .2 })
 
 same-length : tie.Need-same-length
 same-length c = search needs
@@ -36,14 +47,21 @@ same-length-2 c = search needs
 
 returns : tie.Need-returns
 returns c =
-    let first = c .before .before .before .before .before .before .before .before .before .before .before .before .before .before .before .before .before .before .before .before .before .before .before in
-    let a = c .before .before .before .before .before .before .before .before .before .before .before .before .before .before .before .before .before .before .join in
-    let b = c .before .before .before .before .before .before .before .before .before .before .before .join2 in
-    let n = ready-again (first .args .up .now) (first .args .size .now) _ _ _ _ _ _ (first .pre .0) (first .pre .1) (first .pre .4) (a .ensures) in
-    let m = ready-again _ _ _ _ _ _ _ _ (rw (n .0) (first .pre .0)) (rw (n .0) (first .pre .2)) (n .1) (b .ensures) in
-    quad-is _ _ _ _ _ _ _ _ _ _ _ (a .ensures) (n .0) (b .ensures) (m .0 ∙ n .0) (c .before .before .before .before .join3 .ensures)
+    let first = c .before .before .before .before .before .before .before .before .before .before .before .before .before .before .before .before .before .before .before .before .before .before .before .before .before in
+    let w = c .before .before .before .before .before .before .before .before .before .before .before .before .before .before .before .before .before .before .before .before .before .search .ensures in
+    let f : Follows (length (first .args .up .now)) (first .args .up .now) (first .args .v0) _ _ = record { inside = first .pre .0; finds = w .0; follows = w .1 .0 } in
+    let a = ready-on (first .args .up .now) (first .args .size .now) _ _ (first .args .v0) _ _ _ _ _ _ _ (first .pre .1) (first .pre .4) f (c .before .before .before .before .before .before .before .before .before .before .before .before .before .before .before .before .before .before .join .ensures) in
+    let b = ready-on _ _ _ _ (first .args .v0) _ _ _ _ _ _ _ (rw (a .0) (first .pre .2)) (a .1) (a .2) (c .before .before .before .before .before .before .before .before .before .before .before .join2 .ensures) in
+    quad-is _ _ _ _ _ _ _ _ _ _ _ (a .3) (a .0) (b .3) (b .0 ∙ a .0) ((c .before .before .before .before .join3 .ensures) (first .args .v0) (b .2) .0)
 
 pub join-quad-spec : {M : Type 1} → statement M
 join-quad-spec =
     tie.close
-    (tie.spec join-requires join-requires-2 join-requires-3 same-length same-length-2 returns)
+    (tie.spec
+    search-requires
+    join-requires
+    join-requires-2
+    join-requires-3
+    same-length
+    same-length-2
+    returns)

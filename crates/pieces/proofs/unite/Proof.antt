@@ -31,9 +31,6 @@ goes-under-requires c κs = search needs
 hang-requires : tie.Need-hang-requires
 hang-requires c κs = hangable (c .before .before .before .before .before .before .before .before .before .pre .0) (c .before .before .before .before .before .before .before .before .before .pre .1) (c .before .before .before .before .before .before .if1 .left)
 
-hang-requires-2 : tie.Need-hang-requires-2
-hang-requires-2 c κs = hangable (c .before .before .before .before .before .before .before .before .before .pre .0) (turned (c .before .before .before .before .before .before .before .before .before .pre .1)) (λ e. c .before .before .before .before .before .before .if1 .left (sym e))
-
 same-length : tie.Need-same-length
 same-length c = search needs
 
@@ -45,6 +42,9 @@ returns-2 c =
     let first = c .before .before .before .before .before .before .before .before .before .before .before .before .before .before in
     let h = c .before .before .before .before .hang in
     unites-under (first .args .up .now) (first .args .size .now) _ _ _ _ _ (c .before .before .before .before .before .before .before .before .before .before .before .if1 .left) (c .before .before .before .before .before .before .before .before .goes-under .ensures) (c .before .before .before .before .before .before .before .if2 .taken) (h .ensures .0) (h .ensures .1)
+
+hang-requires-2 : tie.Need-hang-requires-2
+hang-requires-2 c κs = hangable (c .before .before .before .before .before .before .before .before .before .pre .0) (turned (c .before .before .before .before .before .before .before .before .before .pre .1)) (λ e. c .before .before .before .before .before .before .if1 .left (sym e))
 
 same-length-3 : tie.Need-same-length-3
 same-length-3 c = search needs
@@ -69,10 +69,10 @@ unite-spec =
     slice-read-goes-under-2
     goes-under-requires
     hang-requires
-    hang-requires-2
     same-length
     same-length-2
     returns-2
+    hang-requires-2
     same-length-3
     same-length-4
     returns-3)
