@@ -12,29 +12,30 @@ use Rattle.pieces.proofs.join_quad.Lts as lts
 use Rattle.pieces.proofs.join.Reads as join-reads
 use Rattle.pieces.proofs.search.Reads as search-reads
 
+-- the way of the first vertex, as the search found it
+abbrev way-found : (c : tie.After-search) → let a = c .before .before .before .before .args in Follows (length (a .up .now)) (a .up .now) (a .v0) (c .search .result .top) (c .search .result .links)
+way-found c = record { inside = c .before .before .before .before .pre .0; finds = c .search .ensures .0; follows = c .search .ensures .1 .0 }
+
 search-requires : tie.Need-search-requires
 search-requires c κs = search needs
 
 join-requires : tie.Need-join-requires
 join-requires c κs =
     let first = c .before .before .before .before .before .before in
-    let w = c .before .before .search .ensures in
-    let f : Follows (length (first .args .up .now)) (first .args .up .now) (first .args .v0) _ _ = record { inside = first .pre .0; finds = w .0; follows = w .1 .0 } in
+    let f = way-found (c .before .before) in
     (first .pre .1, first .pre .4, record { from = first .args .v0; way = f })
 
 join-requires-2 : tie.Need-join-requires-2
 join-requires-2 c κs =
     let first = c .before .before .before .before .before .before .before .before .before .before .before .before .before in
-    let w = c .before .before .before .before .before .before .before .before .before .search .ensures in
-    let f : Follows (length (first .args .up .now)) (first .args .up .now) (first .args .v0) _ _ = record { inside = first .pre .0; finds = w .0; follows = w .1 .0 } in
+    let f = way-found (c .before .before .before .before .before .before .before .before .before) in
     let a = ready-on (first .args .up .now) (first .args .size .now) _ _ (first .args .v0) _ _ _ _ _ _ _ (first .pre .1) (first .pre .4) f (c .before .before .before .before .before .before .join .ensures) in
     (rw (a .0) (first .pre .2), a .1, record { from = first .args .v0; way = a .2 })
 
 join-requires-3 : tie.Need-join-requires-3
 join-requires-3 c κs =
     let first = c .before .before .before .before .before .before .before .before .before .before .before .before .before .before .before .before .before .before .before .before in
-    let w = c .before .before .before .before .before .before .before .before .before .before .before .before .before .before .before .before .search .ensures in
-    let f : Follows (length (first .args .up .now)) (first .args .up .now) (first .args .v0) _ _ = record { inside = first .pre .0; finds = w .0; follows = w .1 .0 } in
+    let f = way-found (c .before .before .before .before .before .before .before .before .before .before .before .before .before .before .before .before) in
     let a = ready-on (first .args .up .now) (first .args .size .now) _ _ (first .args .v0) _ _ _ _ _ _ _ (first .pre .1) (first .pre .4) f (c .before .before .before .before .before .before .before .before .before .before .before .before .before .join .ensures) in
     let b = ready-on _ _ _ _ (first .args .v0) _ _ _ _ _ _ _ (rw (a .0) (first .pre .2)) (a .1) (a .2) (c .before .before .before .before .before .before .join2 .ensures) in
     (rw (b .0, a .0) (first .pre .3), b .1, record { from = first .args .v0; way = b .2 })
@@ -48,8 +49,7 @@ same-length-2 c = search needs
 returns : tie.Need-returns
 returns c =
     let first = c .before .before .before .before .before .before .before .before .before .before .before .before .before .before .before .before .before .before .before .before .before .before .before .before .before in
-    let w = c .before .before .before .before .before .before .before .before .before .before .before .before .before .before .before .before .before .before .before .before .before .search .ensures in
-    let f : Follows (length (first .args .up .now)) (first .args .up .now) (first .args .v0) _ _ = record { inside = first .pre .0; finds = w .0; follows = w .1 .0 } in
+    let f = way-found (c .before .before .before .before .before .before .before .before .before .before .before .before .before .before .before .before .before .before .before .before .before) in
     let a = ready-on (first .args .up .now) (first .args .size .now) _ _ (first .args .v0) _ _ _ _ _ _ _ (first .pre .1) (first .pre .4) f (c .before .before .before .before .before .before .before .before .before .before .before .before .before .before .before .before .before .before .join .ensures) in
     let b = ready-on _ _ _ _ (first .args .v0) _ _ _ _ _ _ _ (rw (a .0) (first .pre .2)) (a .1) (a .2) (c .before .before .before .before .before .before .before .before .before .before .before .join2 .ensures) in
     quad-is _ _ _ _ _ _ _ _ _ _ _ (a .3) (a .0) (b .3) (b .0 ∙ a .0) ((c .before .before .before .before .join3 .ensures) (first .args .v0) (b .2) .0)
