@@ -155,11 +155,11 @@ void parsniprow_closed_with(const uint32_t *quads, size_t quads_len, uint64_t *w
              vertex 0
      answer  answer place, 3 items: 0, pieces, links of the longest search; or refusal (7, 14 or 5, tried in this
              order), its value, 0
-   The library joins the first vertex of each quad with the second, the third and the fourth, in the order of the list.
-   For each of these joins it looks for the top of both vertices, link by link, and hangs the top with fewer vertices
-   under the other, or where both have as many, the higher under the lower. No link is shortened while it joins. The
-   third number of the answer says how many links the longest of these searches followed. It is 0 without quads, and at
-   most the whole part of the base-two logarithm of n.
+   What the third number of the answer counts: the first vertex of each quad is joined with the second, the third and
+   the fourth, in the order of the list. Each join searches the tops of both vertices, link by link, and hangs the top
+   with fewer vertices under the other, or where both have as many, the higher under the lower. No link is shortened.
+   The number is how many links the longest of these searches follows. It is 0 without quads, and at most the whole
+   part of the base-two logarithm of n.
    The buffers keep their contents on refusal, and always behind the n items. */
 void parsniprow_pieces(uint32_t n, const uint32_t *quads, size_t quads_len, uint32_t *piece, size_t piece_len,
                        uint32_t *size, size_t size_len, uint32_t *answer, size_t answer_len);

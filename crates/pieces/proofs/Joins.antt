@@ -218,43 +218,35 @@ hung-top {n} {up} {size} {a} {b} S t up′ size′ u = go (eqb a b) (goesUnder s
         there : at up′ b ≡ b
         there = ap (λ (l : List ℕ). at l b) (stored-up false true p q) ∙ (λ i. set-as up a b (rw (S .up-length) (t .first-lt)) i b) ∙ rw (ne-eqb b a (λ e. eqb-false a b p (sym e))) (t .second-top)
 
--- a vertex whose way is known is joined with w: its top and that of w are united, and its way goes on
-joins-is : (up size up′ size′ : List ℕ) (w a k longest b l a′ k′ longest′ : ℕ) (c : Bool) → w < length up → Standing (length up) up size
-    → b ≡ topOf (at up) (length up) w → l ≡ linksOf (at up) (length up) w
-    → Unites a b up size up′ size′ → c ≡ (not (eqb a b) && goesUnder size a b)
-    → longest′ ≡ max longest (max k l) → a′ ≡ cond c b a → k′ ≡ k + bit c
-    → Joins w up size a k longest up′ size′ a′ k′ longest′
-joins-is up size up′ size′ w a k longest b l a′ k′ longest′ c hw S eb el u ec em ea ek = λ v F. (is v F, way v F)
-  where
-    is : (v : ℕ) → Follows (length up) up v a k → stored up′ size′ longest′ ≡ join (length up) v w (stored up size longest)
-    is v F = join-is up size up′ size′ v w longest longest′ a b k l (F .finds) (F .follows) eb el u em
+-- A vertex whose way is known, by k links to a, is joined with w, whose way is known by l links to b: their tops are united, and c says whether a was hung.
+module _ (up size up′ size′ : List ℕ) (w a k longest b l longest′ : ℕ) (c : Bool) (hw : w < length up) (S : Standing (length up) up size)
+    (eb : b ≡ topOf (at up) (length up) w) (el : l ≡ linksOf (at up) (length up) w)
+    (u : Unites a b up size up′ size′) (ec : c ≡ (not (eqb a b) && goesUnder size a b)) (em : longest′ ≡ max longest (max k l)) where
+  is-joined : (v : ℕ) → Follows (length up) up v a k → stored up′ size′ longest′ ≡ join (length up) v w (stored up size longest)
+  is-joined v F = join-is up size up′ size′ v w longest longest′ a b k l (F .finds) (F .follows) eb el u em
 
-    way : (v : ℕ) → Follows (length up) up v a k → Follows (length up) up′ v a′ k′
-    way v F =
-        let t = tops S v w (F .inside) hw a b (F .finds) eb in
-        let h = hung-top S t up′ size′ u in
-        let o = subst (λ (st : State). (topOf (at (st .up)) (length up) v ≡ topOf (at (st .up)) (length up) (topOf (at up) (length up) v)) × (linksOf (at (st .up)) (length up) v ≡ linksOf (at up) (length up) v + linksOf (at (st .up)) (length up) (topOf (at up) (length up) v)))
-        (sym (is v F)) (join-next (length up) [] (stored up size longest) S v w (F .inside) hw .onward v (F .inside)) in
-        record {
-          inside = F .inside;
-          finds = ea ∙ ap (λ (x : Bool). cond x b a) ec ∙ sym (h .0) ∙ ap (topOf (at up′) (length up)) (F .finds) ∙ sym (o .0);
-          follows = ek ∙ ap₂ (λ (x y : ℕ). x + y) (F .follows) (ap bit ec ∙ sym (h .1) ∙ ap (linksOf (at up′) (length up)) (F .finds)) ∙ sym (o .1);
-        }
+  -- its way goes on
+  goes-on : (a′ k′ : ℕ) → a′ ≡ cond c b a → k′ ≡ k + bit c → Joins w up size a k longest up′ size′ a′ k′ longest′
+  goes-on a′ k′ ea ek = λ v F. (is-joined v F, way v F)
+    where
+      way : (v : ℕ) → Follows (length up) up v a k → Follows (length up) up′ v a′ k′
+      way v F =
+          let t = tops S v w (F .inside) hw a b (F .finds) eb in
+          let h = hung-top S t up′ size′ u in
+          let o = subst (λ (st : State). (topOf (at (st .up)) (length up) v ≡ topOf (at (st .up)) (length up) (topOf (at up) (length up) v)) × (linksOf (at (st .up)) (length up) v ≡ linksOf (at up) (length up) v + linksOf (at (st .up)) (length up) (topOf (at up) (length up) v)))
+          (sym (is-joined v F)) (join-next (length up) [] (stored up size longest) S v w (F .inside) hw .onward v (F .inside)) in
+          record {
+            inside = F .inside;
+            finds = ea ∙ ap (λ (x : Bool). cond x b a) ec ∙ sym (h .0) ∙ ap (topOf (at up′) (length up)) (F .finds) ∙ sym (o .0);
+            follows = ek ∙ ap₂ (λ (x y : ℕ). x + y) (F .follows) (ap bit ec ∙ sym (h .1) ∙ ap (linksOf (at up′) (length up)) (F .finds)) ∙ sym (o .1);
+          }
 
--- by a link, where its top was hung, or not at all
-pub joins-under : (up size up′ size′ : List ℕ) (w a k longest b l longest′ : ℕ) (c : Bool) → w < length up → Standing (length up) up size
-    → b ≡ topOf (at up) (length up) w → l ≡ linksOf (at up) (length up) w
-    → Unites a b up size up′ size′ → c ≡ (not (eqb a b) && goesUnder size a b)
-    → longest′ ≡ max longest (max k l) → c ≡ true → Joins w up size a k longest up′ size′ b (k + 1) longest′
-joins-under up size up′ size′ w a k longest b l longest′ c hw S eb el u ec em t =
-    joins-is up size up′ size′ w a k longest b l b (k + 1) longest′ c hw S eb el u ec em (sym (ap (λ (x : Bool). cond x b a) t)) (sym (ap (λ (x : Bool). k + bit x) t))
+  -- by a link, where its top was hung, or not at all
+  pub joins-under : c ≡ true → Joins w up size a k longest up′ size′ b (k + 1) longest′
+  joins-under t = goes-on b (k + 1) (sym (ap (λ (x : Bool). cond x b a) t)) (sym (ap (λ (x : Bool). k + bit x) t))
 
-pub joins-over : (up size up′ size′ : List ℕ) (w a k longest b l longest′ : ℕ) (c : Bool) → w < length up → Standing (length up) up size
-    → b ≡ topOf (at up) (length up) w → l ≡ linksOf (at up) (length up) w
-    → Unites a b up size up′ size′ → c ≡ (not (eqb a b) && goesUnder size a b)
-    → longest′ ≡ max longest (max k l) → c ≡ false → Joins w up size a k longest up′ size′ a k longest′
-joins-over up size up′ size′ w a k longest b l longest′ c hw S eb el u ec em t =
-    joins-is up size up′ size′ w a k longest b l a k longest′ c hw S eb el u ec em (sym (ap (λ (x : Bool). cond x b a) t)) (omega (arith, ap bit t))
+  pub joins-over : c ≡ false → Joins w up size a k longest up′ size′ a k longest′
+  joins-over t = goes-on a k (sym (ap (λ (x : Bool). cond x b a) t)) (omega (arith, ap bit t))
 
 -- and then it can be joined again
 pub ready-on : (up size up′ size′ : List ℕ) (v w a k longest a′ k′ longest′ : ℕ) → w < length up → Standing (length up) up size → Follows (length up) up v a k
