@@ -11,9 +11,10 @@ use Rattle.block.specs.declared.Checked.the-variants.{Refuses}
 use Rattle.block.specs.declared.Cut.{Cut}
 use Rattle.block.specs.declared.Size.{Size}
 use Rattle.block.specs.Numbering.{sampleCount}
-use Rattle.block.specs.Answer.{given}
+use Rattle.block.specs.Answer.{given, inOrder}
+use Rattle.block.specs.Block.{blockRows}
 use Rattle.block.specs.Ceilings.{ceilingsIn}
-use Rattle.block.specs.Rows.{countRow, thresholdRow, roomRow}
+use Rattle.block.specs.Rows.{thresholdRow, roomRow}
 
 -- of `Size::nx`, `Size::ny` and `Size::nz`
 pub nx-fixed : (n : Size) → Fixes (λ (r : ℕ). r ≡ n .nx)
@@ -29,9 +30,9 @@ nz-fixed n = equation-fixes (n .nz)
 pub samples-fixed : (n : Size) → Fixes (λ (r : ℕ). (r ≡ sampleCount n) × (r ≤ 16777216))
 samples-fixed n a b p q = equation-fixes (sampleCount n) a b (p .0) (q .0)
 
--- of `check_count`, `check_threshold` and `check_room`
-pub check-count-fixed : (n : Size) (count : ℕ) → Fixes (λ (r : Checked). r ≡ countRow n count)
-check-count-fixed n count = equation-fixes (countRow n count)
+-- of `check_block`, `check_threshold` and `check_room`
+pub check-block-fixed : (n : Size) (s : List ℕ) (cut : Cut) → Fixes (λ (r : Checked). r ≡ inOrder (blockRows n s cut))
+check-block-fixed n s cut = equation-fixes (inOrder (blockRows n s cut))
 
 pub check-threshold-fixed : (cut : Cut) → Fixes (λ (r : Checked). r ≡ thresholdRow cut)
 check-threshold-fixed cut = equation-fixes (thresholdRow cut)

@@ -3,6 +3,7 @@ pub mod Products
 pub mod Rows
 pub mod Numbering
 pub mod Sizes
+pub mod Blocks
 pub mod Fixed
 pub mod Order
 pub mod Searches

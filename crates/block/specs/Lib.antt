@@ -1,4 +1,5 @@
 pub mod Answer
+pub mod Block
 pub mod Ceilings
 pub mod Grey
 pub mod Numbering

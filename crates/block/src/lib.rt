@@ -6,7 +6,8 @@ ghost use lib.ListN.{length, getD};
 ghost use Rattle.laws.specs.Bits.{bit};
 ghost use Rattle.laws.specs.Counting.{count};
 ghost use Rattle.block.specs.declared.Checked.the-variants.{Refuses};
-ghost use Rattle.block.specs.Answer.{given};
+ghost use Rattle.block.specs.Answer.{given, inOrder};
+ghost use Rattle.block.specs.Block.{blockRows};
 ghost use Rattle.block.specs.Ceilings.{ceilingsBefore, ceilingsIn};
 ghost use Rattle.block.specs.Grey.{isCeiling};
 ghost use Rattle.block.specs.Numbering.{sampleCount};
@@ -112,8 +113,20 @@ impl Size {
     }
 }
 
+// Rows 2 and 3, in this order.
+pub fn check_block(size: Size, samples: &[u16], cut: Cut) -> Checked
+    requires { ⌜ Limits size ⌝ }
+    ensures { λ r. ⌜ r ≡ inOrder (blockRows size (now (samples .entry)) cut) ⌝ }
+{
+    let count = check_count(size, samples.len());
+    if let Checked::Refuses(r) = count {
+        return Checked::Refuses(r);
+    }
+    check_threshold(cut)
+}
+
 // Row 2: the sample count is not nx·ny·nz.
-pub fn check_count(size: Size, count: usize) -> Checked
+fn check_count(size: Size, count: usize) -> Checked
     requires { ⌜ Limits size ⌝ }
     ensures { λ r. ⌜ r ≡ countRow size count ⌝ }
 {

@@ -15,12 +15,11 @@ use Rattle.block.specs.Numbering.{Axis, X, Y, Z, cubeNumber}
 use Rattle.cube_rule.specs.Faces.{ringEdge}
 use Rattle.cube_rule.specs.Laws.{CubeLaws}
 use Rattle.cube_rule.specs.Links.{Decider, linkedIf, linkedAt}
-use Rattle.mesh_rule.specs.Grid.{metal, crossedFrom, inner, sampleAt, cornersAt, cornersOf}
+use Rattle.mesh_rule.specs.Grid.{metal, crossedFrom, inner, sampleAt, cornersAt, cornersOf, EdgeIn}
 use Rattle.mesh_rule.specs.Layers.{vertexAt}
 use Rattle.mesh_rule.specs.Mesh.{verticesBefore, vertexNumber, quads}
 use Rattle.mesh_rule.proofs.Inner.{Inner}
 use Rattle.mesh_rule.proofs.Numbers.{corners-of-number}
-use Rattle.closure.specs.Faces.{EdgeIn}
 use Rattle.closure.proofs.Face.{crossing, face-balanced}
 use Rattle.closure.proofs.Surface.{Uncut, crossed-inner, not-inner, four}
 use Rattle.closure.proofs.Parts.{walksOver, faceX, faceY, faceZ, by-faces}

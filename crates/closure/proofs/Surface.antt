@@ -7,16 +7,16 @@ use mathlib.Core.Logic.{_⊎_, inl, inr}
 use mathlib.Core.List.{List}
 use native.Mathlib.Omega.{arith}
 use lib.Dec.{ltb}
-use borrow.Author.Tests.{eq-eqb, ne-eqb, lt-ltb, le-ltb, ltb-true, not-true}
+use borrow.Author.Tests.{eq-eqb, ne-eqb, lt-ltb, le-ltb, not-true}
 use Rattle.block.specs.declared.Cut.{Cut}
 use Rattle.block.specs.declared.Size.{Size}
 use Rattle.laws.specs.Bits.{differ}
 use Rattle.block.specs.Numbering.{Axis, X, Y, Z, sampleIndex, sampleCount, atSample}
-use Rattle.mesh_rule.specs.Grid.{InBox, metal, crossedFrom, inner, between, atEnd}
+use Rattle.mesh_rule.specs.Grid.{EdgeIn, metal, crossedFrom, stays, inner, between, atEnd}
 use Rattle.laws.proofs.Index.{index-lt, index-x, index-y, index-z, index-box}
 use Rattle.laws.proofs.Tests.{lt-or-ge, and-both, some-or-none}
-use Rattle.mesh_rule.proofs.Inner.{Inner, inner-facts}
-use Rattle.closure.specs.Faces.{onBoxFace, FacesAre, EdgeIn, CutOff}
+use Rattle.mesh_rule.proofs.Inner.{Inner, inner-facts, stays-in, in-stays}
+use Rattle.closure.specs.Faces.{onBoxFace, FacesAre, CutOff}
 
 -- no edge of the block that lies on a face of the box is crossed
 abbrev pub Uncut : Size → List ℕ → Cut → Type 0
@@ -72,22 +72,6 @@ module _ (n : Size) (s : List ℕ) (cut : Cut) (sign : Bool) (faces : FacesAre s
       level (metal n s cut i j k) (metal n s cut i j (k + 1)) sign (faces i j k (h .0) (on k)) (faces i j (k + 1) (h .1) (on (k + 1)))
 
 -- ---- an edge on a face of the box that is crossed, or none
-
--- the edge from a sample of the block along the axis does not leave the block
-abbrev stays : Size → Axis → ℕ → ℕ → ℕ → Bool
-stays n X i j k = ltb (i + 1) (n .nx)
-stays n Y i j k = ltb (j + 1) (n .ny)
-stays n Z i j k = ltb (k + 1) (n .nz)
-
-stays-in : (n : Size) (a : Axis) (i j k : ℕ) → InBox n i j k → stays n a i j k ≡ true → EdgeIn n a i j k
-stays-in n X i j k h e = (h, (ltb-true _ _ e, h .1, h .2))
-stays-in n Y i j k h e = (h, (h .0, ltb-true _ _ e, h .2))
-stays-in n Z i j k h e = (h, (h .0, h .1, ltb-true _ _ e))
-
-in-stays : (n : Size) (a : Axis) (i j k : ℕ) → EdgeIn n a i j k → stays n a i j k ≡ true
-in-stays n X i j k h = lt-ltb _ _ (h .1 .0)
-in-stays n Y i j k h = lt-ltb _ _ (h .1 .1)
-in-stays n Z i j k h = lt-ltb _ _ (h .1 .2)
 
 last-off : (a b c : Bool) → a ≡ true → b ≡ false → (a && not b && c) ≡ false → c ≡ false
 last-off true false c p q e = e

@@ -6,7 +6,7 @@ use mathlib.Core.List.{List}
 use Rattle.block.specs.declared.Cut.{Cut}
 use Rattle.block.specs.declared.Size.{Size}
 use Rattle.block.specs.Numbering.{Axis}
-use Rattle.mesh_rule.specs.Grid.{InBox, metal, inner, ahead, crossedFrom, atEnd}
+use Rattle.mesh_rule.specs.Grid.{InBox, EdgeIn, metal, inner, crossedFrom, atEnd}
 
 -- (i,j,k) lies on one of the six faces of the box: one of its coordinates is at an end
 abbrev pub onBoxFace : Size → ℕ → ℕ → ℕ → Bool
@@ -15,10 +15,6 @@ onBoxFace n i j k = atEnd (n .nx) i || atEnd (n .ny) j || atEnd (n .nz) k
 -- each sample there is metal, or each is hollow
 abbrev pub FacesAre : Bool → Size → List ℕ → Cut → Type 0
 FacesAre sign n s cut = (i j k : ℕ) → InBox n i j k → onBoxFace n i j k ≡ true → metal n s cut i j k ≡ sign
-
--- both ends of the edge from (i,j,k) along the axis are samples of the block
-abbrev pub EdgeIn : Size → Axis → ℕ → ℕ → ℕ → Type 0
-EdgeIn n a i j k = InBox n i j k × ahead (InBox n) a i j k
 
 -- an edge of the block that is no inner one, so that it lies on a face of the box, is crossed: there the face cuts the surface off
 pub record CutOff (n : Size) (s : List ℕ) (cut : Cut) : Type 0 where

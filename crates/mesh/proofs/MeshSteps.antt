@@ -12,10 +12,11 @@ use Rattle.block.specs.declared.Refusal.{Refusal}
 use Rattle.block.specs.declared.Checked.{Checked}
 use Rattle.block.specs.declared.Checked.the-variants.{Passes, Refuses}
 use Rattle.block.specs.Answer.{inOrder}
+use Rattle.block.specs.Block.{blockRows}
 use Rattle.block.proofs.Order.{orders-refuse, orders-pass, judged-passed, written-passed}
 use Rattle.mesh.specs.declared.Totals.{Totals}
 use Rattle.mesh.specs.declared.Counted.the-variants as counted
-use Rattle.mesh.specs.Answer.{blockRows, roomRows, countsOf, vertexCount, quadCount, MeshedBy}
+use Rattle.mesh.specs.Answer.{roomRows, countsOf, vertexCount, quadCount, MeshedBy}
 use Rattle.mesh.specs.Writes.{Roomy, BlockWritten}
 use Rattle.mesh.proofs.RoomRows.{room-passes}
 use Rattle.mesh.proofs.Verdicts.{refused-by}

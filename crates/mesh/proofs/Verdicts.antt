@@ -1,10 +1,9 @@
 -- From the size that was made, or the axis that was refused, to the verdict of a whole call; and that the promises fix their answers.
 -- Assumes nothing.
 use Prim.Native.Nat.{ℕ}
-use mathlib.Core.Path.{_≡_, ap, ap₂, sym, _∙_, subst}
+use mathlib.Core.Path.{_≡_, ap₂, sym, _∙_, subst}
 use mathlib.Core.List.{List, [], _++_}
 use native.Mathlib.Omega.{arith}
-use borrow.Author.Tests.{eqb-true}
 use lib.ListN.{length}
 use lib.Ieee.{Float}
 use Rattle.laws.specs.Fixed.{Fixes}
@@ -15,17 +14,17 @@ use Rattle.block.specs.declared.Refusal.{Refusal}
 use Rattle.block.specs.declared.Sized.the-variants.{Made, BadAxis}
 use Rattle.block.specs.declared.Checked.{Checked}
 use Rattle.block.specs.declared.Checked.the-variants.{Passes, Refuses}
-use Rattle.block.specs.Answer.{inOrder, judged}
-use Rattle.block.specs.Numbering.{sampleCount}
+use Rattle.block.specs.Answer.{inOrder}
+use Rattle.block.specs.Block.{blockRows}
 use Rattle.block.specs.Rows.{axisRow, countRow, thresholdRow}
 use Rattle.block.specs.Size.{sizeOf, SizeMade, Limits}
 use Rattle.block.proofs.Order.{order-refuses, order-passes, order-first, order-rest, judged-refused, written-refused}
-use Rattle.block.proofs.Rows.{unless-none}
+use Rattle.block.proofs.Blocks.{sampled-of}
 use Rattle.block.proofs.Sizes.{axis-refused, axis-passed, size-made}
 use Rattle.mesh.specs.declared.Counted.{Counted}
 use Rattle.mesh.specs.declared.Counted.the-variants as counted
-use Rattle.mesh.specs.Answer.{countsOf, saidCounts, blockRows, roomRows, CountsAnswered, MeshedBy, Meshed}
-use Rattle.mesh.specs.Steps.{Block, Meshable}
+use Rattle.mesh.specs.Answer.{countsOf, saidCounts, roomRows, CountsAnswered, MeshedBy, Meshed}
+use Rattle.mesh.specs.Steps.{Meshable}
 
 -- ---- a refused axis refuses the call, and leaves every buffer
 
@@ -39,21 +38,11 @@ refused-by k n s cut w o q r e = record {
 }
 
 module _ (nx ny nz : ℕ) (s : List ℕ) (cut : Cut) where
-  pub counts-bad-axis : (a : ℕ) → SizeMade nx ny nz (BadAxis a) → CountsAnswered nx ny nz s cut (counted.Refused (record { number = 1; value = a }))
-  counts-bad-axis a e = judged-refused _ _ _ (order-refuses (axisRow nx ny nz) _ _ (axis-refused nx ny nz a e))
-
   pub mesh-bad-axis : (a : ℕ) (w : List ℕ) (o : List Float) (q : List ℕ) → SizeMade nx ny nz (BadAxis a)
       → Meshed nx ny nz s cut w o q (counted.Refused (record { number = 1; value = a })) w o q
   mesh-bad-axis a w o q e = refused-by _ _ s _ w o q _ (order-refuses (axisRow nx ny nz) _ _ (axis-refused nx ny nz a e))
 
   -- ---- a size that was made leaves it to the other rows
-
-  pub counts-made : (n : Size) (r : Counted) → SizeMade nx ny nz (Made n)
-      → saidCounts r ≡ judged (inOrder (blockRows n s cut)) (countsOf n s cut)
-      → CountsAnswered nx ny nz s cut r
-  counts-made n r e h =
-      subst (λ (m : Size). saidCounts r ≡ judged (inOrder (blockRows m s cut)) (countsOf m s cut)) (size-made nx ny nz n e .0) h
-      ∙ ap (λ (k : Checked). judged k (countsOf (sizeOf nx ny nz) s cut)) (sym (order-passes (axisRow nx ny nz) _ (axis-passed nx ny nz n e)))
 
   pub mesh-made : (n : Size) (w : List ℕ) (o : List Float) (q : List ℕ) (r : Counted) (w′ : List ℕ) (o′ : List Float) (q′ : List ℕ) → SizeMade nx ny nz (Made n)
       → MeshedBy (inOrder (blockRows n s cut ++ roomRows (countsOf n s cut) (length w) (length o) (length q)))
@@ -85,12 +74,6 @@ mesh-fixed nx ny nz s cut w o q a b p r =
 
 -- ---- what follows where rows 2 and 3 pass
 
-pub count-passed : (n : Size) (count : ℕ) → countRow n count ≡ Passes → count ≡ sampleCount n
-count-passed n count e = eqb-true count (sampleCount n) (unless-none _ 2 _ e)
-
-pub block-of : (n : Size) (s : List ℕ) (cut : Cut) → Limits n → inOrder (blockRows n s cut) ≡ Passes → Block n s
-block-of n s cut l e = record { limits = l; samples = count-passed n (length s) (order-first (countRow n (length s)) _ e) }
-
 pub meshable-of : (n : Size) (s : List ℕ) (cut : Cut) → Limits n → inOrder (blockRows n s cut) ≡ Passes → Meshable n s cut
 meshable-of n s cut l e =
-    record { limits = l; count = block-of n s cut l e .samples; threshold = order-first (thresholdRow cut) [] (order-rest (countRow n (length s)) _ e) }
+    record { limits = l; count = sampled-of n s cut l e .samples; threshold = order-first (thresholdRow cut) [] (order-rest (countRow n (length s)) _ e) }

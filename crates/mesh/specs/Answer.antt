@@ -12,7 +12,8 @@ use Rattle.block.specs.declared.Size.{Size}
 use Rattle.block.specs.declared.Checked.{Checked}
 use Rattle.block.specs.declared.Checked.the-variants.{Passes}
 use Rattle.block.specs.Answer.{Answer, accepted, refused, refuses, inOrder, judged, written}
-use Rattle.block.specs.Rows.{axisRow, countRow, thresholdRow}
+use Rattle.block.specs.Block.{blockRows, blockVerdict}
+use Rattle.block.specs.Rows.{axisRow}
 use Rattle.block.specs.Size.{sizeOf}
 use Rattle.cube_rule.specs.Decider.{loopsOf}
 use Rattle.mesh_rule.specs.Mesh.{vertices, quads}
@@ -36,16 +37,9 @@ abbrev pub saidCounts : Counted → Answer Totals
 saidCounts (counted.Counts c) = accepted c
 saidCounts (counted.Refused r) = refused r
 
--- counting a mesh gives 1 to 3 only: row 1, and the rows of a block whose size is made
-abbrev pub blockRows : Size → List ℕ → Cut → List Checked
-blockRows n s cut = countRow n (length s) ∷ thresholdRow cut ∷ []
-
-abbrev pub countsVerdict : ℕ → ℕ → ℕ → List ℕ → Cut → Checked
-countsVerdict nx ny nz s cut = inOrder (axisRow nx ny nz ∷ blockRows (sizeOf nx ny nz) s cut)
-
--- the promise of `counts`
+-- the promise of `counts`: counting a mesh gives 1 to 3 only
 abbrev pub CountsAnswered : ℕ → ℕ → ℕ → List ℕ → Cut → Counted → Type 0
-CountsAnswered nx ny nz s cut r = saidCounts r ≡ judged (countsVerdict nx ny nz s cut) (countsOf (sizeOf nx ny nz) s cut)
+CountsAnswered nx ny nz s cut r = saidCounts r ≡ judged (blockVerdict nx ny nz s cut) (countsOf (sizeOf nx ny nz) s cut)
 
 -- 5: either vertex buffer is short; vertices needed
 abbrev pub vertexRow : ℕ → ℕ → ℕ → Checked

@@ -18,11 +18,6 @@ use Rattle.quads.specs.Writing.{rowQuads}
 use Rattle.layers.specs.declared.Marks.{Marks}
 use Rattle.rows.specs.declared.Row.{Row}
 
--- a block that rows 1 and 2 accept
-pub record Block (n : Size) (s : List ℕ) : Type 0 where
-  pub limits : Limits n
-  pub samples : length s ≡ sampleCount n
-
 -- a block that rows 1 to 3 pass
 pub record Meshable (n : Size) (s : List ℕ) (cut : Cut) : Type 0 where
   pub limits : Limits n

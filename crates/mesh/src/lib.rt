@@ -11,12 +11,14 @@ ghost use mathlib.Core.List.{_++_};
 ghost use Prim.Native.Nat.{_+_, _-_, _/_, _<_, _≤_};
 ghost use Rattle.cube_rule.specs.Decider.{loopsOf};
 ghost use Rattle.block.specs.Answer.{inOrder, judged};
+ghost use Rattle.block.specs.Block.{blockRows};
 ghost use Rattle.block.specs.Size.{Limits};
+ghost use Rattle.block.specs.Steps.{Sampled};
 ghost use Rattle.vertices.specs.Layers.{Ready};
 ghost use lib.ListN.{length};
-ghost use Rattle.mesh.specs.Answer.{blockRows, roomRows, countsOf, saidCounts, CountsAnswered, MeshedBy, Meshed};
+ghost use Rattle.mesh.specs.Answer.{roomRows, countsOf, saidCounts, CountsAnswered, MeshedBy, Meshed};
 ghost use Rattle.mesh_rule.specs.Layers.{layerFirst};
-ghost use Rattle.mesh.specs.Steps.{Block, Meshable, rowOf, Counting, Tallied};
+ghost use Rattle.mesh.specs.Steps.{Meshable, rowOf, Counting, Tallied};
 ghost use Rattle.mesh.specs.Writes.{Roomy, BelowReady, BelowNoted, TablesReady, Underway, RowMore, LayerMore, BlockWritten};
 
 // How many vertices and quads a mesh has.
@@ -29,18 +31,6 @@ pub struct Totals {
 pub enum Counted {
     Counts(Totals),
     Refused(Refusal),
-}
-
-// Rows 2 and 3, in this order.
-fn check(size: Size, samples: &[u16], cut: Cut) -> Checked
-    requires { ⌜ Limits size ⌝ }
-    ensures { λ r. ⌜ r ≡ inOrder (blockRows size (now (samples .entry)) cut) ⌝ }
-{
-    let count = block::check_count(size, samples.len());
-    if let Checked::Refuses(r) = count {
-        return Checked::Refuses(r);
-    }
-    block::check_threshold(cut)
 }
 
 // Rows 5 and 6, in this order: the need, and the lengths of the three buffers.
@@ -136,7 +126,7 @@ fn with_layer(
 
 // How many vertices the mesh of a block has, and how many words its quads along each axis take.
 fn tally_block(size: Size, samples: &[u16], cut: Cut) -> Marks
-    requires { ⌜ Block size (now samples) ⌝ }
+    requires { ⌜ Sampled size (now samples) ⌝ }
     ensures { λ r. ⌜ Tallied loopsOf size (now (samples .entry)) cut r ⌝ }
 {
     let nz = size.nz();
@@ -164,7 +154,7 @@ fn counts_of(size: Size, samples: &[u16], cut: Cut) -> Counted
     requires { ⌜ Limits size ⌝ }
     ensures { λ r. ⌜ saidCounts r ≡ judged (inOrder (blockRows size (now (samples .entry)) cut)) (countsOf size (now (samples .entry)) cut) ⌝ }
 {
-    let checked = check(size, samples, cut);
+    let checked = block::check_block(size, samples, cut);
     if let Checked::Refuses(r) = checked {
         return Counted::Refused(r);
     }
@@ -377,7 +367,7 @@ fn mesh_of(
     requires { ⌜ Limits size ⌝ }
     ensures { λ r. ⌜ MeshedBy (inOrder (blockRows size (now (samples .entry)) cut ++ roomRows (countsOf size (now (samples .entry)) cut) (length (now (words .entry))) (length (now (offsets .entry))) (length (now (quads .entry))))) size (now (samples .entry)) cut (now (words .entry)) (now (offsets .entry)) (now (quads .entry)) r (now (words .exit)) (now (offsets .exit)) (now (quads .exit)) ⌝ }
 {
-    let checked = check(size, samples, cut);
+    let checked = block::check_block(size, samples, cut);
     if let Checked::Refuses(r) = checked {
         return Counted::Refused(r);
     }

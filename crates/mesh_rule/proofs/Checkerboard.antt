@@ -143,7 +143,7 @@ module _ (n : Size) where
 
 module _ (n : Size) where
   -- two samples whose sums of coordinates are one apart
-  ends-differ : (i j k x y z : ℕ) → i < n .nx → j < n .ny → k < n .nz → x < n .nx → y < n .ny → z < n .nz → x + y + z ≡ i + j + k + 1
+  pub ends-differ : (i j k x y z : ℕ) → i < n .nx → j < n .ny → k < n .nz → x < n .nx → y < n .ny → z < n .nz → x + y + z ≡ i + j + k + 1
       → differ (leb 100 (sampleAt n (board n) i j k)) (leb 100 (sampleAt n (board n) x y z)) ≡ true
   ends-differ i j k x y z hi hj hk hx hy hz e =
       rw (board-at n i j k hi hj hk, board-at n x y z hx hy hz, e) (shades-differ (i + j + k))

@@ -28,7 +28,7 @@ use Rattle.mesh_rule.proofs.Quads.{quad-count}
 -- ---- inner edges
 
 -- all of n but the last, and all but the first and the last
-count-lower : (n : ℕ) → count (λ (c : ℕ). ltb (c + 1) n) n ≡ n - 1
+pub count-lower : (n : ℕ) → count (λ (c : ℕ). ltb (c + 1) n) n ≡ n - 1
 unfolding count
 count-lower zero = refl
 count-lower (suc n) =
@@ -71,7 +71,7 @@ inner-count n Z =
 
 -- ---- the largest counts
 
-bit-and-le : (a b : Bool) → bit (a && b) ≤ bit a
+pub bit-and-le : (a b : Bool) → bit (a && b) ≤ bit a
 bit-and-le true true = omega arith
 bit-and-le true false = omega arith
 bit-and-le false b = omega arith

@@ -13,7 +13,7 @@ use Rattle.block.specs.declared.Cut.{Cut}
 use Rattle.block.specs.declared.Size.{Size}
 use Rattle.block.specs.Numbering.{Axis, X, Y, Z}
 use Rattle.cube_rule.specs.Edges.{lower, upper, cornerSample, crossedAt}
-use Rattle.mesh_rule.specs.Grid.{sampleAt, cornersAt, between, inner, ahead, crossedFrom}
+use Rattle.mesh_rule.specs.Grid.{InBox, sampleAt, cornersAt, between, inner, ahead, EdgeIn, stays, crossedFrom}
 use Rattle.mesh_rule.specs.Mesh.{table}
 
 both-then : {A : Type 0} (a b : Bool) → (a && b) ≡ true → (a ≡ true → b ≡ true → A) → A
@@ -48,6 +48,17 @@ pub inner-test : (n : Size) (a : Axis) (i j k : ℕ) → Inner n a i j k → inn
 inner-test n X i j k h = and (and (lt-ltb _ _ (h .0)) (mid-between _ _ (h .1))) (mid-between _ _ (h .2))
 inner-test n Y i j k h = and (and (mid-between _ _ (h .0)) (lt-ltb _ _ (h .1))) (mid-between _ _ (h .2))
 inner-test n Z i j k h = and (and (mid-between _ _ (h .0)) (mid-between _ _ (h .1))) (lt-ltb _ _ (h .2))
+
+-- an edge from a sample of the block is one of the block exactly if it does not leave it
+pub stays-in : (n : Size) (a : Axis) (i j k : ℕ) → InBox n i j k → stays n a i j k ≡ true → EdgeIn n a i j k
+stays-in n X i j k h e = (h, (ltb-true _ _ e, h .1, h .2))
+stays-in n Y i j k h e = (h, (h .0, ltb-true _ _ e, h .2))
+stays-in n Z i j k h e = (h, (h .0, h .1, ltb-true _ _ e))
+
+pub in-stays : (n : Size) (a : Axis) (i j k : ℕ) → EdgeIn n a i j k → stays n a i j k ≡ true
+in-stays n X i j k h = lt-ltb _ _ (h .1 .0)
+in-stays n Y i j k h = lt-ltb _ _ (h .1 .1)
+in-stays n Z i j k h = lt-ltb _ _ (h .1 .2)
 
 -- an inner edge starts at a sample of the block
 pub inner-sample : (n : Size) (a : Axis) (i j k : ℕ) → Inner n a i j k → (i < n .nx) × (j < n .ny) × (k < n .nz)

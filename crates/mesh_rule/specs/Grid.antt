@@ -49,6 +49,16 @@ ahead f X i j k = f (i + 1) j k
 ahead f Y i j k = f i (j + 1) k
 ahead f Z i j k = f i j (k + 1)
 
+-- both ends of the edge from (i,j,k) along the axis are samples of the block
+abbrev pub EdgeIn : Size → Axis → ℕ → ℕ → ℕ → Type 0
+EdgeIn n a i j k = InBox n i j k × ahead (InBox n) a i j k
+
+-- that is so of an edge from a sample of the block if it does not leave the block
+abbrev pub stays : Size → Axis → ℕ → ℕ → ℕ → Bool
+stays n X i j k = ltb (i + 1) (n .nx)
+stays n Y i j k = ltb (j + 1) (n .ny)
+stays n Z i j k = ltb (k + 1) (n .nz)
+
 -- the edge's ends differ in sign
 abbrev pub crossedFrom : Size → List ℕ → Cut → Axis → ℕ → ℕ → ℕ → Bool
 crossedFrom n s cut a i j k = differ (metal n s cut i j k) (ahead (metal n s cut) a i j k)

@@ -4,7 +4,6 @@ use mathlib.Core.Path.{_≡_, refl, sym, ap, _∙_}
 use mathlib.Core.Bool.{Bool, true, false, cond}
 use mathlib.Core.List.{List, []}
 use Prim.Native.Nat.{ℕ, zero, suc, _+_, _*_, _-_, _^_, _≤_, _<_}
-use native.Mathlib.Numerals.{add-one}
 use native.Mathlib.Omega.{arith}
 use lib.Bits.{bitAnd, and-le-r}
 use lib.Count.{ones}
@@ -27,16 +26,6 @@ use Rattle.quads.specs.declared.Along.the-variants.{AxisX, AxisY, AxisZ}
 use Rattle.quads.specs.Edges.{alongAxis, RowIn, Planes, wordsIn, edgesOf, edgeCount}
 use Rattle.quads.specs.Writing.{rowBy, rowQuads}
 use Rattle.quads.proofs.RowQuads.{quad-four, row-count}
-
--- ---- a sum
-
-pub total-none : (f : ℕ → ℕ) → total f 0 ≡ 0
-unfolding total
-total-none f = refl
-
-pub total-one : (f : ℕ → ℕ) (n : ℕ) → total f (n + 1) ≡ f n + total f n
-unfolding total
-total-one f n = rw (add-one n)
 
 -- ---- four words for each edge
 

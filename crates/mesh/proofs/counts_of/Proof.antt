@@ -3,27 +3,27 @@
 use mathlib.Core.Path.{_≡_, sym, _∙_}
 use Rattle.block.specs.declared.Checked.the-variants.{Passes}
 use Rattle.block.specs.Answer.{inOrder}
-use Rattle.mesh.specs.Answer.{blockRows}
+use Rattle.block.specs.Block.{blockRows}
 use Rattle.mesh.proofs.Tallies.{tallied-few, tallied-counts}
 use Rattle.block.proofs.Order.{judged-refused, judged-passed}
-use Rattle.mesh.proofs.Verdicts.{block-of}
+use Rattle.block.proofs.Blocks.{sampled-of}
 use borrow.Author.Needs.{needs}
 use Rattle.mesh.proofs.counts_of.Statement.{statement}
 use Rattle.mesh.proofs.counts_of.Tie as tie
 use Rattle.mesh.proofs.counts_of.Reads as reads
 use Rattle.mesh.proofs.counts_of.Lts as lts
-use Rattle.mesh.proofs.check.Reads as check-reads
+use Rattle.block.proofs.check_block.Reads as check-block-reads
 use Rattle.mesh.proofs.tally_block.Reads as tally-block-reads
 use Rattle.mesh.proofs.total.Reads as total-reads
 
-check-requires : tie.Need-check-requires
-check-requires c κs = search needs
+check-block-requires : tie.Need-check-block-requires
+check-block-requires c κs = search needs
 
 enum-known-checked : tie.Need-enum-known-checked
 enum-known-checked c = search needs
 
 returns : tie.Need-returns
-returns c = judged-refused _ _ _ (sym (c .before .before .before .check .ensures) ∙ c .before .checked .given .1)
+returns c = judged-refused _ _ _ (sym (c .before .before .before .check-block .ensures) ∙ c .before .checked .given .1)
 
 enum-told : tie.Need-enum-told
 enum-told c = search needs
@@ -35,12 +35,12 @@ start c = c .before .before .before .before
 -- rows 2 and 3 passed
 passed : (c : tie.After-enum-told) → let a = start c in
     inOrder (blockRows (a .args .size) (a .args .samples .now) (a .args .cut)) ≡ Passes
-passed c = sym (c .before .before .check .ensures) ∙ c .enum-told .given .1
+passed c = sym (c .before .before .check-block .ensures) ∙ c .enum-told .given .1
 
 tally-block-requires : tie.Need-tally-block-requires
 tally-block-requires c κs =
     let a = start c in
-    block-of (a .args .size) (a .args .samples .now) (a .args .cut) (a .pre) (passed c)
+    sampled-of (a .args .size) (a .args .samples .now) (a .args .cut) (a .pre) (passed c)
 
 total-requires : tie.Need-total-requires
 total-requires c κs =
@@ -57,7 +57,7 @@ pub counts-of-spec : {M : Type 1} → statement M
 counts-of-spec =
     tie.close
     (tie.spec
-    check-requires
+    check-block-requires
     enum-known-checked
     returns
     enum-told

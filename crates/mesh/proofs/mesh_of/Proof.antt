@@ -4,23 +4,25 @@ use mathlib.Core.Path.{_≡_, sym, _∙_}
 use native.Mathlib.Omega.{arith}
 use Rattle.block.specs.declared.Checked.the-variants.{Passes}
 use Rattle.block.specs.Answer.{inOrder}
-use Rattle.mesh.specs.Answer.{blockRows, countsOf}
+use Rattle.block.specs.Block.{blockRows}
+use Rattle.mesh.specs.Answer.{countsOf}
 use Rattle.mesh.proofs.Tallies.{tallied-few, tallied-counts}
-use Rattle.mesh.proofs.Verdicts.{block-of, meshable-of}
+use Rattle.mesh.proofs.Verdicts.{meshable-of}
+use Rattle.block.proofs.Blocks.{sampled-of}
 use Rattle.mesh.proofs.MeshSteps.{early-refused, late-refused, roomy-of, passed-by}
 use borrow.Author.Needs.{needs}
 use Rattle.mesh.proofs.mesh_of.Statement.{statement}
 use Rattle.mesh.proofs.mesh_of.Tie as tie
 use Rattle.mesh.proofs.mesh_of.Reads as reads
 use Rattle.mesh.proofs.mesh_of.Lts as lts
-use Rattle.mesh.proofs.check.Reads as check-reads
+use Rattle.block.proofs.check_block.Reads as check-block-reads
 use Rattle.mesh.proofs.room.Reads as room-reads
 use Rattle.mesh.proofs.tally_block.Reads as tally-block-reads
 use Rattle.mesh.proofs.total.Reads as total-reads
 use Rattle.mesh.proofs.write_block.Reads as write-block-reads
 
-check-requires : tie.Need-check-requires
-check-requires c κs = search needs
+check-block-requires : tie.Need-check-block-requires
+check-block-requires c κs = search needs
 
 enum-known-checked : tie.Need-enum-known-checked
 enum-known-checked c = search needs
@@ -30,7 +32,7 @@ returns c =
     let h = c .before .before .before in
     let a = h .before .before .before .before .before in
     early-refused (a .args .size) (a .args .samples .now) (a .args .cut) (a .args .words .now) (a .args .offsets .now) (a .args .quads .now) _
-    (sym (h .check .ensures) ∙ c .before .checked .given .1)
+    (sym (h .check-block .ensures) ∙ c .before .checked .given .1)
 
 enum-told : tie.Need-enum-told
 enum-told c = search needs
@@ -48,12 +50,12 @@ counted c = c .before .before .before
 -- rows 2 and 3 passed
 passed : (c : tie.After-enum-told) → let a = start c in
     inOrder (blockRows (a .args .size) (a .args .samples .now) (a .args .cut)) ≡ Passes
-passed c = sym (c .before .before .check .ensures) ∙ c .enum-told .given .1
+passed c = sym (c .before .before .check-block .ensures) ∙ c .enum-told .given .1
 
 tally-block-requires : tie.Need-tally-block-requires
 tally-block-requires c κs =
     let a = start c in
-    block-of (a .args .size) (a .args .samples .now) (a .args .cut) (a .pre) (passed c)
+    sampled-of (a .args .size) (a .args .samples .now) (a .args .cut) (a .pre) (passed c)
 
 total-requires : tie.Need-total-requires
 total-requires c κs =
@@ -119,7 +121,7 @@ pub mesh-of-spec : {M : Type 1} → statement M
 mesh-of-spec =
     tie.close
     (tie.spec
-    check-requires
+    check-block-requires
     enum-known-checked
     returns
     enum-told

@@ -7,8 +7,8 @@ use Prim.Native.Nat.{ℕ, _-_, _*_, _≤_}
 use lib.Count.{ones}
 use denote.Ref.{now}
 use Rattle.laws.specs.Pack.{total}
+use Rattle.laws.proofs.Sums.{total-none, total-one}
 use Rattle.quads.specs.Edges.{wordsIn, edgesOf}
-use Rattle.quads.proofs.Counts.{total-none, total-one}
 use Rattle.quads.proofs.count_row.Statement.{statement}
 use Rattle.quads.proofs.count_row.Tie as tie
 

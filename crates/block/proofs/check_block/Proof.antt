@@ -1,14 +1,14 @@
--- `check` meets its contract: the first of rows 2 and 3 that refuses decides.
+-- `check_block` meets its contract: the first of rows 2 and 3 that refuses decides.
 -- Assumes nothing.
 use mathlib.Core.Path.{sym, _∙_}
 use Rattle.block.proofs.Order.{order-refuses, order-passes, order-last}
 use borrow.Author.Needs.{needs}
-use Rattle.mesh.proofs.check.Statement.{statement}
-use Rattle.mesh.proofs.check.Tie as tie
-use Rattle.mesh.proofs.check.Reads as reads
-use Rattle.mesh.proofs.check.Lts as lts
+use Rattle.block.proofs.check_block.Statement.{statement}
+use Rattle.block.proofs.check_block.Tie as tie
+use Rattle.block.proofs.check_block.Reads as reads
+use Rattle.block.proofs.check_block.Lts as lts
 use Rattle.block.proofs.check_count.Reads as check-count-reads
 use Rattle.block.proofs.check_threshold.Reads as check-threshold-reads
 
 check-count-requires : tie.Need-check-count-requires
 check-count-requires c κs = search needs
@@ -30,5 +30,5 @@ returns-2 c =
     sym (order-passes _ _ (sym (c .before .before .before .check-count .ensures) ∙ c .before .enum-told .given .1)
     ∙ order-last _ ∙ sym (c .check-threshold .ensures))
 
-pub check-spec : {M : Type 1} → statement M
-check-spec = tie.close (tie.spec check-count-requires enum-known-count returns enum-told check-threshold-requires returns-2)
+pub check-block-spec : {M : Type 1} → statement M
+check-block-spec = tie.close (tie.spec check-count-requires enum-known-count returns enum-told check-threshold-requires returns-2)
