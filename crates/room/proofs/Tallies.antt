@@ -1,0 +1,71 @@
+-- The crossed edges plane by plane: those within the planes up to one, and those from each plane before it to the next.
+-- Assumes nothing.
+use Prim.Native.Nat.{ℕ, _+_, _-_, _<_}
+use mathlib.Core.Path.{_≡_, ap, ap₂, sym, _∙_}
+use mathlib.Core.List.{List}
+use native.Mathlib.Omega.{arith}
+use borrow.Author.Tests.{le-ltb}
+use Rattle.laws.specs.Pack.{total}
+use Rattle.laws.proofs.Sums.{total-none, total-one, total-same, total-plus, total-nothing}
+use Rattle.block.specs.declared.Cut.{Cut}
+use Rattle.block.specs.declared.Size.{Size}
+use Rattle.block.specs.Numbering.{X, Y, Z}
+use Rattle.block.specs.Size.{Limits}
+use Rattle.signs.specs.Signs.{Plane}
+use Rattle.room.specs.Crossed.{crossedCount}
+use Rattle.room.specs.Steps.{planeX, planeY, planeZ}
+use Rattle.room.proofs.Along.{fromPlane, along-boxed}
+use Rattle.room.proofs.Planes.{x-plane, y-plane, z-plane}
+
+module _ (n : Size) (s : List ℕ) (cut : Cut) where
+  -- within the planes before k, and from these to the next
+  abbrev within : ℕ → ℕ
+  within k = total (λ (z : ℕ). fromPlane n s cut X z + fromPlane n s cut Y z) k
+
+  abbrev between : ℕ → ℕ
+  between k = total (fromPlane n s cut Z) k
+
+  -- all up to the plane k
+  abbrev pub tally : ℕ → ℕ
+  tally k = within (k + 1) + between k
+
+  module _ (l : Limits n) where
+    in-plane : {a : List ℕ} (k r nx ny : ℕ) → nx ≡ n .nx → ny ≡ n .ny → Plane n s cut k a → r ≡ planeX a nx ny + planeY a ny → r ≡ fromPlane n s cut X k + fromPlane n s cut Y k
+    in-plane {a} k r nx ny ex ey p e =
+        e
+        ∙ ap₂ (λ (x y : ℕ). planeX a x y + planeY a y) ex ey
+        ∙ ap₂ (λ (x y : ℕ). x + y) (x-plane n s cut (l .x-high) k p) (y-plane n s cut (l .x-high) k p (omega (arith, l .y-low)))
+
+    pub tally-first : {a : List ℕ} (r nx ny : ℕ) → nx ≡ n .nx → ny ≡ n .ny → Plane n s cut 0 a → r ≡ planeX a nx ny + planeY a ny → r ≡ tally 0
+    tally-first r nx ny ex ey p e =
+        omega (arith, in-plane 0 r nx ny ex ey p e, total-one (λ (z : ℕ). fromPlane n s cut X z + fromPlane n s cut Y z) 0, total-none (λ (z : ℕ). fromPlane n s cut X z + fromPlane n s cut Y z), total-none (fromPlane n s cut Z))
+
+    pub tally-next : {a b : List ℕ} (k m r d nx ny : ℕ) → nx ≡ n .nx → ny ≡ n .ny → k + 1 < n .nz → Plane n s cut k a → Plane n s cut (k + 1) b → m ≡ tally k
+        → r ≡ planeX b nx ny + planeY b ny → d ≡ planeZ a b ny → m + (r + d) ≡ tally (k + 1)
+    tally-next {a} {b} k m r d nx ny ex ey h p q e er ed =
+        omega (
+          arith,
+          e,
+          in-plane (k + 1) r nx ny ex ey q er,
+          ed ∙ ap (planeZ a b) ey ∙ z-plane n s cut (l .x-high) k p q h,
+          total-one (λ (z : ℕ). fromPlane n s cut X z + fromPlane n s cut Y z) (k + 1),
+          total-one (fromPlane n s cut Z) k,
+        )
+
+    -- no edge leaves the last plane
+    pub tally-all : (k : ℕ) → k + 1 ≡ n .nz → tally k ≡ crossedCount n s cut
+    unfolding crossedCount
+    tally-all k e =
+        omega (
+          arith,
+          ap within e,
+          total-plus (fromPlane n s cut X) (fromPlane n s cut Y) (n .nz),
+          ap between (sym e) ∙ total-one (fromPlane n s cut Z) k,
+          last,
+          along-boxed n s cut X,
+          along-boxed n s cut Y,
+          along-boxed n s cut Z,
+        )
+      where
+        last : fromPlane n s cut Z k ≡ 0
+        last = total-same _ _ (n .ny) (λ j lj. total-same _ _ (n .nx) (λ i li. rw (le-ltb (k + 1) (n .nz) (omega arith))) ∙ total-nothing (n .nx)) ∙ total-nothing (n .ny)

@@ -1,0 +1,3 @@
+pub mod Crossed
+pub mod Answer
+pub mod Steps

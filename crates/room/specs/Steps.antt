@@ -1,0 +1,28 @@
+-- The crossed edges of a plane by the words of its signs: `a` has the signs of the plane, `b` those of the plane above it.
+-- Assumes nothing.
+use Prim.Native.Nat.{ℕ, _+_, _-_, _*_}
+use mathlib.Core.List.{List}
+use lib.Bits.{bitAnd, bitXor}
+use lib.Count.{ones}
+use lib.ListN.{getD}
+use Rattle.laws.specs.Pack.{total}
+use Rattle.planes.specs.Planes.{alongX, alongY, alongZ, limitOf}
+
+-- in how many bits the first m words of two lists differ
+abbrev pub differingBits : List ℕ → List ℕ → ℕ → ℕ
+differingBits a b m = total (λ (q : ℕ). ones (bitXor (getD a q 0) (getD b q 0))) m
+
+-- along x from the row j, and from the whole plane
+abbrev pub rowX : List ℕ → ℕ → ℕ → ℕ
+rowX a nx j = total (λ (w : ℕ). ones (bitAnd (alongX a (5 * j + w)) (limitOf (nx - 1) w))) 4
+
+abbrev pub planeX : List ℕ → ℕ → ℕ → ℕ
+planeX a nx ny = total (rowX a nx) ny
+
+-- along y: no edge starts from the last row
+abbrev pub planeY : List ℕ → ℕ → ℕ
+planeY a ny = total (λ (q : ℕ). ones (alongY a q)) (5 * (ny - 1))
+
+-- along z, to the plane above
+abbrev pub planeZ : List ℕ → List ℕ → ℕ → ℕ
+planeZ a b ny = total (λ (q : ℕ). ones (alongZ a b q)) (5 * ny)
