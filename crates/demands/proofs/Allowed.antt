@@ -38,7 +38,8 @@ use Rattle.mesh_rule.specs.Buffers.{triples, meshWords, meshOffsets, meshQuads}
 use Rattle.mesh.specs.declared.Totals.{Totals}
 use Rattle.mesh.specs.declared.Counted.{Counted}
 use Rattle.mesh.specs.declared.Counted.the-variants as counted
-use Rattle.mesh.specs.Answer.{countsOf, countsVerdict, saidCounts, CountsAnswered, meshVerdict, Meshed}
+use Rattle.block.specs.Block.{blockVerdict}
+use Rattle.mesh.specs.Answer.{countsOf, saidCounts, CountsAnswered, meshVerdict, Meshed}
 use Rattle.closed.specs.declared.Closure.{Closure}
 use Rattle.closed.specs.declared.Closure.the-variants as closure-is
 use Rattle.closed.specs.Closed.{Finding, allSound, openAt, findingOf, saidClosure, ClosedAnswered}
@@ -53,7 +54,8 @@ use Rattle.ply.specs.Answer.{saidFile, plyVerdict, PlyWritten}
 use Rattle.ply.proofs.Written.{file-refused, file-fits}
 use Rattle.lines.specs.Output.{outputOf, Ran}
 use Rattle.lines.proofs.Outputs.{output-fits}
-use Rattle.parsniprow_c.specs.Told.{tellOver, toldCeilings, toldEdge, toldFraction, toldCube, toldCounts, toldClosed, toldLength, toldFile, CeilingsTold, EdgeTold, CubeTold, CountsTold, MeshTold, ClosedTold, ClosedWithTold, PlyTold}
+use Rattle.parsniprow_c.specs.Told.{tellOver, CeilingsTold, EdgeTold, CubeTold, CountsTold, MeshTold, ClosedTold, ClosedWithTold, PlyTold}
+use Rattle.told.specs.Numbers.{toldCeilings, toldEdge, toldFraction, toldCube, toldCounts, toldClosed, toldLength, toldFile}
 use Rattle.demands.specs.Answers.{MeshCall}
 
 -- ---- the size: a refusal is row 1's, so it has the number that is told
@@ -98,7 +100,7 @@ counted-of (accepted c) = (counted.Counts c, refl)
 counted-of (refused x) = (counted.Refused x, refl)
 
 pub counts-allows : (nx ny nz : ℕ) (s : List ℕ) (cut : Cut) → (r : Counted) × CountsAnswered nx ny nz s cut r
-counts-allows nx ny nz s cut = counted-of (judged (countsVerdict nx ny nz s cut) (countsOf (sizeOf nx ny nz) s cut))
+counts-allows nx ny nz s cut = counted-of (judged (blockVerdict nx ny nz s cut) (countsOf (sizeOf nx ny nz) s cut))
 
 module _ (nx ny nz : ℕ) (s : List ℕ) (cut : Cut) (w : List ℕ) (o : List Float) (q : List ℕ) where
   abbrev verdict : Checked

@@ -34,7 +34,8 @@ use Rattle.closure.proofs.Twelve.{twelve-quads, twelve-sides}
 use Rattle.reading.specs.Text.{numberAt}
 use Rattle.reading.specs.Input.{sizeRead, cutRead, samplesRead}
 use Rattle.lines.specs.Output.{closedField, Ran}
-use Rattle.parsniprow_c.specs.Told.{tellOver, toldClosed, MeshTold, ClosedTold, ClosedWithTold}
+use Rattle.parsniprow_c.specs.Told.{tellOver, MeshTold, ClosedTold, ClosedWithTold}
+use Rattle.told.specs.Numbers.{toldClosed}
 use Rattle.demands.specs.Answers.{NotRefused, MeshCall, quadsWritten}
 use Rattle.demands.proofs.Allowed.{closed-allows}
 use Rattle.demands.proofs.Refusals.{closed-accepts, closed-with-accepts}

@@ -23,6 +23,7 @@ use Rattle.pieces.specs.Answer.{saidPieces, PiecesFound}
 use Rattle.ply.specs.declared.Spacing.{Spacing}
 use Rattle.ply.specs.declared.Filed.{Filed}
 use Rattle.ply.specs.Answer.{saidFile, PlyWritten}
+use Rattle.room.specs.Answer.{saidCrossed}
 use Rattle.reading.proofs.Verdicts.{run-numbers}
 use Rattle.demands.specs.Marks.{NotFour, FourNever}
 use Rattle.demands.proofs.Files.{PlyNumber, ply-numbers}
@@ -30,6 +31,7 @@ use Rattle.demands.proofs.Numbers.{size-numbers, edge-numbers, cube-num
 use Rattle.demands.proofs.Pieces.{PiecesNumber, pieces-numbers}
 use Rattle.demands.proofs.Places.{four-untold}
 use Rattle.demands.proofs.Refusals.{run-refuses}
+use Rattle.demands.proofs.Room.{crossed-numbers}
 
 edge-other : (p q t : ℕ) (r : Crossing) → EdgeAnswered p q t r → NotFour (saidEdge r)
 unfolding edgeAnswer
@@ -74,6 +76,7 @@ four-never = record {
   size = λ nx ny nz r m x e f. omega (arith, f, size-numbers nx ny nz x (refused-exactly _ _ _ m x .0 e));
   edge = edge-other;
   cube = λ corners cut r m x e f. omega (arith, f, cube-numbers cut x (refused-exactly _ _ _ (m .found) x .0 e));
+  crossed = λ nx ny nz s cut r m x e f. omega (arith, f, crossed-numbers nx ny nz s cut r m x e .1);
   counts = λ nx ny nz s cut r m x e f. omega (arith, f, counts-numbers nx ny nz s cut x (refused-exactly _ _ _ m x .0 e) .1);
   mesh = λ nx ny nz s cut w o q r w′ o′ q′ m x e. of-mesh (x .number) (mesh-numbers nx ny nz s cut (length w) (length o) (length q) x (refused-exactly _ _ _ (m .answer) x .0 e));
   closed = λ quads r m x e f. omega (arith, f, closed-numbers quads x (refused-exactly _ _ _ m x .0 e));
@@ -84,6 +87,7 @@ four-never = record {
   ceilings-told = λ s place place′ m. four-untold 3 (λ (c : CeilingCount). c .count ∷ c .lowest ∷ []) (accepted (ceilingsIn s)) place place′ m (λ x e f. let z : _≡_ {A = ℕ} 0 1 = cc in omega arith);
   edge-told = λ p q t f place f′ place′ m. four-untold 3 _ (saidEdge (m .answer)) place place′ (m .is-told) (edge-other p q t (m .answer) (m .answered));
   cube-told = λ corners t w o place w′ o′ place′ m. four-untold 3 _ (saidCube (m .answer .found)) place place′ (m .is-told) (λ x e f. omega (arith, f, cube-numbers (cutOf t) x (refused-exactly _ _ _ (m .answered .found) x .0 e)));
+  crossed-told = λ nx ny nz s t place place′ m. four-untold 3 _ (saidCrossed (m .answer)) place place′ (m .is-told) (λ x e f. omega (arith, f, crossed-numbers nx ny nz s (cutOf t) (m .answer) (m .answered) x e .1));
   counts-told = λ nx ny nz s t place place′ m. four-untold 3 _ (saidCounts (m .answer)) place place′ (m .is-told) (λ x e f. omega (arith, f, counts-numbers nx ny nz s (cutOf t) x (refused-exactly _ _ _ (m .answered) x .0 e) .1));
   mesh-told = λ nx ny nz s t w o q place w′ o′ q′ place′ m. four-untold 3 _ (saidCounts (m .answer)) place place′ (m .is-told) (λ x e. of-mesh (x .number) (mesh-numbers nx ny nz s (cutOf t) (length w) (length o) (length q) x (refused-exactly _ _ _ (m .meshed .answer) x .0 e)));
   closed-told = λ quads place place′ m. four-untold 4 _ (saidClosure (m .answer)) place place′ (m .is-told) (λ x e f. omega (arith, f, closed-numbers quads x (refused-exactly _ _ _ (m .answered) x .0 e)));

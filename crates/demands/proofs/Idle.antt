@@ -28,7 +28,8 @@ use Rattle.mesh_rule.specs.Boards.{board, hollow}
 use Rattle.mesh_rule.proofs.Checkerboard.{hollow-vertices, hollow-length, board-vertices, board-length}
 use Rattle.mesh.specs.declared.Totals.{Totals}
 use Rattle.mesh.specs.declared.Counted.{Counted}
-use Rattle.mesh.specs.Answer.{vertexCount, quadCount, blockRows, vertexRow, quadRow, saidCounts, countsVerdict, CountsAnswered, meshVerdict, Meshed}
+use Rattle.block.specs.Block.{blockRows, blockVerdict}
+use Rattle.mesh.specs.Answer.{vertexCount, quadCount, vertexRow, quadRow, saidCounts, CountsAnswered, meshVerdict, Meshed}
 use Rattle.demands.specs.Answers.{NotRefused, MeshCall, SameMesh}
 use Rattle.demands.proofs.Allowed.{mesh-call}
 use Rattle.demands.proofs.TheMesh.{mesh-given, quads-are, word-at, offset-at, number-at}
@@ -36,7 +37,7 @@ use Rattle.demands.proofs.StandIn.{no-quad-alike, same-mesh-alike}
 
 -- ---- one that refuses all blocks: where the checks pass, no refusal is allowed
 
-pub refusing-counts-fall : (nx ny nz : ℕ) (s : List ℕ) (cut : Cut) (r : Counted) → CountsAnswered nx ny nz s cut r → countsVerdict nx ny nz s cut ≡ Passes → NotRefused (saidCounts r)
+pub refusing-counts-fall : (nx ny nz : ℕ) (s : List ℕ) (cut : Cut) (r : Counted) → CountsAnswered nx ny nz s cut r → blockVerdict nx ny nz s cut ≡ Passes → NotRefused (saidCounts r)
 refusing-counts-fall nx ny nz s cut r m e x h = passes-refuses (sym e ∙ refused-exactly _ _ _ m x .0 h)
 
 pub refusing-mesh-falls : (nx ny nz : ℕ) (s : List ℕ) (cut : Cut) (w : List ℕ) (o : List Float) (q : List ℕ) (r : Counted) (w′ : List ℕ) (o′ : List Float) (q′ : List ℕ)
@@ -94,20 +95,20 @@ module _ {nx ny nz : ℕ} {s : List ℕ} {cut : Cut} (a : MeshCall nx ny nz s cu
 
 -- what 01's cut of 100 passes: any block of that size
 module _ (nx ny nz : ℕ) (l : Limits (sizeOf nx ny nz)) where
-  of-size : (s : List ℕ) → length s ≡ nx * (ny * nz) → countsVerdict nx ny nz s (cutOf 100) ≡ Passes
+  of-size : (s : List ℕ) → length s ≡ nx * (ny * nz) → blockVerdict nx ny nz s (cutOf 100) ≡ Passes
   of-size s long =
       order-passes (axisRow nx ny nz) _ (within-axes nx ny nz l)
       ∙ order-passes (countRow (sizeOf nx ny nz) (length s)) _ (count-passes (sizeOf nx ny nz) (length s) long)
       ∙ order-last (thresholdRow (cutOf 100))
 
-  pub hollow-accepted : countsVerdict nx ny nz (hollow (sizeOf nx ny nz)) (cutOf 100) ≡ Passes
+  pub hollow-accepted : blockVerdict nx ny nz (hollow (sizeOf nx ny nz)) (cutOf 100) ≡ Passes
   hollow-accepted = of-size (hollow (sizeOf nx ny nz)) (hollow-length (sizeOf nx ny nz))
 
-  pub checkerboard-accepted : countsVerdict nx ny nz (board (sizeOf nx ny nz)) (cutOf 100) ≡ Passes
+  pub checkerboard-accepted : blockVerdict nx ny nz (board (sizeOf nx ny nz)) (cutOf 100) ≡ Passes
   checkerboard-accepted = of-size (board (sizeOf nx ny nz)) (board-length (sizeOf nx ny nz))
 
 -- an accepted block has a call with buffers of just its size
-module _ (nx ny nz : ℕ) (s : List ℕ) (cut : Cut) (passes : countsVerdict nx ny nz s cut ≡ Passes) where
+module _ (nx ny nz : ℕ) (s : List ℕ) (cut : Cut) (passes : blockVerdict nx ny nz s cut ≡ Passes) where
   abbrev v : ℕ
   v = vertexCount (sizeOf nx ny nz) s cut
 
@@ -153,8 +154,8 @@ one-count-falls nx ny nz l a b same =
 
 -- so a version that calls for every accepted block of a size does not answer the same counts for all; that there is such a version is `call-of`
 pub no-mesh-for-all : (nx ny nz : ℕ) → Limits (sizeOf nx ny nz) → (c : Totals)
-    → (call : (s : List ℕ) (cut : Cut) → countsVerdict nx ny nz s cut ≡ Passes → MeshCall nx ny nz s cut)
-    → ((s : List ℕ) (cut : Cut) (e : countsVerdict nx ny nz s cut ≡ Passes) → call s cut e .counts ≡ c) → ⊥
+    → (call : (s : List ℕ) (cut : Cut) → blockVerdict nx ny nz s cut ≡ Passes → MeshCall nx ny nz s cut)
+    → ((s : List ℕ) (cut : Cut) (e : blockVerdict nx ny nz s cut ≡ Passes) → call s cut e .counts ≡ c) → ⊥
 no-mesh-for-all nx ny nz l c call one =
     let h = hollow-accepted nx ny nz l in
     let b = checkerboard-accepted nx ny nz l in

@@ -11,6 +11,7 @@ pub mod Lists
 pub mod Files
 pub mod Pieces
 pub mod Told
+pub mod Room
 pub mod Closing
 pub mod Four
 pub mod StandIn

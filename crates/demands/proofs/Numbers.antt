@@ -27,7 +27,8 @@ use Rattle.cube_rule.specs.Decider.{joined, loopsOf}
 use Rattle.cube_rule.proofs.Laws.{cube-laws}
 use Rattle.cell.specs.Answer.{cubeVerdict}
 use Rattle.mesh_rule.proofs.Counts.{most-vertices, most-quads}
-use Rattle.mesh.specs.Answer.{vertexCount, quadCount, countsOf, blockRows, roomRows, vertexRow, quadRow, countsVerdict, meshVerdict}
+use Rattle.block.specs.Block.{blockRows, blockVerdict}
+use Rattle.mesh.specs.Answer.{vertexCount, quadCount, countsOf, roomRows, vertexRow, quadRow, meshVerdict}
 use Rattle.lists.specs.Rows.{lengthRow}
 use Rattle.closed.specs.Chains.{wordsNeeded, workRows}
 
@@ -72,7 +73,7 @@ edge-numbers t = cube-numbers (cutOf t)
 from-to : (a b : ℕ) {n : ℕ} → (x : Refusal) → x .number ≡ n → a ≤ n → n ≤ b → (a ≤ x .number) × (x .number ≤ b)
 from-to a b x e l h = (omega (arith, e, l), omega (arith, e, h))
 
-pub counts-numbers : (nx ny nz : ℕ) (s : List ℕ) (cut : Cut) (x : Refusal) → countsVerdict nx ny nz s cut ≡ Refuses x → (1 ≤ x .number) × (x .number ≤ 3)
+pub counts-numbers : (nx ny nz : ℕ) (s : List ℕ) (cut : Cut) (x : Refusal) → blockVerdict nx ny nz s cut ≡ Refuses x → (1 ≤ x .number) × (x .number ≤ 3)
 counts-numbers nx ny nz s cut =
     first-has (λ (x : Refusal). (1 ≤ x .number) × (x .number ≤ 3)) _ (
       λ x e. from-to 1 3 x (axis-number nx ny nz x e) (omega arith) (omega arith),
@@ -151,7 +152,7 @@ axis-uncut nx ny nz x e =
     let h = lowest-refusal 1 outOfLimits (nx ∷ ny ∷ nz ∷ []) x e in
     omega (arith, h .0, given-le x (lowest outOfLimits (nx ∷ ny ∷ nz ∷ [])) (h .1))
 
-pub counts-uncut : (nx ny nz : ℕ) (s : List ℕ) (cut : Cut) (x : Refusal) → cut .t < 65536 → countsVerdict nx ny nz s cut ≡ Refuses x → x .value ≤ 66325500
+pub counts-uncut : (nx ny nz : ℕ) (s : List ℕ) (cut : Cut) (x : Refusal) → cut .t < 65536 → blockVerdict nx ny nz s cut ≡ Refuses x → x .value ≤ 66325500
 counts-uncut nx ny nz s cut x grey e =
     ⊎-elim (axis-uncut nx ny nz x) (λ h. block-uncut nx ny nz s cut x grey (h .0) [] none (h .1))
     (order-splits (axisRow nx ny nz) _ x e)

@@ -33,7 +33,8 @@ use Rattle.pieces.specs.Rules.{WholeLog}
 use Rattle.pieces.proofs.Rows.{Accepted, accepted-by}
 use Rattle.pieces.proofs.Rules.{together-exactly, sizes-sum, no-quads-number, no-quads-size, no-quads-pieces, no-quads-longest, longest-bound, longest-log}
 use Rattle.pieces.proofs.Found.{some-numbers, refused-by}
-use Rattle.parsniprow_c.specs.Told.{tellOver, toldPieces, PiecesTold}
+use Rattle.parsniprow_c.specs.Told.{tellOver, PiecesTold}
+use Rattle.told.specs.Numbers.{toldPieces}
 use Rattle.demands.specs.Answers.{MeshCall, quadsWritten}
 use Rattle.demands.proofs.Lists.{quads-whole, quads-known}
 use Rattle.demands.proofs.Numbers.{length-number, search-number, unless-number}

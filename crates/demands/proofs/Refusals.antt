@@ -26,7 +26,8 @@ use Rattle.cell.specs.declared.CubeAnswer.{CubeAnswer}
 use Rattle.cell.specs.Answer.{saidCube, CubeAnswered}
 use Rattle.mesh.specs.declared.Totals.{Totals}
 use Rattle.mesh.specs.declared.Counted.{Counted}
-use Rattle.mesh.specs.Answer.{countsOf, saidCounts, blockRows, countsVerdict, CountsAnswered, roomRows, meshVerdict, Meshed}
+use Rattle.block.specs.Block.{blockRows, blockVerdict}
+use Rattle.mesh.specs.Answer.{countsOf, saidCounts, CountsAnswered, roomRows, meshVerdict, Meshed}
 use Rattle.closed.specs.declared.Closure.{Closure}
 use Rattle.closed.specs.Closed.{Finding, findingOf, saidClosure, ClosedAnswered}
 use Rattle.closed.specs.Chains.{workRows, ClosedWith}
@@ -83,7 +84,7 @@ module _ (nx ny nz : ℕ) (s : List ℕ) (cut : Cut) (r : Counted) (promise : Co
   pub counts-refuses : (x : Refusal) → (saidCounts r ≡ refused x) ↔ First (axisRow nx ny nz ∷ blockRows (sizeOf nx ny nz) s cut) x
   counts-refuses = refuses-by _ _ _ promise
 
-  pub counts-accepts : (c : Totals) → (saidCounts r ≡ accepted c) ↔ ((countsVerdict nx ny nz s cut ≡ Passes) × (c ≡ countsOf (sizeOf nx ny nz) s cut))
+  pub counts-accepts : (c : Totals) → (saidCounts r ≡ accepted c) ↔ ((blockVerdict nx ny nz s cut ≡ Passes) × (c ≡ countsOf (sizeOf nx ny nz) s cut))
   counts-accepts = accepted-exactly _ _ _ promise
 
 -- the closed question

@@ -25,7 +25,8 @@ use Rattle.mesh.specs.declared.Counted.{Counted}
 use Rattle.mesh.specs.declared.Counted.the-variants as counted
 use Rattle.mesh.specs.declared.Totals.{Totals}
 use Rattle.mesh.specs.Answer.{saidCounts}
-use Rattle.parsniprow_c.specs.Told.{tellOver, toldCeilings, toldCube, toldCounts, CeilingsTold, CubeTold, MeshTold}
+use Rattle.parsniprow_c.specs.Told.{tellOver, CeilingsTold, CubeTold, MeshTold}
+use Rattle.told.specs.Numbers.{toldCeilings, toldCube, toldCounts}
 use Rattle.demands.specs.Answers.{NotRefused, MeshCall}
 use Rattle.demands.specs.Marks.{hasMark, BothSigns}
 use Rattle.demands.proofs.Numbers.{cube-numbers, mesh-numbers}

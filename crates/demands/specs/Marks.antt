@@ -28,8 +28,10 @@ use Rattle.pieces.specs.Answer.{saidPieces, PiecesFound}
 use Rattle.ply.specs.declared.Spacing.{Spacing}
 use Rattle.ply.specs.declared.Filed.{Filed}
 use Rattle.ply.specs.Answer.{saidFile, PlyWritten}
+use Rattle.room.specs.declared.Edged.{Edged}
+use Rattle.room.specs.Answer.{saidCrossed, CrossedAnswered}
 use Rattle.lines.specs.Output.{refusalLine, Prints, Ran}
-use Rattle.parsniprow_c.specs.Told.{CeilingsTold, EdgeTold, CubeTold, CountsTold, MeshTold, ClosedTold, ClosedWithTold, PiecesTold, PlyTold}
+use Rattle.parsniprow_c.specs.Told.{CeilingsTold, EdgeTold, CubeTold, CrossedTold, CountsTold, MeshTold, ClosedTold, ClosedWithTold, PiecesTold, PlyTold}
 use Rattle.demands.specs.Answers.{MeshCall}
 
 -- the mark of a vertex is bit 12 of its word
@@ -68,6 +70,7 @@ pub record FourNever : Type 0 where
   pub size : (nx ny nz : ℕ) (r : Sized) → SizeMade nx ny nz r → NotFour (saidSize r)
   pub edge : (p q t : ℕ) (r : Crossing) → EdgeAnswered p q t r → NotFour (saidEdge r)
   pub cube : (corners : List ℕ) (cut : Cut) (r : CubeAnswer) → CubeAnswered corners cut r → NotFour (saidCube (r .found))
+  pub crossed : (nx ny nz : ℕ) (s : List ℕ) (cut : Cut) (r : Edged) → CrossedAnswered nx ny nz s cut r → NotFour (saidCrossed r)
   pub counts : (nx ny nz : ℕ) (s : List ℕ) (cut : Cut) (r : Counted) → CountsAnswered nx ny nz s cut r → NotFour (saidCounts r)
   pub mesh : (nx ny nz : ℕ) (s : List ℕ) (cut : Cut) (w : List ℕ) (o : List Float) (q : List ℕ) (r : Counted) (w′ : List ℕ) (o′ : List Float) (q′ : List ℕ)
       → Meshed nx ny nz s cut w o q r w′ o′ q′ → NotFour (saidCounts r)
@@ -81,6 +84,7 @@ pub record FourNever : Type 0 where
   pub edge-told : (p q t : ℕ) (f : List Float) (place : List ℕ) (f′ : List Float) (place′ : List ℕ) → EdgeTold p q t f place f′ place′ → getD place′ 0 0 ≡ 4 → ⊥
   pub cube-told : (corners : List ℕ) (t : ℕ) (w : List ℕ) (o : List Float) (place w′ : List ℕ) (o′ : List Float) (place′ : List ℕ)
       → CubeTold corners t w o place w′ o′ place′ → getD place′ 0 0 ≡ 4 → ⊥
+  pub crossed-told : (nx ny nz : ℕ) (s : List ℕ) (t : ℕ) (place place′ : List ℕ) → CrossedTold nx ny nz s t place place′ → getD place′ 0 0 ≡ 4 → ⊥
   pub counts-told : (nx ny nz : ℕ) (s : List ℕ) (t : ℕ) (place place′ : List ℕ) → CountsTold nx ny nz s t place place′ → getD place′ 0 0 ≡ 4 → ⊥
   pub mesh-told : (nx ny nz : ℕ) (s : List ℕ) (t : ℕ) (w : List ℕ) (o : List Float) (q place w′ : List ℕ) (o′ : List Float) (q′ place′ : List ℕ)
       → MeshTold nx ny nz s t w o q place w′ o′ q′ place′ → getD place′ 0 0 ≡ 4 → ⊥

@@ -28,7 +28,11 @@ use Rattle.ply.specs.declared.Spacing.{Spacing}
 use Rattle.ply.specs.declared.Filed.{Filed}
 use Rattle.ply.specs.Answer.{saidFile}
 use Rattle.ply.proofs.Fixed.{ply-fixed}
-use Rattle.parsniprow_c.specs.Told.{tellOver, toldCeilings, toldEdge, toldFraction, toldCube, toldCounts, toldClosed, toldPieces, toldLength, toldFile, CeilingsTold, EdgeTold, CubeTold, CountsTold, MeshTold, ClosedTold, ClosedWithTold, PiecesTold, PlyTold}
+use Rattle.room.specs.declared.Edged.{Edged}
+use Rattle.room.specs.Answer.{saidCrossed}
+use Rattle.room.proofs.Fixed.{crossed-fixed}
+use Rattle.parsniprow_c.specs.Told.{tellOver, CeilingsTold, EdgeTold, CubeTold, CrossedTold, CountsTold, MeshTold, ClosedTold, ClosedWithTold, PiecesTold, PlyTold}
+use Rattle.told.specs.Numbers.{toldCeilings, toldEdge, toldFraction, toldCube, toldCrossed, toldCounts, toldClosed, toldPieces, toldLength, toldFile}
 
 pub ceilings-told-fixed : (samples place : List ℕ) → Fixes (CeilingsTold samples place)
 ceilings-told-fixed samples place = equation-fixes (tellOver (toldCeilings (accepted (ceilingsIn samples))) place)
@@ -56,6 +60,12 @@ cube-told-fixed corners t words offsets place a b x y =
     is-cube-found corners t words offsets place a x
     ∙ ap (cubeFound words offsets place) (cube-fixed corners (cutOf t) (x .answer) (y .answer) (x .answered) (y .answered))
     ∙ sym (is-cube-found corners t words offsets place b y)
+
+pub crossed-told-fixed : (nx ny nz : ℕ) (s : List ℕ) (t : ℕ) (place : List ℕ) → Fixes (CrossedTold nx ny nz s t place)
+crossed-told-fixed nx ny nz s t place a b p q =
+    p .is-told
+    ∙ ap (λ (x : Edged). tellOver (toldCrossed (saidCrossed x)) place) (crossed-fixed nx ny nz s (cutOf t) (p .answer) (q .answer) (p .answered) (q .answered))
+    ∙ sym (q .is-told)
 
 pub counts-told-fixed : (nx ny nz : ℕ) (s : List ℕ) (t : ℕ) (place : List ℕ) → Fixes (CountsTold nx ny nz s t place)
 counts-told-fixed nx ny nz s t place a b p q =

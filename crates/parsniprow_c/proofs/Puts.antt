@@ -1,4 +1,4 @@
--- Values over the front of a place, one after the other until the values or the place end; and the coordinates of four offsets.
+-- Values over the front of a place, one after the other until the values or the place end.
 -- Assumes nothing.
 use Prim.Native.Nat.{ℕ, suc, _+_, _≤_, _<_}
 use mathlib.Core.Path.{_≡_, refl, ap, sym, _∙_}
@@ -8,8 +8,6 @@ use native.Mathlib.Omega.{arith}
 use lib.ListN.{length, getD, set, take, drop}
 use lib.Seq.{length-take-le, take-all, take-suc, drop-cons, set-at}
 use Rattle.laws.specs.Below.{over}
-use Rattle.place.specs.declared.Offset.{Offset}
-use Rattle.mesh_rule.specs.Buffers.{triples}
 use Rattle.parsniprow_c.specs.Told.{tellOver}
 
 module _ {A : Type 0} (values place : List A) where
@@ -38,13 +36,3 @@ module _ {A : Type 0} (values place : List A) where
   -- the values are at their end
   pub put-all : (l : List A) (i : ℕ) → l ≡ over (take i values) place → length values ≤ i → i ≤ length place → l ≡ tellOver values place
   put-all l i e h k = e ∙ ap (λ (xs : List A). over xs place) (take-all i values h ∙ sym (take-all (length place) values (omega arith)))
-
--- the coordinates of four offsets
-pub four-offsets : (o : List Offset) (d : Offset) → length o ≡ 4
-    → (getD o 0 d) .x ∷ (getD o 0 d) .y ∷ (getD o 0 d) .z ∷ (getD o 1 d) .x ∷ (getD o 1 d) .y ∷ (getD o 1 d) .z ∷ (getD o 2 d) .x ∷ (getD o 2 d) .y ∷ (getD o 2 d) .z ∷ (getD o 3 d) .x ∷ (getD o 3 d) .y ∷ (getD o 3 d) .z ∷ [] ≡ triples o
-four-offsets [] d h = absurd (omega arith)
-four-offsets (a ∷ []) d h = absurd (omega arith)
-four-offsets (a ∷ b ∷ []) d h = absurd (omega arith)
-four-offsets (a ∷ b ∷ c ∷ []) d h = absurd (omega arith)
-four-offsets (a ∷ b ∷ c ∷ e ∷ []) d h = refl
-four-offsets (a ∷ b ∷ c ∷ e ∷ f ∷ o) d h = absurd (omega arith)

@@ -1,79 +1,35 @@
--- What a C caller finds in the places that it lends for an answer: 01's number, then values, zeros where they are not used.
+-- What a C caller finds in the places that it lends: the promises of the functions for C.
 use Prim.Native.Nat.{ℕ}
 use mathlib.Core.Path.{_≡_}
-use mathlib.Core.List.{List, [], _∷_}
+use mathlib.Core.List.{List}
 use lib.ListN.{length, take}
 use lib.Ieee.{Float}
 use Rattle.laws.specs.Below.{over}
-use Rattle.laws.specs.Filled.{filled}
-use Rattle.block.specs.declared.CeilingCount.{CeilingCount}
-use Rattle.block.specs.Answer.{Answer, accepted, refused, given, told}
+use Rattle.block.specs.Answer.{accepted}
 use Rattle.block.specs.Ceilings.{ceilingsIn}
 use Rattle.block.specs.Grey.{cutOf}
 use Rattle.place.specs.declared.Crossing.{Crossing}
 use Rattle.place.specs.Crossing.{saidEdge, EdgeAnswered}
-use Rattle.place.specs.Place.{plusZero}
 use Rattle.cell.specs.declared.CubeAnswer.{CubeAnswer}
 use Rattle.cell.specs.Answer.{saidCube, CubeAnswered}
 use Rattle.mesh_rule.specs.Buffers.{triples}
-use Rattle.mesh.specs.declared.Totals.{Totals}
 use Rattle.mesh.specs.declared.Counted.{Counted}
 use Rattle.mesh.specs.Answer.{saidCounts, CountsAnswered, Meshed}
 use Rattle.closed.specs.declared.Closure.{Closure}
-use Rattle.closed.specs.Closed.{Finding, allSound, openAt, saidClosure, ClosedAnswered}
+use Rattle.closed.specs.Closed.{saidClosure, ClosedAnswered}
 use Rattle.closed.specs.Chains.{ClosedWith}
-use Rattle.pieces.specs.declared.Parts.{Parts}
 use Rattle.pieces.specs.declared.Pieced.{Pieced}
 use Rattle.pieces.specs.Answer.{saidPieces, PiecesFound}
 use Rattle.ply.specs.declared.Spacing.{Spacing}
 use Rattle.ply.specs.declared.Filed.{Filed}
 use Rattle.ply.specs.Answer.{saidFile, PlyWritten}
+use Rattle.room.specs.declared.Edged.{Edged}
+use Rattle.room.specs.Answer.{saidCrossed, CrossedAnswered}
+use Rattle.told.specs.Numbers.{toldCeilings, toldEdge, toldFraction, toldCube, toldCrossed, toldCounts, toldClosed, toldPieces, toldLength, toldFile}
 
 -- as many of these values as a place has room for; what is behind is kept
 abbrev pub tellOver : {A : Type 0} → List A → List A → List A
 tellOver values place = over (take (length place) values) place
-
--- samples at the ceiling, and the lowest index of one
-abbrev pub toldCeilings : Answer CeilingCount → List ℕ
-toldCeilings = told 3 (λ c. c .count ∷ c .lowest ∷ [])
-
--- crossings
-abbrev pub toldEdge : Answer (List Float) → List ℕ
-toldEdge = told 3 (λ f. length f ∷ [])
-
--- the fraction, and zero where there is none
-abbrev pub toldFraction : Answer (List Float) → List Float
-toldFraction (accepted f) = filled 1 plusZero f
-toldFraction (refused r) = filled 1 plusZero []
-
--- loops
-abbrev pub toldCube : Answer ℕ → List ℕ
-toldCube = told 3 (λ n. n ∷ [])
-
--- vertices, quads
-abbrev pub toldCounts : Answer Totals → List ℕ
-toldCounts = told 3 (λ c. c .vertices ∷ c .quads ∷ [])
-
--- 1 if closed; 0, quad, side if open
-abbrev pub findingNumbers : Finding → List ℕ
-findingNumbers allSound = 1 ∷ []
-findingNumbers (openAt q s) = 0 ∷ given q ∷ given s ∷ []
-
-abbrev pub toldClosed : Answer Finding → List ℕ
-toldClosed = told 4 findingNumbers
-
--- pieces, and the links of the longest search
-abbrev pub toldPieces : Answer Parts → List ℕ
-toldPieces = told 3 (λ p. p .count ∷ p .longest ∷ [])
-
--- the bytes of a file, and 0 where there is none
-abbrev pub toldLength : Answer ℕ → List ℕ
-toldLength (accepted n) = filled 1 0 (n ∷ [])
-toldLength (refused r) = filled 1 0 []
-
--- nothing else is told of it
-abbrev pub toldFile : Answer ℕ → List ℕ
-toldFile = told 3 (λ n. [])
 
 -- the promises: the library's own, and what of its answer is told; each place at entry and at exit
 abbrev pub CeilingsTold : List ℕ → List ℕ → List ℕ → Type 0
@@ -91,6 +47,11 @@ pub record CubeTold (corners : List ℕ) (t : ℕ) (words : List ℕ) (offsets :
   pub words-told : words′ ≡ tellOver (answer .words) words
   pub offsets-told : offsets′ ≡ tellOver (triples (answer .offsets)) offsets
   pub is-told : place′ ≡ tellOver (toldCube (saidCube (answer .found))) place
+
+pub record CrossedTold (nx ny nz : ℕ) (s : List ℕ) (t : ℕ) (place place′ : List ℕ) : Type 0 where
+  pub answer : Edged
+  pub answered : CrossedAnswered nx ny nz s (cutOf t) answer
+  pub is-told : place′ ≡ tellOver (toldCrossed (saidCrossed answer)) place
 
 pub record CountsTold (nx ny nz : ℕ) (s : List ℕ) (t : ℕ) (place place′ : List ℕ) : Type 0 where
   pub answer : Counted

@@ -1,27 +1,10 @@
 // The library for C: exported functions over numbers and slices, each of which writes its answer to lent places. A slice is a pointer and
 // then a length. include/parsniprow.h declares and explains them.
-use block::CeilingCount;
 use block::Cut;
-use cell::CubeAnswer;
-use cell::Found;
-use closed::Closure;
-use mesh::Counted;
-use pieces::Pieced;
-use place::Crossing;
-use place::Offset;
-use ply::Filed;
 use ply::Spacing;
 ghost use mathlib.Core.Path.{_≡_};
 ghost use mathlib.Core.List.{[], _∷_};
-ghost use Rattle.block.specs.Answer.{accepted};
-ghost use Rattle.place.specs.Crossing.{saidEdge};
-ghost use Rattle.cell.specs.Answer.{saidCube};
-ghost use Rattle.mesh_rule.specs.Buffers.{triples};
-ghost use Rattle.mesh.specs.Answer.{saidCounts};
-ghost use Rattle.closed.specs.Closed.{saidClosure};
-ghost use Rattle.pieces.specs.Answer.{saidPieces};
-ghost use Rattle.ply.specs.Answer.{saidFile};
-ghost use Rattle.parsniprow_c.specs.Told.{tellOver, toldCeilings, toldEdge, toldFraction, toldCube, toldCounts, toldClosed, toldPieces, toldLength, toldFile, CeilingsTold, EdgeTold, CubeTold, CountsTold, MeshTold, ClosedTold, ClosedWithTold, PiecesTold, PlyTold};
+ghost use Rattle.parsniprow_c.specs.Told.{tellOver, CeilingsTold, EdgeTold, CubeTold, CrossedTold, CountsTold, MeshTold, ClosedTold, ClosedWithTold, PiecesTold, PlyTold};
 
 // How many samples are at the detector's ceiling, and the lowest index of one.
 #[no_mangle]
@@ -29,7 +12,7 @@ pub extern "C" fn parsniprow_ceilings(samples: &[u16], answer: &mut [u32])
     ensures { λ _. ⌜ CeilingsTold (now (samples .entry)) (now (answer .entry)) (now (answer .exit)) ⌝ }
 {
     let seen = block::ceilings(samples);
-    let told = tell_ceilings(seen);
+    let told = told::tell_ceilings(seen);
     put(answer, &told);
 }
 
@@ -39,9 +22,9 @@ pub extern "C" fn parsniprow_edge(p: u16, q: u16, t: u16, fraction: &mut [f64], 
     ensures { λ _. ⌜ EdgeTold p q t (now (fraction .entry)) (now (answer .entry)) (now (fraction .exit)) (now (answer .exit)) ⌝ }
 {
     let crossing = place::edge(p, q, t);
-    let found = tell_fraction(crossing);
+    let found = told::tell_fraction(crossing);
     put_places(fraction, &found);
-    let told = tell_edge(crossing);
+    let told = told::tell_edge(crossing);
     put(answer, &told);
 }
 
@@ -67,10 +50,27 @@ pub extern "C" fn parsniprow_cube(
     let four = given.words;
     put(words, &four);
     let places = given.offsets;
-    let twelve = tell_offsets(places);
+    let twelve = told::tell_offsets(places);
     put_places(offsets, &twelve);
     let found = given.found;
-    let told = tell_cube(found);
+    let told = told::tell_cube(found);
+    put(answer, &told);
+}
+
+// How many edges of a block are crossed: how much room its mesh can take.
+#[no_mangle]
+pub extern "C" fn parsniprow_crossed(
+    nx: u32,
+    ny: u32,
+    nz: u32,
+    samples: &[u16],
+    t: u16,
+    answer: &mut [u32],
+)
+    ensures { λ _. ⌜ CrossedTold nx ny nz (now (samples .entry)) t (now (answer .entry)) (now (answer .exit)) ⌝ }
+{
+    let edged = room::crossed(nx, ny, nz, samples, Cut { t: t });
+    let told = told::tell_crossed(edged);
     put(answer, &told);
 }
 
@@ -87,7 +87,7 @@ pub extern "C" fn parsniprow_counts(
     ensures { λ _. ⌜ CountsTold nx ny nz (now (samples .entry)) t (now (answer .entry)) (now (answer .exit)) ⌝ }
 {
     let counted = mesh::counts(nx, ny, nz, samples, Cut { t: t });
-    let told = tell_counts(counted);
+    let told = told::tell_counts(counted);
     put(answer, &told);
 }
 
@@ -107,7 +107,7 @@ pub extern "C" fn parsniprow_mesh(
     ensures { λ _. ⌜ MeshTold nx ny nz (now (samples .entry)) t (now (words .entry)) (now (offsets .entry)) (now (quads .entry)) (now (answer .entry)) (now (words .exit)) (now (offsets .exit)) (now (quads .exit)) (now (answer .exit)) ⌝ }
 {
     let counted = mesh::mesh(nx, ny, nz, samples, Cut { t: t }, words, offsets, quads);
-    let told = tell_counts(counted);
+    let told = told::tell_counts(counted);
     put(answer, &told);
 }
 
@@ -117,7 +117,7 @@ pub extern "C" fn parsniprow_closed(quads: &[u32], answer: &mut [u32])
     ensures { λ _. ⌜ ClosedTold (now (quads .entry)) (now (answer .entry)) (now (answer .exit)) ⌝ }
 {
     let closure = closed::closed(quads);
-    let told = tell_closed(closure);
+    let told = told::tell_closed(closure);
     put(answer, &told);
 }
 
@@ -127,7 +127,7 @@ pub extern "C" fn parsniprow_closed_with(quads: &[u32], work: &mut [u64], answer
     ensures { λ _. ⌜ ClosedWithTold (now (quads .entry)) (now (work .entry)) (now (answer .entry)) (now (work .exit)) (now (answer .exit)) ⌝ }
 {
     let closure = closed::closed_with(quads, work);
-    let told = tell_closed(closure);
+    let told = told::tell_closed(closure);
     put(answer, &told);
 }
 
@@ -143,7 +143,7 @@ pub extern "C" fn parsniprow_pieces(
     ensures { λ _. ⌜ PiecesTold n (now (quads .entry)) (now (piece .entry)) (now (size .entry)) (now (answer .entry)) (now (piece .exit)) (now (size .exit)) (now (answer .exit)) ⌝ }
 {
     let pieced = pieces::pieces(n, quads, piece, size);
-    let told = tell_pieces(pieced);
+    let told = told::tell_pieces(pieced);
     put(answer, &told);
 }
 
@@ -175,110 +175,10 @@ pub extern "C" fn parsniprow_ply(
         Spacing { x: x, y: y, z: z },
         file,
     );
-    let long = tell_length(filed);
+    let long = told::tell_length(filed);
     put_lengths(length, &long);
-    let told = tell_file(filed);
+    let told = told::tell_file(filed);
     put(answer, &told);
-}
-
-fn tell_ceilings(seen: CeilingCount) -> [u32; 3]
-    ensures { λ r. ⌜ r ≡ toldCeilings (accepted seen) ⌝ }
-{
-    [0, seen.count, seen.lowest]
-}
-
-fn tell_edge(crossing: Crossing) -> [u32; 3]
-    ensures { λ r. ⌜ r ≡ toldEdge (saidEdge crossing) ⌝ }
-{
-    match crossing {
-        Crossing::Nothing => [0, 0, 0],
-        Crossing::At(_) => [0, 1, 0],
-        Crossing::Refused(r) => [r.number, r.value, 0],
-    }
-}
-
-fn tell_fraction(crossing: Crossing) -> [f64; 1]
-    ensures { λ r. ⌜ r ≡ toldFraction (saidEdge crossing) ⌝ }
-{
-    match crossing {
-        Crossing::Nothing => [0.0],
-        Crossing::At(f) => [f],
-        Crossing::Refused(_) => [0.0],
-    }
-}
-
-fn tell_cube(found: Found) -> [u32; 3]
-    ensures { λ r. ⌜ r ≡ toldCube (saidCube found) ⌝ }
-{
-    match found {
-        Found::Loops(n) => [0, n, 0],
-        Found::Refused(r) => [r.number, r.value, 0],
-    }
-}
-
-fn tell_offsets(o: [Offset; 4]) -> [f64; 12]
-    ensures { λ r. ⌜ r ≡ triples o ⌝ }
-{
-    [
-        o[0].x,
-        o[0].y,
-        o[0].z,
-        o[1].x,
-        o[1].y,
-        o[1].z,
-        o[2].x,
-        o[2].y,
-        o[2].z,
-        o[3].x,
-        o[3].y,
-        o[3].z,
-    ]
-}
-
-fn tell_counts(counted: Counted) -> [u32; 3]
-    ensures { λ r. ⌜ r ≡ toldCounts (saidCounts counted) ⌝ }
-{
-    match counted {
-        Counted::Counts(c) => [0, c.vertices, c.quads],
-        Counted::Refused(r) => [r.number, r.value, 0],
-    }
-}
-
-fn tell_closed(closure: Closure) -> [u32; 4]
-    ensures { λ r. ⌜ r ≡ toldClosed (saidClosure closure) ⌝ }
-{
-    match closure {
-        Closure::Closed => [0, 1, 0, 0],
-        Closure::Open { quad, side } => [0, 0, block::short(quad), block::short(side)],
-        Closure::Refused(r) => [r.number, r.value, 0, 0],
-    }
-}
-
-fn tell_pieces(pieced: Pieced) -> [u32; 3]
-    ensures { λ r. ⌜ r ≡ toldPieces (saidPieces pieced) ⌝ }
-{
-    match pieced {
-        Pieced::Found(p) => [0, p.count, p.longest],
-        Pieced::Refused(r) => [r.number, r.value, 0],
-    }
-}
-
-fn tell_length(filed: Filed) -> [u64; 1]
-    ensures { λ r. ⌜ r ≡ toldLength (saidFile filed) ⌝ }
-{
-    match filed {
-        Filed::Bytes(n) => [n as u64],
-        Filed::Refused(_) => [0],
-    }
-}
-
-fn tell_file(filed: Filed) -> [u32; 3]
-    ensures { λ r. ⌜ r ≡ toldFile (saidFile filed) ⌝ }
-{
-    match filed {
-        Filed::Bytes(_) => [0, 0, 0],
-        Filed::Refused(r) => [r.number, r.value, 0],
-    }
 }
 
 // Numbers over the front of a lent place, as many as it has room for.

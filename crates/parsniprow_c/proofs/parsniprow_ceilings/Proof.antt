@@ -5,7 +5,8 @@ use mathlib.Core.Path.{ap, _∙_}
 use mathlib.Core.List.{List}
 use Rattle.block.specs.declared.CeilingCount.{CeilingCount}
 use Rattle.block.specs.Answer.{accepted}
-use Rattle.parsniprow_c.specs.Told.{tellOver, toldCeilings}
+use Rattle.parsniprow_c.specs.Told.{tellOver}
+use Rattle.told.specs.Numbers.{toldCeilings}
 use borrow.Author.Needs.{needs}
 use Rattle.parsniprow_c.proofs.parsniprow_ceilings.Statement.{statement}
 use Rattle.parsniprow_c.proofs.parsniprow_ceilings.Tie as tie
@@ -13,7 +14,7 @@ use Rattle.parsniprow_c.proofs.parsniprow_ceilings.Reads as reads
 use Rattle.parsniprow_c.proofs.parsniprow_ceilings.Lts as lts
 use Rattle.block.proofs.ceilings.Reads as ceilings-reads
 use Rattle.parsniprow_c.proofs.put.Reads as put-reads
-use Rattle.parsniprow_c.proofs.tell_ceilings.Reads as tell-ceilings-reads
+use Rattle.told.proofs.tell_ceilings.Reads as tell-ceilings-reads
 
 ceilings-requires : tie.Need-ceilings-requires
 ceilings-requires c κs = search needs

@@ -11,7 +11,7 @@ use Rattle.parsniprow_c.proofs.parsniprow_closed.Reads as reads
 use Rattle.parsniprow_c.proofs.parsniprow_closed.Lts as lts
 use Rattle.closed.proofs.closed.Reads as closed-reads
 use Rattle.parsniprow_c.proofs.put.Reads as put-reads
-use Rattle.parsniprow_c.proofs.tell_closed.Reads as tell-closed-reads
+use Rattle.told.proofs.tell_closed.Reads as tell-closed-reads
 
 closed-requires : tie.Need-closed-requires
 closed-requires c κs = search needs

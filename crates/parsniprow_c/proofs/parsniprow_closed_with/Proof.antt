@@ -11,7 +11,7 @@ use Rattle.parsniprow_c.proofs.parsniprow_closed_with.Reads as reads
 use Rattle.parsniprow_c.proofs.parsniprow_closed_with.Lts as lts
 use Rattle.closed.proofs.closed_with.Reads as closed-with-reads
 use Rattle.parsniprow_c.proofs.put.Reads as put-reads
-use Rattle.parsniprow_c.proofs.tell_closed.Reads as tell-closed-reads
+use Rattle.told.proofs.tell_closed.Reads as tell-closed-reads
 
 closed-with-requires : tie.Need-closed-with-requires
 closed-with-requires c κs = search needs

@@ -11,7 +11,7 @@ use Rattle.parsniprow_c.proofs.parsniprow_counts.Reads as reads
 use Rattle.parsniprow_c.proofs.parsniprow_counts.Lts as lts
 use Rattle.mesh.proofs.counts.Reads as counts-reads
 use Rattle.parsniprow_c.proofs.put.Reads as put-reads
-use Rattle.parsniprow_c.proofs.tell_counts.Reads as tell-counts-reads
+use Rattle.told.proofs.tell_counts.Reads as tell-counts-reads
 
 counts-requires : tie.Need-counts-requires
 counts-requires c κs = search needs

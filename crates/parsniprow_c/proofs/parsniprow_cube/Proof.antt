@@ -13,8 +13,8 @@ use Rattle.parsniprow_c.proofs.parsniprow_cube.Lts as lts
 use Rattle.cell.proofs.cube.Reads as cube-reads
 use Rattle.parsniprow_c.proofs.put.Reads as put-reads
 use Rattle.parsniprow_c.proofs.put_places.Reads as put-places-reads
-use Rattle.parsniprow_c.proofs.tell_cube.Reads as tell-cube-reads
-use Rattle.parsniprow_c.proofs.tell_offsets.Reads as tell-offsets-reads
+use Rattle.told.proofs.tell_cube.Reads as tell-cube-reads
+use Rattle.told.proofs.tell_offsets.Reads as tell-offsets-reads
 
 cube-requires : tie.Need-cube-requires
 cube-requires c κs = search needs

@@ -12,8 +12,8 @@ use Rattle.parsniprow_c.proofs.parsniprow_edge.Reads as reads
 use Rattle.parsniprow_c.proofs.parsniprow_edge.Lts as lts
 use Rattle.parsniprow_c.proofs.put.Reads as put-reads
 use Rattle.parsniprow_c.proofs.put_places.Reads as put-places-reads
-use Rattle.parsniprow_c.proofs.tell_edge.Reads as tell-edge-reads
-use Rattle.parsniprow_c.proofs.tell_fraction.Reads as tell-fraction-reads
+use Rattle.told.proofs.tell_edge.Reads as tell-edge-reads
+use Rattle.told.proofs.tell_fraction.Reads as tell-fraction-reads
 use Rattle.place.proofs.edge.Reads as edge-reads
 
 edge-requires : tie.Need-edge-requires

@@ -11,7 +11,7 @@ use Rattle.parsniprow_c.proofs.parsniprow_mesh.Reads as reads
 use Rattle.parsniprow_c.proofs.parsniprow_mesh.Lts as lts
 use Rattle.mesh.proofs.mesh.Reads as mesh-reads
 use Rattle.parsniprow_c.proofs.put.Reads as put-reads
-use Rattle.parsniprow_c.proofs.tell_counts.Reads as tell-counts-reads
+use Rattle.told.proofs.tell_counts.Reads as tell-counts-reads
 
 mesh-requires : tie.Need-mesh-requires
 mesh-requires c κs = search needs

@@ -11,7 +11,7 @@ use Rattle.parsniprow_c.proofs.parsniprow_pieces.Reads as reads
 use Rattle.parsniprow_c.proofs.parsniprow_pieces.Lts as lts
 use Rattle.pieces.proofs.pieces.Reads as pieces-reads
 use Rattle.parsniprow_c.proofs.put.Reads as put-reads
-use Rattle.parsniprow_c.proofs.tell_pieces.Reads as tell-pieces-reads
+use Rattle.told.proofs.tell_pieces.Reads as tell-pieces-reads
 
 pieces-requires : tie.Need-pieces-requires
 pieces-requires c κs = search needs

@@ -11,8 +11,8 @@ use Rattle.parsniprow_c.proofs.parsniprow_ply.Reads as reads
 use Rattle.parsniprow_c.proofs.parsniprow_ply.Lts as lts
 use Rattle.parsniprow_c.proofs.put.Reads as put-reads
 use Rattle.parsniprow_c.proofs.put_lengths.Reads as put-lengths-reads
-use Rattle.parsniprow_c.proofs.tell_file.Reads as tell-file-reads
-use Rattle.parsniprow_c.proofs.tell_length.Reads as tell-length-reads
+use Rattle.told.proofs.tell_file.Reads as tell-file-reads
+use Rattle.told.proofs.tell_length.Reads as tell-length-reads
 use Rattle.ply.proofs.write.Reads as write-reads
 
 write-requires : tie.Need-write-requires

@@ -1,11 +1,11 @@
 -- `tell_offsets` meets its contract: the coordinates of four offsets, one after the other.
 -- Assumes nothing.
-use Rattle.parsniprow_c.proofs.Puts.{four-offsets}
+use Rattle.told.proofs.Offsets.{four-offsets}
 use borrow.Author.Needs.{needs}
-use Rattle.parsniprow_c.proofs.tell_offsets.Statement.{statement}
-use Rattle.parsniprow_c.proofs.tell_offsets.Tie as tie
-use Rattle.parsniprow_c.proofs.tell_offsets.Reads as reads
-use Rattle.parsniprow_c.proofs.tell_offsets.Lts as lts
+use Rattle.told.proofs.tell_offsets.Statement.{statement}
+use Rattle.told.proofs.tell_offsets.Tie as tie
+use Rattle.told.proofs.tell_offsets.Reads as reads
+use Rattle.told.proofs.tell_offsets.Lts as lts
 
 element-copy-out-t5 : tie.Need-element-copy-out-t5
 element-copy-out-t5 c = search needs

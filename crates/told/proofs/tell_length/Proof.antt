@@ -7,12 +7,12 @@ use Rattle.block.specs.declared.Refusal.{Refusal}
 use Rattle.ply.specs.declared.Filed.{Filed}
 use Rattle.ply.specs.declared.Filed.the-variants.{Refused}
 use Rattle.ply.specs.Answer.{saidFile}
-use Rattle.parsniprow_c.specs.Told.{toldLength}
+use Rattle.told.specs.Numbers.{toldLength}
 use borrow.Author.Needs.{needs}
-use Rattle.parsniprow_c.proofs.tell_length.Statement.{statement}
-use Rattle.parsniprow_c.proofs.tell_length.Tie as tie
-use Rattle.parsniprow_c.proofs.tell_length.Reads as reads
-use Rattle.parsniprow_c.proofs.tell_length.Lts as lts
+use Rattle.told.proofs.tell_length.Statement.{statement}
+use Rattle.told.proofs.tell_length.Tie as tie
+use Rattle.told.proofs.tell_length.Reads as reads
+use Rattle.told.proofs.tell_length.Lts as lts
 
 enum-known-filed : tie.Need-enum-known-filed
 enum-known-filed c = search needs

@@ -4,12 +4,12 @@ use mathlib.Core.Path.{sym, ap}
 use Rattle.laws.specs.Filled.{filled}
 use Rattle.mesh.specs.declared.Counted.{Counted}
 use Rattle.mesh.specs.Answer.{saidCounts}
-use Rattle.parsniprow_c.specs.Told.{toldCounts}
+use Rattle.told.specs.Numbers.{toldCounts}
 use borrow.Author.Needs.{needs}
-use Rattle.parsniprow_c.proofs.tell_counts.Statement.{statement}
-use Rattle.parsniprow_c.proofs.tell_counts.Tie as tie
-use Rattle.parsniprow_c.proofs.tell_counts.Reads as reads
-use Rattle.parsniprow_c.proofs.tell_counts.Lts as lts
+use Rattle.told.proofs.tell_counts.Statement.{statement}
+use Rattle.told.proofs.tell_counts.Tie as tie
+use Rattle.told.proofs.tell_counts.Reads as reads
+use Rattle.told.proofs.tell_counts.Lts as lts
 
 enum-known-counted : tie.Need-enum-known-counted
 enum-known-counted c = search needs

@@ -4,12 +4,12 @@ use mathlib.Core.Path.{sym, ap}
 use Rattle.laws.specs.Filled.{filled}
 use Rattle.pieces.specs.declared.Pieced.{Pieced}
 use Rattle.pieces.specs.Answer.{saidPieces}
-use Rattle.parsniprow_c.specs.Told.{toldPieces}
+use Rattle.told.specs.Numbers.{toldPieces}
 use borrow.Author.Needs.{needs}
-use Rattle.parsniprow_c.proofs.tell_pieces.Statement.{statement}
-use Rattle.parsniprow_c.proofs.tell_pieces.Tie as tie
-use Rattle.parsniprow_c.proofs.tell_pieces.Reads as reads
-use Rattle.parsniprow_c.proofs.tell_pieces.Lts as lts
+use Rattle.told.proofs.tell_pieces.Statement.{statement}
+use Rattle.told.proofs.tell_pieces.Tie as tie
+use Rattle.told.proofs.tell_pieces.Reads as reads
+use Rattle.told.proofs.tell_pieces.Lts as lts
 
 enum-known-pieced : tie.Need-enum-known-pieced
 enum-known-pieced c = search needs

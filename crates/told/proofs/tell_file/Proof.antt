@@ -4,12 +4,12 @@ use mathlib.Core.Path.{sym, ap}
 use Rattle.laws.specs.Filled.{filled}
 use Rattle.ply.specs.declared.Filed.{Filed}
 use Rattle.ply.specs.Answer.{saidFile}
-use Rattle.parsniprow_c.specs.Told.{toldFile}
+use Rattle.told.specs.Numbers.{toldFile}
 use borrow.Author.Needs.{needs}
-use Rattle.parsniprow_c.proofs.tell_file.Statement.{statement}
-use Rattle.parsniprow_c.proofs.tell_file.Tie as tie
-use Rattle.parsniprow_c.proofs.tell_file.Reads as reads
-use Rattle.parsniprow_c.proofs.tell_file.Lts as lts
+use Rattle.told.proofs.tell_file.Statement.{statement}
+use Rattle.told.proofs.tell_file.Tie as tie
+use Rattle.told.proofs.tell_file.Reads as reads
+use Rattle.told.proofs.tell_file.Lts as lts
 
 enum-told : tie.Need-enum-told
 enum-told c = search needs

@@ -4,12 +4,12 @@ use mathlib.Core.Path.{sym, ap}
 use Rattle.laws.specs.Filled.{filled}
 use Rattle.place.specs.declared.Crossing.{Crossing}
 use Rattle.place.specs.Crossing.{saidEdge}
-use Rattle.parsniprow_c.specs.Told.{toldEdge}
+use Rattle.told.specs.Numbers.{toldEdge}
 use borrow.Author.Needs.{needs}
-use Rattle.parsniprow_c.proofs.tell_edge.Statement.{statement}
-use Rattle.parsniprow_c.proofs.tell_edge.Tie as tie
-use Rattle.parsniprow_c.proofs.tell_edge.Reads as reads
-use Rattle.parsniprow_c.proofs.tell_edge.Lts as lts
+use Rattle.told.proofs.tell_edge.Statement.{statement}
+use Rattle.told.proofs.tell_edge.Tie as tie
+use Rattle.told.proofs.tell_edge.Reads as reads
+use Rattle.told.proofs.tell_edge.Lts as lts
 
 enum-told : tie.Need-enum-told
 enum-told c = search needs

@@ -6,12 +6,12 @@ use mathlib.Core.Path.{sym, ap, ap₂, _∙_}
 use Rattle.laws.specs.Filled.{filled}
 use Rattle.closed.specs.declared.Closure.{Closure}
 use Rattle.closed.specs.Closed.{saidClosure}
-use Rattle.parsniprow_c.specs.Told.{toldClosed}
+use Rattle.told.specs.Numbers.{toldClosed}
 use borrow.Author.Needs.{needs}
-use Rattle.parsniprow_c.proofs.tell_closed.Statement.{statement}
-use Rattle.parsniprow_c.proofs.tell_closed.Tie as tie
-use Rattle.parsniprow_c.proofs.tell_closed.Reads as reads
-use Rattle.parsniprow_c.proofs.tell_closed.Lts as lts
+use Rattle.told.proofs.tell_closed.Statement.{statement}
+use Rattle.told.proofs.tell_closed.Tie as tie
+use Rattle.told.proofs.tell_closed.Reads as reads
+use Rattle.told.proofs.tell_closed.Lts as lts
 use Rattle.block.proofs.short.Reads as short-reads
 
 enum-told : tie.Need-enum-told

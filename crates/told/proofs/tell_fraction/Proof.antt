@@ -5,12 +5,12 @@ use lib.Ieee.{ofBits}
 use Rattle.laws.specs.Filled.{filled}
 use Rattle.place.specs.declared.Crossing.{Crossing}
 use Rattle.place.specs.Crossing.{saidEdge}
-use Rattle.parsniprow_c.specs.Told.{toldFraction}
+use Rattle.told.specs.Numbers.{toldFraction}
 use borrow.Author.Needs.{needs}
-use Rattle.parsniprow_c.proofs.tell_fraction.Statement.{statement}
-use Rattle.parsniprow_c.proofs.tell_fraction.Tie as tie
-use Rattle.parsniprow_c.proofs.tell_fraction.Reads as reads
-use Rattle.parsniprow_c.proofs.tell_fraction.Lts as lts
+use Rattle.told.proofs.tell_fraction.Statement.{statement}
+use Rattle.told.proofs.tell_fraction.Tie as tie
+use Rattle.told.proofs.tell_fraction.Reads as reads
+use Rattle.told.proofs.tell_fraction.Lts as lts
 
 enum-told : tie.Need-enum-told
 enum-told c = search needs

@@ -4,12 +4,12 @@ use mathlib.Core.Path.{sym, ap}
 use Rattle.laws.specs.Filled.{filled}
 use Rattle.cell.specs.declared.Found.{Found}
 use Rattle.cell.specs.Answer.{saidCube}
-use Rattle.parsniprow_c.specs.Told.{toldCube}
+use Rattle.told.specs.Numbers.{toldCube}
 use borrow.Author.Needs.{needs}
-use Rattle.parsniprow_c.proofs.tell_cube.Statement.{statement}
-use Rattle.parsniprow_c.proofs.tell_cube.Tie as tie
-use Rattle.parsniprow_c.proofs.tell_cube.Reads as reads
-use Rattle.parsniprow_c.proofs.tell_cube.Lts as lts
+use Rattle.told.proofs.tell_cube.Statement.{statement}
+use Rattle.told.proofs.tell_cube.Tie as tie
+use Rattle.told.proofs.tell_cube.Reads as reads
+use Rattle.told.proofs.tell_cube.Lts as lts
 
 enum-known-found : tie.Need-enum-known-found
 enum-known-found c = search needs

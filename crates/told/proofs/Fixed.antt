@@ -1,0 +1,49 @@
+-- Each promise of the crate fixes its answer: any two answers that it allows are equal.
+-- Assumes nothing.
+use Prim.Native.Nat.{ℕ}
+use mathlib.Core.Path.{_≡_}
+use mathlib.Core.List.{List}
+use lib.Ieee.{Float}
+use Rattle.laws.specs.Fixed.{Fixes}
+use Rattle.laws.proofs.Fixed.{equation-fixes}
+use Rattle.block.specs.declared.CeilingCount.{CeilingCount}
+use Rattle.block.specs.Answer.{Answer, accepted}
+use Rattle.place.specs.declared.Offset.{Offset}
+use Rattle.mesh_rule.specs.Buffers.{triples}
+use Rattle.mesh.specs.declared.Totals.{Totals}
+use Rattle.closed.specs.Closed.{Finding}
+use Rattle.pieces.specs.declared.Parts.{Parts}
+use Rattle.told.specs.Numbers.{toldCeilings, toldEdge, toldFraction, toldCube, toldCrossed, toldCounts, toldClosed, toldPieces, toldLength, toldFile}
+
+pub tell-ceilings-fixed : (x : CeilingCount) → Fixes (λ (r : List ℕ). r ≡ toldCeilings (accepted x))
+tell-ceilings-fixed x = equation-fixes (toldCeilings (accepted x))
+
+pub tell-edge-fixed : (x : Answer (List Float)) → Fixes (λ (r : List ℕ). r ≡ toldEdge x)
+tell-edge-fixed x = equation-fixes (toldEdge x)
+
+pub tell-fraction-fixed : (x : Answer (List Float)) → Fixes (λ (r : List Float). r ≡ toldFraction x)
+tell-fraction-fixed x = equation-fixes (toldFraction x)
+
+pub tell-cube-fixed : (x : Answer ℕ) → Fixes (λ (r : List ℕ). r ≡ toldCube x)
+tell-cube-fixed x = equation-fixes (toldCube x)
+
+pub tell-offsets-fixed : (x : List Offset) → Fixes (λ (r : List Float). r ≡ triples x)
+tell-offsets-fixed x = equation-fixes (triples x)
+
+pub tell-crossed-fixed : (x : Answer ℕ) → Fixes (λ (r : List ℕ). r ≡ toldCrossed x)
+tell-crossed-fixed x = equation-fixes (toldCrossed x)
+
+pub tell-counts-fixed : (x : Answer Totals) → Fixes (λ (r : List ℕ). r ≡ toldCounts x)
+tell-counts-fixed x = equation-fixes (toldCounts x)
+
+pub tell-closed-fixed : (x : Answer Finding) → Fixes (λ (r : List ℕ). r ≡ toldClosed x)
+tell-closed-fixed x = equation-fixes (toldClosed x)
+
+pub tell-pieces-fixed : (x : Answer Parts) → Fixes (λ (r : List ℕ). r ≡ toldPieces x)
+tell-pieces-fixed x = equation-fixes (toldPieces x)
+
+pub tell-length-fixed : (x : Answer ℕ) → Fixes (λ (r : List ℕ). r ≡ toldLength x)
+tell-length-fixed x = equation-fixes (toldLength x)
+
+pub tell-file-fixed : (x : Answer ℕ) → Fixes (λ (r : List ℕ). r ≡ toldFile x)
+tell-file-fixed x = equation-fixes (toldFile x)

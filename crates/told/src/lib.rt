@@ -1,0 +1,141 @@
+// What a C caller is told of each answer, in numbers: 0 and what is answered, or number and value of a refusal; zeros where they are not used.
+use block::CeilingCount;
+use cell::Found;
+use closed::Closure;
+use mesh::Counted;
+use pieces::Pieced;
+use place::Crossing;
+use place::Offset;
+use ply::Filed;
+use room::Edged;
+ghost use mathlib.Core.Path.{_≡_};
+ghost use Rattle.block.specs.Answer.{accepted};
+ghost use Rattle.place.specs.Crossing.{saidEdge};
+ghost use Rattle.cell.specs.Answer.{saidCube};
+ghost use Rattle.mesh_rule.specs.Buffers.{triples};
+ghost use Rattle.mesh.specs.Answer.{saidCounts};
+ghost use Rattle.closed.specs.Closed.{saidClosure};
+ghost use Rattle.pieces.specs.Answer.{saidPieces};
+ghost use Rattle.ply.specs.Answer.{saidFile};
+ghost use Rattle.room.specs.Answer.{saidCrossed};
+ghost use Rattle.told.specs.Numbers.{toldCeilings, toldEdge, toldFraction, toldCube, toldCrossed, toldCounts, toldClosed, toldPieces, toldLength, toldFile};
+
+// How many samples are at the ceiling, and the lowest index of one.
+pub fn tell_ceilings(seen: CeilingCount) -> [u32; 3]
+    ensures { λ r. ⌜ r ≡ toldCeilings (accepted seen) ⌝ }
+{
+    [0, seen.count, seen.lowest]
+}
+
+// How many crossings an edge has, 0 or 1.
+pub fn tell_edge(crossing: Crossing) -> [u32; 3]
+    ensures { λ r. ⌜ r ≡ toldEdge (saidEdge crossing) ⌝ }
+{
+    match crossing {
+        Crossing::Nothing => [0, 0, 0],
+        Crossing::At(_) => [0, 1, 0],
+        Crossing::Refused(r) => [r.number, r.value, 0],
+    }
+}
+
+// Where the crossing is, or zero.
+pub fn tell_fraction(crossing: Crossing) -> [f64; 1]
+    ensures { λ r. ⌜ r ≡ toldFraction (saidEdge crossing) ⌝ }
+{
+    match crossing {
+        Crossing::Nothing => [0.0],
+        Crossing::At(f) => [f],
+        Crossing::Refused(_) => [0.0],
+    }
+}
+
+// How many loops a cube has.
+pub fn tell_cube(found: Found) -> [u32; 3]
+    ensures { λ r. ⌜ r ≡ toldCube (saidCube found) ⌝ }
+{
+    match found {
+        Found::Loops(n) => [0, n, 0],
+        Found::Refused(r) => [r.number, r.value, 0],
+    }
+}
+
+// The places of its loops, one coordinate after the other.
+pub fn tell_offsets(o: [Offset; 4]) -> [f64; 12]
+    ensures { λ r. ⌜ r ≡ triples o ⌝ }
+{
+    [
+        o[0].x,
+        o[0].y,
+        o[0].z,
+        o[1].x,
+        o[1].y,
+        o[1].z,
+        o[2].x,
+        o[2].y,
+        o[2].z,
+        o[3].x,
+        o[3].y,
+        o[3].z,
+    ]
+}
+
+// How many edges of a block are crossed.
+pub fn tell_crossed(edged: Edged) -> [u32; 3]
+    ensures { λ r. ⌜ r ≡ toldCrossed (saidCrossed edged) ⌝ }
+{
+    match edged {
+        Edged::Edges(n) => [0, n, 0],
+        Edged::Refused(r) => [r.number, r.value, 0],
+    }
+}
+
+// How many vertices and quads a mesh has.
+pub fn tell_counts(counted: Counted) -> [u32; 3]
+    ensures { λ r. ⌜ r ≡ toldCounts (saidCounts counted) ⌝ }
+{
+    match counted {
+        Counted::Counts(c) => [0, c.vertices, c.quads],
+        Counted::Refused(r) => [r.number, r.value, 0],
+    }
+}
+
+// 1 if a list is closed; 0, quad and side if it is open.
+pub fn tell_closed(closure: Closure) -> [u32; 4]
+    ensures { λ r. ⌜ r ≡ toldClosed (saidClosure closure) ⌝ }
+{
+    match closure {
+        Closure::Closed => [0, 1, 0, 0],
+        Closure::Open { quad, side } => [0, 0, block::short(quad), block::short(side)],
+        Closure::Refused(r) => [r.number, r.value, 0, 0],
+    }
+}
+
+// How many pieces there are, and the links of the longest search.
+pub fn tell_pieces(pieced: Pieced) -> [u32; 3]
+    ensures { λ r. ⌜ r ≡ toldPieces (saidPieces pieced) ⌝ }
+{
+    match pieced {
+        Pieced::Found(p) => [0, p.count, p.longest],
+        Pieced::Refused(r) => [r.number, r.value, 0],
+    }
+}
+
+// How many bytes a file has, or zero.
+pub fn tell_length(filed: Filed) -> [u64; 1]
+    ensures { λ r. ⌜ r ≡ toldLength (saidFile filed) ⌝ }
+{
+    match filed {
+        Filed::Bytes(n) => [n as u64],
+        Filed::Refused(_) => [0],
+    }
+}
+
+// Nothing else is told of a file.
+pub fn tell_file(filed: Filed) -> [u32; 3]
+    ensures { λ r. ⌜ r ≡ toldFile (saidFile filed) ⌝ }
+{
+    match filed {
+        Filed::Bytes(_) => [0, 0, 0],
+        Filed::Refused(r) => [r.number, r.value, 0],
+    }
+}
