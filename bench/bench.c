@@ -1,8 +1,9 @@
 /* Times the library and the plain implementation on one block. Usage: bench file nx ny nz t mesh.ply sealed.ply, the
-   file raw little-endian 16-bit numbers, x fastest; or bench worst, see worst_... below. Writes the mesh to mesh.ply,
-   with a spacing of 0.1 millimetres along each axis. Where a sample on the six faces of the box is metal, the block is
-   then sealed: all samples there become 0. The mesh of the sealed block is written to sealed.ply; of a block that needs
-   no sealing there is no such file. Prints a line for each figure, its name and its value:
+   file raw little-endian 16-bit numbers, x fastest; or bench room file nx ny nz t, see room_... below; or bench worst,
+   see worst_... below. Writes the mesh to mesh.ply, with a spacing of 0.1 millimetres along each axis. Where a sample
+   on the six faces of the box is metal, the block is then sealed: all samples there become 0. The mesh of the sealed
+   block is written to sealed.ply; of a block that needs no sealing there is no such file. Prints a line for each
+   figure, its name and its value:
      crossed, rim, doubtful  crossed edges, steps out of the block from metal samples, faces with four crossed edges
      vertices, quads         of the mesh
      counts, mesh            seconds of the library's two calls; mesh writes into memory that was written to before
@@ -20,6 +21,12 @@
      piece_count             how many pieces there are
      longest                 how many links the longest search followed
      sealed_...              vertices, quads, closed and is_closed of the sealed block, where there is one
+     room_crossed            seconds of the library's call that counts the crossed edges; bench room prints this and
+                             the next three, with crossed, vertices and quads, and nothing else
+     room_counts             seconds of the library's call counts; a run is the one call and then the other, on the
+                             same memory
+     room_ratio              the first divided by the second, of one run; there is a line for each run
+     room_plain              seconds of the plain implementation's call that counts the crossed edges
      worst_...               vertices, quads, pieces, piece_count and longest of a list of quads that makes the longest
                              search as long as it can be; bench worst prints these alone. They are of no block, so
                              bench/run asks once
@@ -27,7 +34,9 @@
    Assumes that both are linked in; built with -DSELF there is no library, and its times and answers are not printed.
    The counts, the meshes and the files of the two must agree, bit by bit, or there are no times. The mesh must be
    closed if no sample on the six faces of the box is metal, and a side that is given as at fault must be so. No quad
-   may join two pieces, and the pieces' numbers, sizes and count must fit together. */
+   may join two pieces, and the pieces' numbers, sizes and count must fit together. The crossed edges must be as many as
+   are counted here from the samples alone, and as plain says. Three times the vertices may not be more than four times
+   the crossed edges, nor the quads more than they are. */
 #define _POSIX_C_SOURCE 199309L
 
 #include "../include/parsniprow.h"
@@ -112,11 +121,17 @@ static int metal(const size_t at[3], unsigned u, size_t u_steps, unsigned v, siz
     return block.samples[place[0] + block.length[0] * (place[1] + block.length[1] * place[2])] >= block.t;
 }
 
-/* What the other programs' meshes are held against, counted from the samples alone. Gives the steps out of the block
-   from metal samples. */
-static size_t print_shape(void)
+/* What the meshes and the crossed edges are held against: crossed edges, steps out of the block from metal samples,
+   faces with four crossed edges. */
+struct shape {
+    size_t crossed, rim, doubtful;
+};
+
+/* Counted from the samples alone. */
+static struct shape shape_of_block(void)
 {
-    size_t crossed = 0, rim = 0, doubtful = 0, at[3];
+    struct shape shape = {0, 0, 0};
+    size_t at[3];
     for (at[2] = 0; at[2] < block.length[2]; at[2]++)
         for (at[1] = 0; at[1] < block.length[1]; at[1]++)
             for (at[0] = 0; at[0] < block.length[0]; at[0]++)
@@ -124,13 +139,12 @@ static size_t print_shape(void)
                     unsigned v = (u + 1) % 3;
                     int here = metal(at, u, 0, v, 0), has_u = at[u] + 1 < block.length[u];
                     int has_v = at[v] + 1 < block.length[v];
-                    crossed += has_u && metal(at, u, 1, v, 0) != here;
-                    rim += here && (at[u] == 0) + !has_u;
-                    doubtful += has_u && has_v && metal(at, u, 1, v, 1) == here && metal(at, u, 1, v, 0) != here &&
-                                metal(at, u, 0, v, 1) != here;
+                    shape.crossed += has_u && metal(at, u, 1, v, 0) != here;
+                    shape.rim += here && (at[u] == 0) + !has_u;
+                    shape.doubtful += has_u && has_v && metal(at, u, 1, v, 1) == here &&
+                                      metal(at, u, 1, v, 0) != here && metal(at, u, 0, v, 1) != here;
                 }
-    printf("crossed %zu\nrim %zu\ndoubtful %zu\n", crossed, rim, doubtful);
-    return rim;
+    return shape;
 }
 
 /* All samples on the six faces of the box become hollow, so the mesh is closed. */
@@ -150,7 +164,7 @@ static void ask_counts(counts_function *function, uint32_t *answer)
 {
     function(block.length[0], block.length[1], block.length[2], block.samples, block.sample_count, block.t, answer, ANSWER);
     if (answer[0] != 0)
-        stop("the counts were refused");
+        stop("a count was refused");
 }
 
 static void ask_mesh(mesh_function *function, const struct mesh *mesh)
@@ -162,11 +176,16 @@ static void ask_mesh(mesh_function *function, const struct mesh *mesh)
         stop("the mesh was refused");
 }
 
+static int runs_again(int runs, double spent)
+{
+    return runs < LEAST_RUNS || (runs < MOST_RUNS && spent < long_enough);
+}
+
 /* The best time of several runs of something that answers the seconds of one. */
 static double best_of(double (*seconds)(void *), void *with)
 {
     double best = 1e9, spent = 0.0;
-    for (int run = 0; run < LEAST_RUNS || (run < MOST_RUNS && spent < long_enough); run++) {
+    for (int run = 0; runs_again(run, spent); run++) {
         double took = seconds(with);
         spent += took;
         best = took < best ? took : best;
@@ -174,11 +193,16 @@ static double best_of(double (*seconds)(void *), void *with)
     return best;
 }
 
-static double counts_seconds(void *answer)
+static double asked_seconds(counts_function *function, uint32_t *answer)
 {
     double from = now();
-    ask_counts(parsniprow_counts, answer);
+    ask_counts(function, answer);
     return now() - from;
+}
+
+static double counts_seconds(void *answer)
+{
+    return asked_seconds(parsniprow_counts, answer);
 }
 
 static double mesh_seconds(void *mesh)
@@ -403,6 +427,41 @@ static uint32_t print_pieces_time(const struct mesh *mesh, const char *word)
     return pieces.answer[2];
 }
 
+static double plain_crossed_seconds(void *answer)
+{
+    return asked_seconds(plain_crossed, answer);
+}
+
+/* The two calls are asked by turns, so that a machine that is slower for a while, or memory that lies worse in one
+   process than in another, is so for both. The ratios are printed when all runs are over. */
+static void print_room(size_t crossed)
+{
+    uint32_t edges[ANSWER], counted[ANSWER], plain[ANSWER];
+    double ratios[MOST_RUNS], crossed_time = 1e9, counts_time = 1e9, plain_time, spent = 0.0;
+    int runs = 0;
+    for (; runs_again(runs, spent); runs++) {
+        double crossed_took = asked_seconds(parsniprow_crossed, edges);
+        double counts_took = asked_seconds(parsniprow_counts, counted);
+        spent += crossed_took + counts_took;
+        ratios[runs] = crossed_took / counts_took;
+        crossed_time = crossed_took < crossed_time ? crossed_took : crossed_time;
+        counts_time = counts_took < counts_time ? counts_took : counts_time;
+    }
+    plain_time = best_of(plain_crossed_seconds, plain);
+    if (edges[1] != crossed || edges[2] != 0)
+        stop("the crossed edges are not as many as in the samples");
+    if (memcmp(plain, edges, sizeof edges) != 0)
+        stop("the crossed edges differ from those of plain");
+    if (3 * (uint64_t)counted[1] > 4 * (uint64_t)edges[1])
+        stop("three times the vertices are more than four times the crossed edges");
+    if (counted[2] > edges[1])
+        stop("there are more quads than crossed edges");
+    printf("crossed %zu\nvertices %u\nquads %u\n", crossed, (unsigned)counted[1], (unsigned)counted[2]);
+    printf("room_crossed %.9f\nroom_counts %.9f\nroom_plain %.9f\n", crossed_time, counts_time, plain_time);
+    for (int run = 0; run < runs; run++)
+        printf("room_ratio %.6f\n", ratios[run]);
+}
+
 /* Puts a quad of one vertex and, three times, another. */
 static void put_pair(struct mesh *list, uint32_t first, uint32_t other)
 {
@@ -492,19 +551,26 @@ static void print_sealed(const char *file_name)
 
 int main(int argc, char **argv)
 {
-    size_t rim;
+    struct shape shape;
 #ifndef SELF
     if (argc == 2 && strcmp(argv[1], "worst") == 0) {
         print_worst();
         return 0;
     }
+    if (argc == 7 && strcmp(argv[1], "room") == 0) {
+        block = read_block(argv + 2);
+        print_room(shape_of_block().crossed);
+        free(block.samples);
+        return 0;
+    }
 #endif
     if (argc != 8)
-        stop("usage: bench file nx ny nz t mesh.ply sealed.ply, or bench worst");
+        stop("usage: bench file nx ny nz t mesh.ply sealed.ply, or bench room file nx ny nz t, or bench worst");
     block = read_block(argv + 1);
-    rim = print_shape();
-    print_times(argv[6], rim == 0);
-    if (rim != 0)
+    shape = shape_of_block();
+    printf("crossed %zu\nrim %zu\ndoubtful %zu\n", shape.crossed, shape.rim, shape.doubtful);
+    print_times(argv[6], shape.rim == 0);
+    if (shape.rim != 0)
         print_sealed(argv[7]);
     free(block.samples);
     return 0;

@@ -1,13 +1,16 @@
 #!/usr/bin/python3
-"""Prints the results of one run of the benchmark as Markdown. Usage: tables.py results, the file that bench/run writes.
+"""Prints the results of one run of the benchmark as Markdown. Usage: tables.py results part, the file that bench/run
+writes, and all or room, which is what it has timed.
 
 Its lines, with tabs between the words: processor, compiler, library (the machine that its module was compiled for, or
 none); peer, key, name, package, version, and block or mesh, which is what it works on; figure, kind, size, name, value;
 made, kind, size, key, points, polygons, seconds; the name, which begins with worst_, and the value of a figure of the
-worst list for the pieces, if there is a library. Of a figure or a time that stands there twice the least counts.
+worst list for the pieces, if there is a library. Of a figure or a time that stands there twice the least counts; but
+room_ratio stands there for each run, and all of them are kept.
 Ends with status 1 if a peer's mesh is not of the size to be expected from the block's crossed edges, or if VTK finds a
 boundary edge in a closed mesh, for then the times are of different work."""
 import math
+import statistics
 import sys
 
 
@@ -20,8 +23,11 @@ def read_results(name):
             if head == "peer":
                 peers[rest[0]] = {"name": rest[1], "package": rest[2], "version": rest[3], "given": rest[4]}
             elif head == "figure":
-                block = blocks.setdefault((rest[0], int(rest[1])), {"made": {}})
-                block[rest[2]] = min(float(rest[3]), block.get(rest[2], math.inf))
+                block = blocks.setdefault((rest[0], int(rest[1])), {"made": {}, "room_ratios": []})
+                if rest[2] == "room_ratio":
+                    block["room_ratios"].append(float(rest[3]))
+                else:
+                    block[rest[2]] = min(float(rest[3]), block.get(rest[2], math.inf))
             elif head == "made":
                 made = blocks[rest[0], int(rest[1])]["made"]
                 seconds = min(float(rest[5]), made.get(rest[2], {"seconds": math.inf})["seconds"])
@@ -61,7 +67,7 @@ def with_ratio(block, seconds, time="whole", unit=1.0):
     return f"{shown} ({block[time] / seconds:.2f})" if time in block else shown
 
 
-# ---- the six tables ----
+# ---- the eight tables ----
 
 def module_mark(words):
     """What the head of a column says of a library that is not the one that ships."""
@@ -220,6 +226,34 @@ def print_worst(words):
           f"{three_digits(1e3 * seconds)} ms, {1e9 * seconds / quads:.1f} ns a quad.", end="\n\n")
 
 
+def print_room_times(words, blocks):
+    mark = module_mark(words)
+    rows = []
+    for (kind, size), block in blocks.items():
+        crossed, counts = block["room_crossed"], block["room_counts"]
+        rows.append([f"{kind} {size}", f"**{three_digits(1e3 * crossed)}**", three_digits(1e3 * counts),
+                     f"{crossed / counts:.2f}", f"{statistics.median(block['room_ratios']):.2f}",
+                     with_ratio(block, block["room_plain"], "room_crossed", 1e3)])
+    print_table(["block", f"crossed{mark}, ms", f"counts{mark}, ms", "crossed / counts", "median over the runs",
+                 "plain C, ms"], rows)
+
+
+def percent(part, of):
+    return f"{100 * part / of:.1f} %" if of else ""
+
+
+def print_room_sizes(blocks):
+    """A vertex takes two words and three doubles, a quad four words."""
+    rows = []
+    for (kind, size), block in blocks.items():
+        edges, vertices, quads = (int(block[name]) for name in ("crossed", "vertices", "quads"))
+        reserved, taken = 32 * (4 * edges // 3) + 16 * edges, 32 * vertices + 16 * quads
+        rows.append([f"{kind} {size}", whole(edges), whole(vertices), whole(quads), percent(3 * vertices, 4 * edges),
+                     percent(quads, edges), whole(reserved), whole(taken), percent(taken, reserved)])
+    print_table(["block", "E", "vertices V", "quads Q", "3 V / 4 E", "Q / E", "bytes reserved by E",
+                 "bytes of the mesh", "mesh / reserved"], rows)
+
+
 # ---- what the meshes must have in common ----
 
 def faults(peers, blocks):
@@ -337,6 +371,33 @@ Pieces: milliseconds, measured as above; in brackets the library's time divided 
   round, by itself.
 """
 
+ROOM_TEXT = """
+Room before work: milliseconds. `crossed` is the library's call `parsniprow_crossed`. It gives E, the number of crossed
+edges of the block, and E tells how much room is enough for the mesh. `counts` is the call that gives the exact numbers
+of the mesh.
+
+- The two calls are asked by turns in one process, on the same samples in the same memory. One process can be much
+  slower than the next, likely as its memory lies elsewhere: 40 in a hundred were seen. So times of two processes would
+  make no fair ratio. For the same reason `counts` has another time here than in other tables.
+- A run is one call of each. A round is 15 runs, or as many as begin within half a second, at least 2. Each round is a
+  process of its own. A time is the best of two rounds.
+- `crossed / counts` is the best time of the one divided by the best time of the other. Each run has a ratio of its own
+  too. The median is that of all runs of both rounds.
+- Plain C goes through all samples and compares each with its neighbours, one by one. It is timed by itself, in the same
+  processes. In brackets: `crossed` divided by its time.
+- Asked for is a ratio of at most 0.6 for the housing of 256 samples an axis. No time makes the benchmark fail.
+"""
+
+BOUNDS_TEXT = """
+How much room E gives. It is proved that 3 V is at most 4 E and that Q is at most E, where the mesh has V vertices and
+Q quads. So room for 4 E / 3 vertices, rounded down, and for E quads is enough. A vertex takes 32 bytes, and a quad 16.
+
+- `3 V / 4 E` and `Q / E` say how near the mesh comes to the two bounds; at 100 % there is no room left over.
+- `mesh / reserved` is the part of the reserved bytes that the mesh takes.
+- Checked: E is the number of crossed edges that is counted from the samples alone, and that of plain C. Both bounds
+  hold.
+"""
+
 SIZES_TEXT = """
 What each program made. A doubtful face is one with four crossed edges. Checked: Flying Edges has a point for each
 crossed edge, OpenVDB a quad for each crossed edge and for each step out of the block from metal, Marching Cubes 99 to
@@ -348,12 +409,22 @@ def print_text(text):
     print(text.strip(), end="\n\n")
 
 
+def print_room(words, blocks):
+    print_text(ROOM_TEXT)
+    print_room_times(words, blocks)
+    print_text(BOUNDS_TEXT)
+    print_room_sizes(blocks)
+
+
 def main():
-    if len(sys.argv) != 2:
-        sys.exit("usage: tables.py results")
+    if len(sys.argv) != 3 or sys.argv[2] not in ("all", "room"):
+        sys.exit("usage: tables.py results all, or tables.py results room")
     words, every_peer, blocks = read_results(sys.argv[1])
     peers = {key: peer for key, peer in every_peer.items() if peer["version"] != "-"}
     print_heading(words, peers, [peer for key, peer in every_peer.items() if key not in peers])
+    if sys.argv[2] == "room":
+        print_room(words, blocks)
+        return
     makers = {key: peer for key, peer in peers.items() if peer["given"] == "block"}
     print_text(TIMES_TEXT)
     print_times(words, makers, blocks)
@@ -368,6 +439,7 @@ def main():
     print_pieces(words, blocks)
     if words["library"] != "none":
         print_worst(words)
+        print_room(words, blocks)
     print_text(SIZES_TEXT)
     print_sizes(makers, blocks)
     wrong = faults(peers, blocks) + closed_faults(blocks)

@@ -1,8 +1,9 @@
 /* The scan tool: reads a raw block of 16-bit grey values, has the library draw the surface between metal and hollow,
    and writes how many vertices and quads it has, whether it is closed, and in how many pieces it comes; on request also
-   the vertices and quads themselves, as plain text or as a PLY file for a viewer, and a table of the pieces.
+   the vertices and quads themselves, as plain text or as a PLY file for a viewer, and a table of the pieces. Or it
+   makes no mesh, and writes how much room one takes at most.
    Usage: scan FILE NX NY NZ THRESHOLD BYTE-ORDER [--mesh OUT] [--ply OUT --spacing X Y Z [--piece NUMBER]]
-   [--pieces OUT]; "scan --help" says what each of them is.
+   [--pieces OUT], or scan FILE NX NY NZ THRESHOLD BYTE-ORDER --room; "scan --help" says what each of them is.
    Assumes a POSIX system, and the library linked in (include/parsniprow.h).
 
    Standard output is the record, in lines of a word and what it says: what was asked, and the library's answer.
@@ -19,10 +20,16 @@
      ply BYTES                            how long the PLY file is, where one is asked for
      refused NUMBER value VALUE           there is no mesh, and no line of values or counts
      note SENTENCE                        what the answer does not mean, or what to do
+   With --room there is no mesh either. In place of the lines from vertices to ply it has:
+     crossed COUNT                        how many edges of the block are crossed, those on the sides of the box too
+     vertices-at-most COUNT               the mesh has no more: a vertex joins at least three crossed edges, and an edge
+                                          is in at most four cubes
+     quads-at-most COUNT                  the mesh has no more: a crossed edge gives at most one quad
+     bytes-at-most COUNT                  these vertices and quads take no more in memory: 32 a vertex and 16 a quad
    Standard error has progress, a line each second, and a sentence where there is no answer; standard output then has
    nothing.
-   Exit status: 0 a mesh; 1 a file or memory failed, or the mesh does not have the piece asked for; 2 bad arguments;
-   3 refused by the library.
+   Exit status: 0 a mesh, or its room; 1 a file or memory failed, or the mesh does not have the piece asked for; 2 bad
+   arguments; 3 refused by the library.
 
    The OUT of --mesh is plain text: four lines that begin with # and say what follows, the record's lines without notes,
    a line for each vertex by rising number from 0,
@@ -60,18 +67,21 @@
 
 enum { ANSWER = 3, CLOSED_ANSWER = 4, AXES = 3 };
 enum { BYTES_A_SAMPLE = 2, WORDS_A_VERTEX = 2, OFFSETS_A_VERTEX = 3, VERTICES_A_QUAD = 4 };
+enum { LEAST_EDGES_A_VERTEX = 3, MOST_CUBES_AN_EDGE = 4 };
 enum { NO_REFUSAL, BAD_AXIS, BAD_COUNT, BAD_THRESHOLD, BAD_SPACING = 13, NO_ROOM = 15 };
 enum { STATUS_MESH, STATUS_FAILED, STATUS_ARGUMENTS, STATUS_REFUSED };
 enum { ARGUMENTS = 6, LENGTH = 1, MOST_AT_ONCE = 1 << 20, MEGABYTE = 1000000 };
 enum { MARK = 1 << 12 }; /* in the word of a vertex */
 
 /* What was asked. Names as shown are one line, whatever the file is called. The spacing is that of the PLY file, if one
-   is asked for, and the piece is the one that it is to have; as text they are null where they are not given. */
+   is asked for, and the piece is the one that it is to have; as text they are null where they are not given. Where it
+   is for room, no mesh is made. */
 struct request {
     const char *file, *file_shown, *byte_order, *spacing_text[AXES], *piece_text;
     uint32_t length[AXES], piece;
     uint16_t threshold;
     double spacing[AXES];
+    int is_for_room;
 };
 
 struct block {
@@ -98,6 +108,11 @@ struct mesh {
     struct piece *pieces;
     uint8_t *ply;
     uint64_t ply_len;
+};
+
+/* The crossed edges of a block, and how large they let the mesh become at most. */
+struct bounds {
+    uint64_t edge_count, vertex_count, quad_count, bytes;
 };
 
 /* ---- progress, told by a clock, so that it is told within a long call too ---- */
@@ -280,6 +295,7 @@ static void help(void)
 {
     puts("target/scan FILE NX NY NZ THRESHOLD BYTE-ORDER [--mesh OUT] [--ply OUT --spacing X Y Z [--piece NUMBER]]\n"
          "            [--pieces OUT]\n"
+         "target/scan FILE NX NY NZ THRESHOLD BYTE-ORDER --room\n"
          "\n"
          "Draws the surface between metal and hollow in a scan as a mesh of quads, and writes how many vertices and\n"
          "quads it has, whether it is closed, and in how many pieces it comes. Nothing is smoothed.\n"
@@ -298,6 +314,7 @@ static void help(void)
          "              the file of --ply then has this piece alone. The table of --pieces has the number of each\n"
          "  --pieces OUT\n"
          "              also writes a table of the pieces to the file OUT, with commas, as spreadsheets read it\n"
+         "  --room      makes no mesh, and says how much room it takes at most. Goes with no other option\n"
          "\n"
          "OUT must not be there yet. More than one file can be asked for, each under a name of its own.");
     puts("\n"
@@ -306,6 +323,7 @@ static void help(void)
          "  target/scan housing.raw 256 256 200 23000 little --mesh housing-mesh.txt\n"
          "  target/scan housing.raw 256 256 200 23000 little --ply housing.ply --spacing 0.125 0.125 0.2\n"
          "  target/scan housing.raw 256 256 200 23000 little --pieces housing-pieces.csv\n"
+         "  target/scan housing.raw 256 256 200 23000 little --room\n"
          "\n"
          "Standard output has what was asked, then the lines \"values\", \"ceiling\", \"vertices\", \"quads\",\n"
          "\"closed\", \"pieces\" and \"marked\", and with --ply the line \"ply\" with the bytes of the file; or the\n"
@@ -331,8 +349,14 @@ static void help(void)
          "cube is at the ceiling. The line \"marked\" says how many vertices are. The MASK of a marked vertex begins\n"
          "with 1, that of any other with 0. A PLY file does not show which vertices are marked.\n"
          "\n"
-         "Exit status: 0 a mesh; 1 a file or memory failed, or the mesh does not have the piece asked for; 2 bad\n"
-         "arguments; 3 refused.");
+         "With --room four other lines follow the line \"ceiling\". The line \"crossed\" says how many edges are\n"
+         "crossed. An edge joins two values that are neighbours along x, y or z. It is crossed if one is metal and\n"
+         "the other hollow. The mesh has no more vertices and quads than the lines \"vertices-at-most\" and\n"
+         "\"quads-at-most\" say. In memory they take no more bytes than the line \"bytes-at-most\" says: 32 a vertex\n"
+         "and 16 a quad. The mesh may have fewer, so these numbers are no counts of it.\n"
+         "\n"
+         "Exit status: 0 a mesh, or its room; 1 a file or memory failed, or the mesh does not have the piece asked\n"
+         "for; 2 bad arguments; 3 refused.");
     finish(STATUS_MESH);
 }
 
@@ -398,6 +422,11 @@ static int read_option(struct request *request, char **words, int left)
             read_out(&outs[which], words[1]);
             return 1;
         }
+    if (strcmp(words[0], "--room") == 0) {
+        check_option(words[0], request->is_for_room, 1, "nothing");
+        request->is_for_room = 1;
+        return 0;
+    }
     if (strcmp(words[0], "--piece") == 0) {
         check_option(words[0], request->piece_text != NULL, left >= 1, "the NUMBER of a piece");
         request->piece = number("NUMBER of --piece", words[1], UINT32_MAX, "0 to 4294967295");
@@ -405,7 +434,7 @@ static int read_option(struct request *request, char **words, int left)
         return 1;
     }
     if (strcmp(words[0], "--spacing") != 0)
-        fail(STATUS_ARGUMENTS, "\"%s\" stands where only --mesh, --ply, --pieces, --spacing and --piece can.",
+        fail(STATUS_ARGUMENTS, "\"%s\" stands where only --mesh, --ply, --pieces, --spacing, --piece and --room can.",
              shown(words[0]));
     check_option(words[0], request->spacing_text[0] != NULL, left >= AXES, "X, Y and Z");
     read_spacing(request, words + 1);
@@ -425,6 +454,11 @@ static void read_options(struct request *request, int given, char **words)
 {
     for (int at = 0; at < given; at++)
         at += read_option(request, words + at, given - at - 1);
+    if (request->is_for_room && given > 1) { /* every other option is about the mesh */
+        const char *other = strcmp(words[0], "--room") == 0 ? words[1] : words[0];
+        fail(STATUS_ARGUMENTS, "--room is given together with %s, and with --room no mesh is made. Ask for one of them "
+             "at a time.", other);
+    }
     if (outs[PLY_FILE].name && !request->spacing_text[0])
         fail(STATUS_ARGUMENTS, "--ply is given without --spacing X Y Z, the millimetres from one value to the next.");
     if (request->spacing_text[0] && !outs[PLY_FILE].name)
@@ -471,10 +505,15 @@ static void put_request(FILE *to, const struct request *request)
         fprintf(to, "piece %s\n", request->piece_text);
 }
 
-static void put_counts(FILE *to, const struct block *block, const struct mesh *mesh)
+static void put_values(FILE *to, const struct block *block)
 {
     fprintf(to, "values %" PRIu16 " to %" PRIu16 "\n", block->least, block->greatest);
     fprintf(to, "ceiling %" PRIu32 "\n", block->ceiling_count);
+}
+
+static void put_counts(FILE *to, const struct block *block, const struct mesh *mesh)
+{
+    put_values(to, block);
     fprintf(to, "vertices %" PRIu32 "\n", mesh->vertex_count);
     fprintf(to, "quads %" PRIu32 "\n", mesh->quad_count);
     fprintf(to, "closed %s\n", mesh->is_closed ? "yes" : "no");
@@ -513,14 +552,20 @@ static void refuse(const struct request *request, const uint32_t *answer)
     finish(STATUS_REFUSED);
 }
 
-/* What the values at the ceiling mean. A cube with such a corner and a hollow one has a vertex, and it is marked. */
-static void note_ceilings(const struct request *request, const struct block *block, const struct mesh *mesh)
+/* Where the first value at the ceiling is, and what such values mean. */
+static void note_first_ceiling(const struct request *request, const struct block *block)
 {
     uint32_t nx = request->length[0], ny = request->length[1], index = block->first_ceiling;
     printf("note Some values are 65535, the detector's ceiling. The first is sample %" PRIu32 ", at (%" PRIu32
            ", %" PRIu32 ", %" PRIu32 ") counted from 0. What the detector saw there is not known. It is drawn as "
            "metal. A pore inside such a saturated region cannot be seen.\n",
            index, index % nx, index / nx % ny, index / nx / ny);
+}
+
+/* What the values at the ceiling mean. A cube with such a corner and a hollow one has a vertex, and it is marked. */
+static void note_ceilings(const struct request *request, const struct block *block, const struct mesh *mesh)
+{
+    note_first_ceiling(request, block);
     if (mesh->marked_count == 0)
         printf("note No vertex is marked: each of these values has only metal round it. So the mesh does not show "
                "where they are.\n");
@@ -550,6 +595,24 @@ static void report(const struct request *request, const struct block *block, con
     if (outs[PIECES_FILE].name)
         printf("note A piece is not yet a pore: the outside is a piece too, and so is a bore that does not open to it; "
                "a pore that a side of the box cuts may be several. docs/FOR-ASSESSORS.md says how to read them.\n");
+    finish(STATUS_MESH);
+}
+
+static void report_room(const struct request *request, const struct block *block, const struct bounds *bounds)
+{
+    put_request(stdout, request);
+    put_values(stdout, block);
+    printf("crossed %" PRIu64 "\n", bounds->edge_count);
+    printf("vertices-at-most %" PRIu64 "\n", bounds->vertex_count);
+    printf("quads-at-most %" PRIu64 "\n", bounds->quad_count);
+    printf("bytes-at-most %" PRIu64 "\n", bounds->bytes);
+    printf("note No mesh was made. These numbers say how much room it takes at most, and they are no counts of it: "
+           "enter none of them beside a claim.\n");
+    if (block->ceiling_count > 0)
+        note_first_ceiling(request, block);
+    if (bounds->edge_count == 0)
+        printf("note No edge is crossed: all values are metal, or all are hollow. Compare the threshold with the "
+               "values, and check the axes and the byte order.\n");
     finish(STATUS_MESH);
 }
 
@@ -622,13 +685,22 @@ static void read_block(const struct request *request, struct block *block)
 
 /* ---- the library ---- */
 
+/* Asks how large the mesh of so many samples is, or with --room how many edges are crossed. Both refuse the same. */
+static void ask_size(const struct request *request, const uint16_t *samples, size_t count, uint32_t *answer)
+{
+    const uint32_t *length = request->length;
+    if (request->is_for_room)
+        parsniprow_crossed(length[0], length[1], length[2], samples, count, request->threshold, answer, ANSWER);
+    else
+        parsniprow_counts(length[0], length[1], length[2], samples, count, request->threshold, answer, ANSWER);
+}
+
 /* How many samples the axes want. The library, asked without one, refuses an axis or else says how many it wants. */
 static size_t samples_wanted(const struct request *request)
 {
-    const uint32_t *length = request->length;
     uint16_t no_sample = 0;
     uint32_t answer[ANSWER];
-    parsniprow_counts(length[0], length[1], length[2], &no_sample, 0, request->threshold, answer, ANSWER);
+    ask_size(request, &no_sample, 0, answer);
     if (answer[0] != BAD_COUNT)
         refuse(request, answer);
     return answer[1];
@@ -670,19 +742,35 @@ static void count_ceilings(struct block *block)
     block->first_ceiling = answer[2];
 }
 
-static struct mesh count_mesh(const struct request *request, const struct block *block)
+static void find_size(const struct request *request, const struct block *block, uint32_t *answer)
 {
-    const uint32_t *length = request->length;
-    struct mesh mesh = {0};
-    uint32_t answer[ANSWER];
     enter(COUNTING);
-    parsniprow_counts(length[0], length[1], length[2], block->samples, block->count, request->threshold, answer,
-                      ANSWER);
+    ask_size(request, block->samples, block->count, answer);
     if (answer[0] != NO_REFUSAL)
         refuse(request, answer);
+}
+
+static struct mesh count_mesh(const struct request *request, const struct block *block)
+{
+    struct mesh mesh = {0};
+    uint32_t answer[ANSWER];
+    find_size(request, block, answer);
     mesh.vertex_count = answer[1];
     mesh.quad_count = answer[2];
     return mesh;
+}
+
+static struct bounds bound_mesh(const struct request *request, const struct block *block)
+{
+    size_t bytes_a_vertex = WORDS_A_VERTEX * sizeof(uint32_t) + OFFSETS_A_VERTEX * sizeof(double);
+    size_t bytes_a_quad = VERTICES_A_QUAD * sizeof(uint32_t);
+    struct bounds bounds;
+    uint32_t answer[ANSWER];
+    find_size(request, block, answer);
+    bounds.edge_count = bounds.quad_count = answer[1];
+    bounds.vertex_count = MOST_CUBES_AN_EDGE * bounds.edge_count / LEAST_EDGES_A_VERTEX;
+    bounds.bytes = bytes_a_vertex * bounds.vertex_count + bytes_a_quad * bounds.quad_count;
+    return bounds;
 }
 
 static void make_mesh(const struct request *request, const struct block *block, struct mesh *mesh)
@@ -1037,11 +1125,33 @@ static void write_files(const struct request *request, const struct block *block
             rename_part(&outs[which]);
 }
 
+/* ---- the two answers ---- */
+
+static void tell_room(const struct request *request, struct block *block)
+{
+    struct bounds bounds = bound_mesh(request, block);
+    count_ceilings(block);
+    report_room(request, block, &bounds);
+}
+
+static void tell_mesh(const struct request *request, struct block *block)
+{
+    struct mesh mesh = count_mesh(request, block);
+    count_ceilings(block);
+    make_mesh(request, block, &mesh);
+    check_closed(request, &mesh);
+    find_pieces(request, &mesh);
+    tell_pieces(request, &mesh);
+    if (outs[PLY_FILE].name)
+        make_ply(request, &mesh);
+    write_files(request, block, &mesh);
+    report(request, block, &mesh);
+}
+
 int main(int argc, char **argv)
 {
     struct request request;
     struct block block = {0};
-    struct mesh mesh;
     hold_standard_streams();
     set_signals();
     request = read_arguments(argc, argv);
@@ -1052,14 +1162,8 @@ int main(int argc, char **argv)
     if (outs[PLY_FILE].name)
         check_spacing(&request);
     read_block(&request, &block);
-    mesh = count_mesh(&request, &block);
-    count_ceilings(&block);
-    make_mesh(&request, &block, &mesh);
-    check_closed(&request, &mesh);
-    find_pieces(&request, &mesh);
-    tell_pieces(&request, &mesh);
-    if (outs[PLY_FILE].name)
-        make_ply(&request, &mesh);
-    write_files(&request, &block, &mesh);
-    report(&request, &block, &mesh);
+    if (request.is_for_room)
+        tell_room(&request, &block);
+    else
+        tell_mesh(&request, &block);
 }

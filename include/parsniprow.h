@@ -14,7 +14,13 @@
      first.
    - Nothing outside the lent buffers is touched, and what is lent as const is not written to.
    - An answer place is always written, with zeros where the answer does not use it. It takes the number of items that
-     the function says; of a shorter place as many are written as it has room for, and what lies behind is kept.
+     the function says. If the place is shorter, as many are written as it has room for. What lies behind is kept.
+
+   IN WHICH ORDER
+   parsniprow_counts says how long the buffers of a mesh must be, or parsniprow_crossed which lengths are always enough.
+   parsniprow_mesh fills them. Then parsniprow_closed_with, parsniprow_pieces and parsniprow_ply may be asked about the
+   mesh. The other questions stand by themselves: parsniprow_ceilings, parsniprow_edge, parsniprow_cube and
+   parsniprow_closed.
 
    REFUSALS
    What cannot be answered is refused by number. Each function says which numbers it tries, and in which order; the
@@ -24,9 +30,10 @@
      1       an axis is under 2 or over 256    lowest such axis, 0 to 2
      2       samples_len is not nx * ny * nz   nx * ny * nz
      3       t is 0 or 65535                   t
-     5       words_len is under 2, or          vertices needed
-             offsets_len under 3, a vertex;
-             piece_len or size_len is under n
+     5       words_len is under 2 a vertex,    vertices needed
+             or offsets_len is under 3 a
+             vertex; piece_len or size_len is
+             under n
      6       quads_len is under 4 a quad       quads needed
      7       quads_len is no multiple of 4     quads_len modulo 4
      13      a spacing is not above 0, or      lowest such axis, 0 to 2
@@ -95,6 +102,20 @@ void parsniprow_cube(uint16_t c0, uint16_t c1, uint16_t c2, uint16_t c3, uint16_
                      uint16_t c7, uint16_t t, uint32_t *words, size_t words_len, double *offsets, size_t offsets_len,
                      uint32_t *answer, size_t answer_len);
 
+/* How many edges of a block are crossed, those on the faces of the box too. This bounds the size of the mesh, and is
+   found in less time than the counts. At most 50135040. With E crossed edges a mesh has at most 4 * E / 3 vertices,
+   rounded down, and at most E quads. So buffers of these lengths are never refused with 5 or 6 by parsniprow_mesh, for
+   the same block and threshold; v is 4 * (size_t)E / 3:
+     words    2 * v items
+     offsets  3 * v items
+     quads    4 * (size_t)E items
+   That is 32 bytes for each of v vertices and 16 for each of E quads. A mesh often takes less. The answer of
+   parsniprow_mesh says how much it took.
+     nx, ny, nz, samples, t  as of parsniprow_counts
+     answer  answer place, 3 items: 0, crossed edges, 0; or refusal (1, 2 or 3, tried in this order), its value, 0 */
+void parsniprow_crossed(uint32_t nx, uint32_t ny, uint32_t nz, const uint16_t *samples, size_t samples_len, uint16_t t,
+                        uint32_t *answer, size_t answer_len);
+
 /* How many vertices and quads the mesh of a block has. At most 66325500 and 49354740. They do not show whether a vertex
    carries the mark.
      nx, ny, nz  axis lengths in samples, each 2 to 256
@@ -105,7 +126,8 @@ void parsniprow_counts(uint32_t nx, uint32_t ny, uint32_t nz, const uint16_t *sa
                        uint32_t *answer, size_t answer_len);
 
 /* The mesh of a block. Its time grows with the number of samples and with the size of the mesh. Ask parsniprow_counts
-   first: words takes 2 * vertices items, offsets 3 * vertices, quads 4 * quads. More room is allowed.
+   first, which says the exact lengths: words takes 2 * vertices items, offsets 3 * vertices, quads 4 * quads. More room
+   is allowed. Or ask parsniprow_crossed, which says lengths that are always enough.
      nx, ny, nz, samples, t  as of parsniprow_counts
      words    room for 2 items a vertex: the number of its cube, then its word: bits 0 to 11 are the mask of its loop,
               bit 12 is the mark, set if a corner of its cube is 65535. Cube (i, j, k) has number
@@ -116,7 +138,9 @@ void parsniprow_counts(uint32_t nx, uint32_t ny, uint32_t nz, const uint16_t *sa
               run against the clock where x, y, z are right-handed. A quad need be neither flat nor convex; vertices may
               share a place, so its area may be 0
      answer   answer place, 3 items: 0, vertices, quads; or refusal (1, 2, 3, 5 or 6, tried in this order), its value, 0
-   The three buffers keep their contents on refusal, and always behind the mesh. */
+   The three buffers keep their contents on refusal, and always behind the mesh. Whoever hands them on, to
+   parsniprow_closed_with, parsniprow_pieces or parsniprow_ply, gives the lengths of the mesh, 2 * vertices,
+   3 * vertices and 4 * quads by this answer, and not the lengths that were reserved. */
 void parsniprow_mesh(uint32_t nx, uint32_t ny, uint32_t nz, const uint16_t *samples, size_t samples_len, uint16_t t,
                      uint32_t *words, size_t words_len, double *offsets, size_t offsets_len, uint32_t *quads,
                      size_t quads_len, uint32_t *answer, size_t answer_len);
@@ -136,8 +160,8 @@ void parsniprow_closed(const uint32_t *quads, size_t quads_len, uint32_t *answer
    the sides start at one vertex still takes the square of its length.
      quads   as of parsniprow_closed
      work    one item for each vertex number from 0 to the highest in the list, then one for each item of quads. For a
-             mesh of parsniprow_mesh vertices + 4 * quads items are enough. More room is allowed. It
-             need not be initialised
+             mesh of parsniprow_mesh vertices + 4 * quads items are enough. More room is allowed. It need not be
+             initialised
      answer  answer place, 4 items: as of parsniprow_closed; or refusal (7 or 15, tried in this order), its value, 0, 0
    At exit item v of work is the first side that starts at vertex v. The item of a side, behind those of the vertices,
    is the next side that starts where it does. Side s of quad q is 4 * q + s here, and quads_len stands where there is

@@ -1,4 +1,4 @@
-/* A caller of the installed library, in the words that C and C++ share: the paper's samples through each of the nine
+/* A caller of the installed library, in the words that C and C++ share: the paper's samples through each of the ten
    functions, in a thread with a stack of 64 KiB, which the header says is enough. Prints what is wrong and ends with
    status 1, or ends with status 0.
    Assumes the installed header and archive, and POSIX threads. */
@@ -11,6 +11,7 @@
 #include <string.h>
 
 enum { STACK = 65536, SAMPLES = 27, VERTICES = 8, MARKED_VERTICES = 9, QUADS = 6, MARK = 4096 };
+enum { EDGES = 6, MARKED_EDGES = 9, RESERVED = 4 * MARKED_EDGES / 3 };
 enum { WORK = VERTICES + 4 * QUADS, FILE_BYTES = 466, HEAD_BYTES = 172 };
 
 static int faults;
@@ -78,6 +79,32 @@ static void ask_block(uint32_t *quads)
                                           words[15] == MARK + 0x111 && words[17] == MARK + 0x888);
     parsniprow_ceilings(samples, SAMPLES, answer, 3);
     expect("ceilings", answers(answer, 0, 1, 26));
+}
+
+/* The paper's block, then the same with a ceiling, whose mesh is made in rooms that are reserved by the crossed edges
+   alone. */
+static void ask_crossed(void)
+{
+    uint16_t samples[SAMPLES] = {0};
+    uint32_t words[2 * RESERVED], quads[4 * MARKED_EDGES], answer[3] = {9, 9, 9};
+    double offsets[3 * RESERVED];
+    samples[13] = 400;
+    parsniprow_crossed(3, 3, 3, samples, SAMPLES, 100, answer, 2);
+    expect("an answer place of two items", answers(answer, 0, EDGES, 9));
+    parsniprow_crossed(3, 3, 3, samples, SAMPLES, 100, answer, 3);
+    expect("crossed edges", answers(answer, 0, EDGES, 0));
+    samples[26] = 65535;
+    parsniprow_crossed(3, 3, 3, samples, SAMPLES, 100, answer, 3);
+    expect("crossed edges with a ceiling", answers(answer, 0, MARKED_EDGES, 0));
+    parsniprow_mesh(3, 3, 3, samples, SAMPLES, 100, words, 2 * RESERVED, offsets, 3 * RESERVED, quads, 4 * MARKED_EDGES,
+                    answer, 3);
+    expect("a mesh in reserved rooms", answers(answer, 0, MARKED_VERTICES, QUADS));
+    parsniprow_crossed(3, 1, 257, samples, 3, 0, answer, 3);
+    expect("crossed edges of an axis that is none", answers(answer, 1, 1, 0));
+    parsniprow_crossed(3, 3, 3, samples, SAMPLES - 1, 0, answer, 3);
+    expect("crossed edges with a sample less", answers(answer, 2, SAMPLES, 0));
+    parsniprow_crossed(3, 3, 3, samples, SAMPLES, 65535, answer, 3);
+    expect("crossed edges at a threshold that is none", answers(answer, 3, 65535, 0));
 }
 
 static void ask_closed(const uint32_t *quads)
@@ -169,6 +196,8 @@ static void ask_large(void)
     samples[1 + 256 * (1 + 256)] = 400;
     parsniprow_mesh(256, 256, 256, samples, count, 100, none, 0, nothing, 0, none, 0, answer, 3);
     expect("a large block without room", answers(answer, 5, 8, 0));
+    parsniprow_crossed(256, 256, 256, samples, count, 100, answer, 3);
+    expect("crossed edges of a large block", answers(answer, 0, EDGES, 0));
 }
 
 static void *ask(void *unused)
@@ -177,6 +206,7 @@ static void *ask(void *unused)
     ask_edge();
     ask_cube();
     ask_block(quads);
+    ask_crossed();
     ask_closed(quads);
     ask_closed_with(quads);
     ask_pieces(quads);

@@ -346,6 +346,27 @@ static uint32_t number_quads(const struct block *block, const uint32_t *first, c
     return count;
 }
 
+/* ---- crossed edges ---- */
+
+/* Each sample but the last along an axis is the lower end of an edge along that axis. */
+static uint32_t number_crossed(const struct block *block)
+{
+    uint32_t count = 0;
+    size_t at[AXES];
+    for (at[2] = 0; at[2] < block->length[2]; at[2]++)
+        for (at[1] = 0; at[1] < block->length[1]; at[1]++)
+            for (at[0] = 0; at[0] < block->length[0]; at[0]++)
+                for (unsigned along = 0; along < AXES; along++) {
+                    size_t lower = sample_index(block, at[0], at[1], at[2]), upper;
+                    if (at[along] + 1 == block->length[along])
+                        continue;
+                    upper = sample_index(block, at[0] + (along == 0), at[1] + (along == 1), at[2] + (along == 2));
+                    if (crossed_between(block->samples[lower], block->samples[upper], block->t))
+                        count++;
+                }
+    return count;
+}
+
 /* ---- refusals ---- */
 
 static struct refusal refuse(uint32_t number, uint32_t value)
@@ -831,6 +852,18 @@ void plain_cube(uint16_t c0, uint16_t c1, uint16_t c2, uint16_t c3, uint16_t c4,
     }
     put_words(words, words_len, items, MOST_LOOPS);
     put_doubles(offsets, offsets_len, places, AXES * MOST_LOOPS);
+}
+
+void plain_crossed(uint32_t nx, uint32_t ny, uint32_t nz, const uint16_t *samples, size_t samples_len, uint16_t t,
+                   uint32_t *answer, size_t answer_len)
+{
+    struct refusal refusal = check_block(nx, ny, nz, samples_len, t);
+    struct block block = block_of(nx, ny, nz, samples, t);
+    if (refusal.number) {
+        say_refused(answer, answer_len, refusal);
+        return;
+    }
+    say(answer, answer_len, 0, number_crossed(&block), 0);
 }
 
 void plain_counts(uint32_t nx, uint32_t ny, uint32_t nz, const uint16_t *samples, size_t samples_len, uint16_t t,

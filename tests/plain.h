@@ -22,6 +22,11 @@ void plain_cube(uint16_t c0, uint16_t c1, uint16_t c2, uint16_t c3, uint16_t c4,
                 uint16_t t, uint32_t *words, size_t words_len, double *offsets, size_t offsets_len, uint32_t *answer,
                 size_t answer_len);
 
+/* The crossed edges of a block, each counted once, on the faces of the box too. Answer: 0, crossed edges, 0. Refusals
+   1, 2, 3. */
+void plain_crossed(uint32_t nx, uint32_t ny, uint32_t nz, const uint16_t *samples, size_t samples_len, uint16_t t,
+                   uint32_t *answer, size_t answer_len);
+
 /* The counts of a mesh. Answer: 0, vertices, quads. Refusals 1, 2, 3. */
 void plain_counts(uint32_t nx, uint32_t ny, uint32_t nz, const uint16_t *samples, size_t samples_len, uint16_t t,
                   uint32_t *answer, size_t answer_len);

@@ -1,10 +1,12 @@
 /* Runs the plain implementation on the paper's samples: the example block with its whole output, the nine cubes, the
    edges, the refusals, lists of quads and the table of faces; on samples at the ceiling, which are metal and leave a
-   mark; on two samples that are joined across a face, whose mesh is closed; on the work of the closed question; on the
-   pieces of small lists that were worked out by hand and of the example's mesh; and on files of that mesh and of the
-   empty one. Prints each sample and its verdict; exits with 1 if one differs.
+   mark; on blocks whose crossed edges were worked out by hand or come from a formula; on two samples that are joined
+   across a face, whose mesh is closed; on the work of the closed question; on the pieces of small lists that were
+   worked out by hand and of the example's mesh; and on files of that mesh and of the empty one. Prints each sample and
+   its verdict; exits with 1 if one differs.
    Assumes nothing of the library. */
 #include "bench_cubes.h"
+#include "hand_blocks.h"
 #include "hand_lists.h"
 #include "plain.h"
 
@@ -291,6 +293,100 @@ static void ceilings_of_blocks(void)
     ceilings("and still counted: 1, at 13", samples, EXAMPLE_SAMPLES, 1, EXAMPLE_SAMPLES / 2);
 }
 
+/* ---- crossed edges ---- */
+
+enum { MOST_FORMULA_SAMPLES = 512 };
+
+/* Where a block is refused, the counts are refused alike. */
+static void crossed_of_hand_blocks(void)
+{
+    for (size_t i = 0; i < HAND_BLOCKS; i++) {
+        const struct hand_block *block = &hand_blocks[i];
+        const uint32_t *n = block->length, *wanted = block->answer;
+        uint16_t samples[MOST_HAND_SAMPLES];
+        uint32_t answer[ANSWER], counted[ANSWER];
+        char name[80];
+        fill_hand_block(block, samples);
+        plain_crossed(n[0], n[1], n[2], samples, block->samples_len, block->t, answer, ANSWER);
+        plain_counts(n[0], n[1], n[2], samples, block->samples_len, block->t, counted, ANSWER);
+        sprintf(name, "crossed, %s", block->name);
+        verdict(name, says(answer, wanted[0], wanted[1], wanted[2]) &&
+                          (wanted[0] ? says(counted, wanted[0], wanted[1], wanted[2])
+                                     : says(counted, 0, block->vertices, block->quads)));
+    }
+}
+
+static int has_crossed(const uint32_t length[3], const uint16_t *samples, uint32_t edges)
+{
+    uint32_t answer[ANSWER];
+    plain_crossed(length[0], length[1], length[2], samples, (size_t)length[0] * length[1] * length[2], 100, answer,
+                  ANSWER);
+    return says(answer, 0, edges, 0);
+}
+
+static int has_counts(const uint32_t length[3], const uint16_t *samples, uint32_t vertices, uint32_t quads)
+{
+    uint32_t answer[ANSWER];
+    plain_counts(length[0], length[1], length[2], samples, (size_t)length[0] * length[1] * length[2], 100, answer,
+                 ANSWER);
+    return says(answer, 0, vertices, quads);
+}
+
+/* At 110 and 0 no metal is joined across a face, so each cube has four vertices. */
+static int is_board_good(const uint32_t length[3])
+{
+    uint16_t samples[MOST_FORMULA_SAMPLES];
+    uint32_t cubes = (length[0] - 1) * (length[1] - 1) * (length[2] - 1);
+    fill_board(length, 110, 0, samples);
+    return has_crossed(length, samples, all_edges(length)) &&
+           has_counts(length, samples, 4 * cubes, inner_edges(length));
+}
+
+/* Six crossed edges, eight vertices and six quads a grain. */
+static int are_grains_good(const uint32_t length[3], int is_close)
+{
+    uint16_t samples[MOST_FORMULA_SAMPLES];
+    uint32_t grains = fill_grains(length, is_close, 110, 0, samples);
+    return has_crossed(length, samples, 6 * grains) && has_counts(length, samples, 8 * grains, 6 * grains);
+}
+
+/* Every box that there is in a block. */
+static int are_boxes_good(const uint32_t length[3])
+{
+    uint16_t samples[MOST_FORMULA_SAMPLES];
+    struct box box;
+    int is_good = 1;
+    uint32_t *from = box.from, *to = box.to;
+    for (from[0] = 0; from[0] < length[0]; from[0]++)
+        for (to[0] = from[0] + 1; to[0] <= length[0]; to[0]++)
+            for (from[1] = 0; from[1] < length[1]; from[1]++)
+                for (to[1] = from[1] + 1; to[1] <= length[1]; to[1]++)
+                    for (from[2] = 0; from[2] < length[2]; from[2]++)
+                        for (to[2] = from[2] + 1; to[2] <= length[2]; to[2]++) {
+                            fill_box(length, &box, 400, 0, samples);
+                            is_good = is_good && has_crossed(length, samples, edges_of_box(length, &box));
+                        }
+    return is_good;
+}
+
+static void crossed_of_formulas(void)
+{
+    static const uint32_t eight[3] = {8, 8, 8};
+    uint32_t length[3];
+    int is_board = 1, are_grains = 1, are_boxes = 1;
+    for (length[0] = 2; length[0] <= 5; length[0]++)
+        for (length[1] = 2; length[1] <= 5; length[1]++)
+            for (length[2] = 2; length[2] <= 5; length[2]++) {
+                is_board = is_board && is_board_good(length);
+                are_grains = are_grains && are_grains_good(length, 0) && are_grains_good(length, 1);
+                are_boxes = are_boxes && are_boxes_good(length);
+            }
+    verdict("crossed, boards of 2 to 5 an axis", is_board);
+    verdict("crossed, a board of 8 an axis: 1344", all_edges(eight) == 1344 && is_board_good(eight));
+    verdict("crossed, grains in 2 to 5 an axis", are_grains);
+    verdict("crossed, all boxes in 2 to 5 an axis", are_boxes);
+}
+
 /* ---- lists of quads ---- */
 
 enum { LIST_WORK = 64, KEPT = 9 };
@@ -548,6 +644,8 @@ int main(void)
     ceilings_of_cubes();
     refusals();
     ceilings_of_blocks();
+    crossed_of_hand_blocks();
+    crossed_of_formulas();
     lists();
     works();
     pieces_of_hand_lists();
