@@ -125,13 +125,6 @@ pack-put f b n w h =
     bound : {a : ℕ} → a ≤ 1 → a < 2
     bound q = omega arith
 
--- and m bits more in the same way
-pub pack-join : (f : ℕ → ℕ) → ((i : ℕ) → f i ≤ 1) → (n m w : ℕ) → n + m ≤ w
-    → bitOr (pack f n) (pack (λ j. f (n + j)) m * 2 ^ n % 2 ^ w) ≡ pack f (n + m)
-pack-join f b n m w h =
-    rw (shl-exact m n w (pack-lt (λ j. f (n + j)) (λ j. b (n + j)) m) (omega arith), pack-split f n m)
-    (or-shifted-r (pack (λ j. f (n + j)) m) n (pack f n) (pack-lt f b n))
-
 -- a word of 64 ones, shifted until n are left
 pub ones-shr : (n : ℕ) → n ≤ 64 → 18446744073709551615 / 2 ^ (64 - n) ≡ 2 ^ n - 1
 ones-shr n h =

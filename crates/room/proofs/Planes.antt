@@ -1,7 +1,7 @@
 -- The crossed edges of a plane by the words of its signs: what the sums over words count.
 -- Assumes nothing.
-use Prim.Native.Nat.{ℕ, _+_, _-_, _*_, _≤_, _<_}
-use mathlib.Core.Path.{_≡_, ap, ap₂, sym, _∙_}
+use Prim.Native.Nat.{ℕ, zero, suc, _+_, _-_, _*_, _≤_, _<_}
+use mathlib.Core.Path.{_≡_, refl, ap, ap₂, sym, _∙_}
 use mathlib.Core.Bool.{Bool, _&&_}
 use mathlib.Core.List.{List}
 use native.Mathlib.Omega.{arith}
@@ -25,7 +25,7 @@ use Rattle.signs.proofs.Windows.{part-of}
 use Rattle.planes.specs.Planes.{alongX, alongY, alongZ, limitOf}
 use Rattle.planes.proofs.Edges.{along-x-is, further-word}
 use Rattle.planes.proofs.Masks.{word-limited, below-last}
-use Rattle.room.specs.Steps.{differingBits, rowX, planeX, planeY, planeZ}
+use Rattle.room.specs.Steps.{differingBits, limitsOf, rowX, planeX, planeY, planeZ}
 use Rattle.room.proofs.Along.{edge-there, fromRow, fromPlane}
 
 -- ---- the words as they are lent
@@ -88,9 +88,16 @@ module _ (n : Size) (s : List ℕ) (cut : Cut) (few : n .nx ≤ 256) where
         let x = word-xor (word-at p j w hj (omega arith)) (further-word p j w hj hw) in
         word-limited (λ i. crossedFrom n s cut X (64 * w + i) j k) x (n .nx - 1) w (λ i h l. sym (word-bit x i h) ∙ along-x-is p j w i hw h hj (omega arith))
 
-    x-row : (j : ℕ) → j < n .ny → rowX a (n .nx) j ≡ fromRow n s cut X k j
+    limit-at : (w : ℕ) → w < 4 → getD (limitsOf (n .nx)) w 0 ≡ limitOf (n .nx - 1) w
+    limit-at zero h = refl
+    limit-at (suc zero) h = refl
+    limit-at (suc (suc zero)) h = refl
+    limit-at (suc (suc (suc zero))) h = refl
+    limit-at (suc (suc (suc (suc w)))) h = absurd (omega arith)
+
+    x-row : (j : ℕ) → j < n .ny → rowX a (limitsOf (n .nx)) j ≡ fromRow n s cut X k j
     x-row j hj =
-        total-same _ _ 4 (λ w l. word-ones (x-word j w hj l))
+        total-same _ _ 4 (λ w l. ap (λ (m : ℕ). ones (bitAnd (alongX a (5 * j + w)) m)) (limit-at w l) ∙ word-ones (x-word j w hj l))
         ∙ sym (total-mul (λ (x : ℕ). bit (ltb x (n .nx - 1) && crossedFrom n s cut X x j k)) 64 4)
         ∙ total-stop (λ (x : ℕ). bit (ltb x (n .nx - 1) && crossedFrom n s cut X x j k)) (n .nx) 256 few (λ x h. rw (le-ltb x (n .nx - 1) (omega arith)))
         ∙ total-same _ _ (n .nx) (λ x l. ap (λ (t : Bool). bit (t && crossedFrom n s cut X x j k)) (below-last x (n .nx)))

@@ -1,7 +1,7 @@
 -- The crossed edges of a plane by the words of its signs: `a` has the signs of the plane, `b` those of the plane above it.
 -- Assumes nothing.
 use Prim.Native.Nat.{ℕ, _+_, _-_, _*_}
-use mathlib.Core.List.{List}
+use mathlib.Core.List.{List, [], _∷_}
 use lib.Bits.{bitAnd, bitXor}
 use lib.Count.{ones}
 use lib.ListN.{getD}
@@ -12,12 +12,16 @@ use Rattle.planes.specs.Planes.{alongX, alongY, alongZ, limitOf}
 abbrev pub differingBits : List ℕ → List ℕ → ℕ → ℕ
 differingBits a b m = total (λ (q : ℕ). ones (bitXor (getD a q 0) (getD b q 0))) m
 
--- along x from the row j, and from the whole plane
-abbrev pub rowX : List ℕ → ℕ → ℕ → ℕ
-rowX a nx j = total (λ (w : ℕ). ones (bitAnd (alongX a (5 * j + w)) (limitOf (nx - 1) w))) 4
+-- the places of four words of a row of nx samples that have a next one
+abbrev pub limitsOf : ℕ → List ℕ
+limitsOf nx = limitOf (nx - 1) 0 ∷ limitOf (nx - 1) 1 ∷ limitOf (nx - 1) 2 ∷ limitOf (nx - 1) 3 ∷ []
+
+-- along x from the row j, under these limits, and from the whole plane
+abbrev pub rowX : List ℕ → List ℕ → ℕ → ℕ
+rowX a limits j = total (λ (w : ℕ). ones (bitAnd (alongX a (5 * j + w)) (getD limits w 0))) 4
 
 abbrev pub planeX : List ℕ → ℕ → ℕ → ℕ
-planeX a nx ny = total (rowX a nx) ny
+planeX a nx ny = total (rowX a (limitsOf nx)) ny
 
 -- along y: no edge starts from the last row
 abbrev pub planeY : List ℕ → ℕ → ℕ

@@ -37,16 +37,16 @@ fn differing(a: &[u64], b: &[u64]) -> usize
     m
 }
 
-// The crossed edges along x from row j of a plane.
-fn row_edges(a: &[u64], nx: usize, j: usize) -> usize
-    requires { ⌜ (0 < nx) × (j < 256) × (length (now a) ≡ 1280) ⌝ }
-    ensures { λ r. ⌜ r ≡ rowX (now (a .entry)) nx j ⌝ }
+// The crossed edges along x from row j of a plane; `limits` has the places of its words that have a next sample.
+fn row_edges(a: &[u64], limits: &[u64], j: usize) -> usize
+    requires { ⌜ (j < 256) × (length (now a) ≡ 1280) × (length (now limits) ≡ 4) ⌝ }
+    ensures { λ r. ⌜ r ≡ rowX (now (a .entry)) (now (limits .entry)) j ⌝ }
     ensures { λ r. ⌜ r ≤ 256 ⌝ }
 {
     let mut m: usize = 0;
     let mut w: usize = 0;
     while w < 4 {
-        m += planes::ones_of(planes::along_x(a, 5 * j + w) & planes::limit(nx - 1, w));
+        m += planes::ones_of(planes::along_x(a, 5 * j + w) & limits[w]);
         w += 1;
     }
     m
@@ -58,10 +58,16 @@ fn plane_edges(a: &[u64], nx: usize, ny: usize) -> usize
     ensures { λ r. ⌜ r ≡ planeX (now (a .entry)) nx ny + planeY (now (a .entry)) ny ⌝ }
     ensures { λ r. ⌜ r ≤ 147456 ⌝ }
 {
+    let limits = [
+        planes::limit(nx - 1, 0),
+        planes::limit(nx - 1, 1),
+        planes::limit(nx - 1, 2),
+        planes::limit(nx - 1, 3),
+    ];
     let mut m: usize = 0;
     let mut j: usize = 0;
     while j < ny {
-        m += row_edges(a, nx, j);
+        m += row_edges(a, &limits, j);
         j += 1;
     }
     m + differing(&a[0..5 * (ny - 1)], &a[5..5 * ny])

@@ -3,3 +3,5 @@ pub mod Windows
 pub mod Planes
 pub mod RowSigns
 pub mod Fixed
+pub mod Swaps
+pub mod Spread

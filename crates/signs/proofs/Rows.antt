@@ -4,11 +4,10 @@ use mathlib.Core.Path.{_≡_, refl, sym, ap, _∙_}
 use mathlib.Core.Bool.{_&&_}
 use mathlib.Core.Logic.{_⊎_, inl, inr, ⊎-elim}
 use mathlib.Core.List.{List, [], _∷_}
-use Prim.Native.Nat.{ℕ, _+_, _*_, _%_, _^_, _≤_, _<_}
+use Prim.Native.Nat.{ℕ, _+_, _*_, _≤_, _<_}
 use native.Mathlib.Nat.{add-zero, mul-add, mul-one, mul-le-mul-left, eq-or-lt-of-le}
 use native.Mathlib.Omega.{arith}
 use borrow.Author.Tests.{lt-ltb, le-ltb}
-use lib.Bits.{bitOr}
 use lib.Dec.{leb, ltb}
 use lib.ListN.{length, getD, set, replicate, length-replicate, getD-replicate, List·getD-eq-default}
 use lib.Seq.{getD-set-same, getD-set-other}
@@ -16,7 +15,7 @@ use Rattle.laws.specs.Bits.{bit}
 use Rattle.laws.specs.Pack.{pack}
 use Rattle.laws.proofs.Bits.{bit-le}
 use Rattle.laws.proofs.Index.{pair-lt}
-use Rattle.laws.proofs.Pack.{pack-none, pack-more, pack-cong, pack-join}
+use Rattle.laws.proofs.Pack.{pack-none, pack-more, pack-cong}
 use Rattle.laws.proofs.Tests.{lt-or-ge}
 use Rattle.block.specs.declared.Cut.{Cut}
 use Rattle.block.specs.declared.Size.{Size}
@@ -67,34 +66,6 @@ bytes-more row t n b bytes room is e x = go (lt-or-ge x n)
 -- the signs are 0 or 1
 pub bytes-bits : (row : List ℕ) (t n : ℕ) (bytes : List ℕ) → SignBytes row t n bytes → BitBytes bytes
 bytes-bits row t n bytes is x = rw (is x) (bit-le (ltb x n && leb t (getD row x 0)))
-
--- eight bits more of word w
-pub eight-more : (bytes : List ℕ) (w k : ℕ) → BitBytes bytes → k < 8 → (r : ℕ)
-    → (let p = 64 * w + 8 * k in r ≡ getD bytes p 0 + 2 * getD bytes (p + 1) 0 + 4 * getD bytes (p + 2) 0 + 8 * getD bytes (p + 3) 0 + 16 * getD bytes (p + 4) 0 + 32 * getD bytes (p + 5) 0 + 64 * getD bytes (p + 6) 0 + 128 * getD bytes (p + 7) 0)
-    → bitOr (pack (λ (i : ℕ). getD bytes (64 * w + i) 0) (8 * k)) (r * 2 ^ (8 * k) % 2 ^ 64) ≡ pack (λ (i : ℕ). getD bytes (64 * w + i) 0) (8 * (k + 1))
-unfolding pack
-eight-more bytes w k small h r e =
-    ap (λ (x : ℕ). bitOr (pack f (8 * k)) (x * 2 ^ (8 * k) % 2 ^ 64)) eight
-    ∙ pack-join f (λ i. small (64 * w + i)) (8 * k) 8 64 (omega arith)
-    ∙ ap (pack f) next
-  where
-    f : ℕ → ℕ
-    f = λ i. getD bytes (64 * w + i) 0
-
-    next : 8 * k + 8 ≡ 8 * (k + 1)
-    next = omega arith
-
-    at : (i : ℕ) → getD bytes (64 * w + (8 * k + i)) 0 ≡ getD bytes (64 * w + 8 * k + i) 0
-    at i = ap (λ (x : ℕ). getD bytes x 0) (place i)
-      where
-        place : (i : ℕ) → 64 * w + (8 * k + i) ≡ 64 * w + 8 * k + i
-        place i = omega arith
-
-    first : getD bytes (64 * w + (8 * k + 0)) 0 ≡ getD bytes (64 * w + 8 * k) 0
-    first = ap (λ (x : ℕ). getD bytes (64 * w + x) 0) (add-zero (8 * k))
-
-    eight : r ≡ pack (λ j. f (8 * k + j)) 8
-    eight = omega (arith, e, first, at 1, at 2, at 3, at 4, at 5, at 6, at 7)
 
 -- the bits of word w, from the bytes of the whole row
 row-gathered : (row : List ℕ) (t : ℕ) (bytes : List ℕ) (w r : ℕ) → SignBytes row t (length row) bytes → r ≡ pack (λ (i : ℕ). getD bytes (64 * w + i) 0) 64

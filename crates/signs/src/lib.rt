@@ -3,7 +3,7 @@ use block::Cut;
 use block::Size;
 ghost use mathlib.Core.Path.{_≡_};
 ghost use mathlib.Core.List.{[], _∷_};
-ghost use Prim.Native.Nat.{ℕ, _+_, _*_, _<_, _≤_};
+ghost use Prim.Native.Nat.{ℕ, _+_, _*_, _/_, _%_, _^_, _<_, _≤_};
 ghost use lib.Dec.{leb};
 ghost use lib.ListN.{length, getD};
 ghost use lib.Seq.{sets};
@@ -13,7 +13,7 @@ ghost use Rattle.laws.specs.Pack.{pack};
 ghost use Rattle.block.specs.Numbering.{sampleCount};
 ghost use Rattle.block.specs.Size.{Limits};
 ghost use Rattle.signs.specs.Signs.{planeWords};
-ghost use Rattle.signs.specs.Steps.{SignBytes, BitBytes, fiveWords};
+ghost use Rattle.signs.specs.Steps.{SignBytes, BitBytes, eightBytes, fiveWords};
 
 // The words of plane k, five to a row, at the front of a buffer for the largest plane.
 pub fn plane_signs(size: Size, samples: &[u16], cut: Cut, k: usize, plane: &mut [u64])
@@ -78,45 +78,61 @@ fn row_bytes(row: &[u16], t: u16) -> [u8; 256]
     m
 }
 
-// Eight bytes, 0 or 1 each, as eight bits: each sum brings bits together that are 7, 14 and 28 places apart, and no two of them meet.
-fn eight_bits(a: u8, b: u8, c: u8, d: u8, e: u8, f: u8, g: u8, h: u8) -> u64
-    requires { ⌜ (a ≤ 1) × (b ≤ 1) × (c ≤ 1) × (d ≤ 1) × (e ≤ 1) × (f ≤ 1) × (g ≤ 1) × (h ≤ 1) ⌝ }
-    ensures { λ r. ⌜ r ≡ a + 2 * b + 4 * c + 8 * d + 16 * e + 32 * f + 64 * g + 128 * h ⌝ }
+// Eight bytes as one word, the first lowest.
+fn eight_bytes(a: u8, b: u8, c: u8, d: u8, e: u8, f: u8, g: u8, h: u8) -> u64
+    ensures { λ r. ⌜ r ≡ a + 256 * b + 65536 * c + 16777216 * d + 4294967296 * e + 1099511627776 * f + 281474976710656 * g + 72057594037927936 * h ⌝ }
 {
-    let x = (a as u64)
+    (a as u64)
         + 256 * (b as u64)
         + 65536 * (c as u64)
         + 16777216 * (d as u64)
         + 4294967296 * (e as u64)
         + 1099511627776 * (f as u64)
         + 281474976710656 * (g as u64)
-        + 72057594037927936 * (h as u64);
-    let y = x + (x >> 7);
-    let z = y + (y >> 14);
-    (z + (z >> 28)) % 256
+        + 72057594037927936 * (h as u64)
 }
 
-// Word w of a row's signs, from their bytes.
+// A part of eight bytes as one word: a function of its own, so that it is compiled to one load.
+fn eight_of(part: &[u8]) -> u64
+    requires { ⌜ length (now part) ≡ 8 ⌝ }
+    ensures { λ r. ⌜ r ≡ eightBytes (now (part .entry)) 0 ⌝ }
+{
+    eight_bytes(
+        part[0],
+        part[1],
+        part[2],
+        part[3],
+        part[4],
+        part[5],
+        part[6],
+        part[7],
+    )
+}
+
+// A word of eight rows of eight bits, with rows and columns exchanged. The steps swap bits that are 7, 14 and 28 places apart: single bits, then
+// squares of four bits, then squares of sixteen.
+fn transposed(y: u64) -> u64
+    ensures { λ r. ⌜ r ≡ pack (λ (i : ℕ). y / 2 ^ (8 * (i % 8) + i / 8) % 2) 64 ⌝ }
+{
+    let s = (y ^ (y >> 7)) & 0x00AA00AA00AA00AA;
+    let a = y ^ s ^ (s << 7);
+    let t = (a ^ (a >> 14)) & 0x0000CCCC0000CCCC;
+    let b = a ^ t ^ (t << 14);
+    let u = (b ^ (b >> 28)) & 0x00000000F0F0F0F0;
+    b ^ u ^ (u << 28)
+}
+
+// Word w of a row's signs, from their bytes. Byte 8 k + l is put into bit k of a word's byte l. With rows and columns exchanged all 64 stand in order.
 fn gathered(bytes: &[u8], w: usize) -> u64
     requires { ⌜ (w < 4) × (length (now bytes) ≡ 256) × BitBytes (now bytes) ⌝ }
     ensures { λ r. ⌜ r ≡ pack (λ (i : ℕ). getD (now (bytes .entry)) (64 * w + i) 0) 64 ⌝ }
 {
-    let mut v: u64 = 0;
+    let mut y: u64 = 0;
     let mut k: usize = 0;
     while k < 8 {
         let p = 64 * w + 8 * k;
-        let bits = eight_bits(
-            bytes[p],
-            bytes[p + 1],
-            bytes[p + 2],
-            bytes[p + 3],
-            bytes[p + 4],
-            bytes[p + 5],
-            bytes[p + 6],
-            bytes[p + 7],
-        );
-        v |= bits << (8 * k);
+        y |= eight_of(&bytes[p..p + 8]) << k;
         k += 1;
     }
-    v
+    transposed(y)
 }
