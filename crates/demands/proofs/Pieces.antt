@@ -23,11 +23,11 @@ use Rattle.block.specs.Size.{sizeOf}
 use Rattle.lists.specs.Rows.{lengthRow, quadBelow, numberRow}
 use Rattle.cube_rule.specs.Decider.{loopsOf}
 use Rattle.mesh_rule.specs.Buffers.{meshQuads}
+use Rattle.trees.specs.Forest.{longestSearch}
 use Rattle.pieces.specs.declared.Parts.{Parts}
 use Rattle.pieces.specs.declared.Pieced.{Pieced}
 use Rattle.pieces.specs.declared.Pieced.the-variants as pieced
 use Rattle.pieces.specs.Chains.{Chain, PieceOf}
-use Rattle.pieces.specs.Forest.{longestSearch}
 use Rattle.pieces.specs.Answer.{bufferRow, piecesRows, piecesVerdict, Numbers, members, sizes, partsOf, saidPieces, PiecesFound}
 use Rattle.pieces.specs.Rules.{WholeLog}
 use Rattle.pieces.proofs.Rows.{Accepted, accepted-by}

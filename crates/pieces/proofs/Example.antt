@@ -9,8 +9,8 @@ use lib.ListN.{getD}
 use Rattle.laws.specs.Below.{below}
 use Rattle.laws.specs.Counting.{count}
 use Rattle.laws.proofs.Tests.{below as belowTest}
+use Rattle.trees.specs.Forest.{topOf, linksOf, join, after, longestSearch}
 use Rattle.pieces.specs.Chains.{VertexOf, none, one, PieceOf}
-use Rattle.pieces.specs.Forest.{topOf, linksOf, join, after, longestSearch}
 use Rattle.pieces.specs.Answer.{Numbers, sizes}
 use Rattle.pieces.specs.Rules.{InNoQuad}
 use Rattle.pieces.proofs.Chains.{alone-chain}

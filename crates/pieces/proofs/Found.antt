@@ -15,14 +15,15 @@ use Rattle.block.specs.declared.Refusal.{Refusal}
 use Rattle.block.specs.declared.Checked.{Checked}
 use Rattle.block.specs.declared.Checked.the-variants.{Passes, Refuses}
 use Rattle.block.proofs.Order.{passes-refuses, judged-refused, judged-passed, written-refused, written-passed}
+use Rattle.trees.specs.Forest.{State, at, topOf, begin, after}
+use Rattle.trees.specs.Steps.{stored, Standing}
+use Rattle.trees.proofs.Joins.{Stands}
 use Rattle.pieces.specs.declared.Parts.{Parts}
 use Rattle.pieces.specs.declared.Pieced.the-variants as pieced
 use Rattle.pieces.specs.Chains.{PieceOf}
-use Rattle.pieces.specs.Forest.{State, at, topOf, begin, after}
 use Rattle.pieces.specs.Answer.{Numbers, members, sizes, partsOf, PiecesBy}
 use Rattle.pieces.specs.Rules.{AllBelow}
-use Rattle.pieces.specs.Steps.{stored, Standing, low, Numbered}
-use Rattle.pieces.proofs.Joins.{Stands}
+use Rattle.pieces.specs.Steps.{low, Numbered}
 use Rattle.pieces.proofs.Quads.{joined-to, piece-is}
 
 module _ (n : ℕ) (few : n < 4294967296) (quads : List ℕ) (whole : length quads % 4 ≡ 0) (below : AllBelow n quads) where

@@ -1,11 +1,6 @@
 pub mod Counts
-pub mod Trees
-pub mod Searches
-pub mod Stored
 pub mod Chains
-pub mod Unites
 pub mod Lowest
-pub mod Joins
 pub mod Quads
 pub mod Renumber
 pub mod Midway

@@ -13,10 +13,11 @@ use Rattle.laws.specs.Bits.{bit}
 use Rattle.laws.specs.Counting.{count}
 use Rattle.laws.proofs.Counting.{count-none, count-next}
 use Rattle.laws.proofs.Tests.{lt-or-ge}
-use Rattle.pieces.specs.Forest.{at, topOf}
-use Rattle.pieces.specs.Steps.{Ends, Standing, NumberedTo, NumberedOne, Numbered, low}
-use Rattle.pieces.proofs.Searches.{nearer-by, ends-at}
-use Rattle.pieces.proofs.Stored.{set-as}
+use Rattle.trees.specs.Forest.{at, topOf}
+use Rattle.trees.specs.Steps.{Ends, Standing}
+use Rattle.trees.proofs.Searches.{nearer-by, ends-at}
+use Rattle.trees.proofs.Stored.{set-as}
+use Rattle.pieces.specs.Steps.{NumberedTo, NumberedOne, Numbered, low}
 use Rattle.pieces.proofs.Renumber.{upAt, topAt, sizeAt, left, left-few, stops, goes, falls, was-numbered, not-numbered, numbered-up, numbered-size, old-top, size-there, lowest-up, lowest-size, first-up, first-size, last-up, last-size}
 
 -- ---- as the code stores it

@@ -14,8 +14,9 @@ use Rattle.laws.specs.Counting.{count}
 use Rattle.laws.proofs.Bits.{bit-le}
 use Rattle.laws.proofs.Counting.{count-same, clear-count}
 use Rattle.laws.proofs.Tests.{lt-or-ge}
-use Rattle.pieces.specs.Steps.{Trees, low}
-use Rattle.pieces.proofs.Trees.{shallow}
+use Rattle.trees.specs.Steps.{Trees}
+use Rattle.trees.proofs.Trees.{shallow}
+use Rattle.pieces.specs.Steps.{low}
 use Rattle.pieces.proofs.Lowest.{low-le, low-lt, low-root, low-same, low-low, low-eq}
 
 -- ---- before vertex v

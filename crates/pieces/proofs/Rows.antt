@@ -15,7 +15,7 @@ use Rattle.block.proofs.Rows.{unless-none}
 use Rattle.block.proofs.Searches.{search-none}
 use Rattle.lists.specs.Rows.{lengthRow, quadBelow, numberRow}
 use Rattle.lists.proofs.Rows.{length-exactly}
-use Rattle.pieces.specs.Forest.{at}
+use Rattle.trees.specs.Forest.{at}
 use Rattle.pieces.specs.Answer.{bufferRow, piecesVerdict}
 use Rattle.pieces.specs.Rules.{AllBelow}
 

@@ -16,8 +16,8 @@ use Rattle.laws.specs.Counting.{count}
 use Rattle.laws.specs.Pack.{total}
 use Rattle.laws.proofs.Counting.{count-all, clear-count, count-same, count-this}
 use Rattle.laws.proofs.Tests.{lt-or-ge}
+use Rattle.trees.specs.Forest.{State, at, topOf, after, longestSearch}
 use Rattle.pieces.specs.Chains.{Chain, none, more}
-use Rattle.pieces.specs.Forest.{State, at, topOf, after, longestSearch}
 use Rattle.pieces.specs.Answer.{Numbers, members, piecesIn}
 use Rattle.pieces.specs.Rules.{AllBelow, InNoQuad, WholeLog}
 use Rattle.pieces.proofs.Counts.{taken-once}

@@ -11,11 +11,11 @@ use Rattle.block.specs.declared.Checked.{Checked}
 use Rattle.block.specs.declared.Checked.the-variants.{Passes}
 use Rattle.block.specs.Answer.{Answer, accepted, refused, refuses, inOrder, judged, written}
 use Rattle.lists.specs.Rows.{lengthRow, numberRow}
+use Rattle.trees.specs.Forest.{longestSearch}
 use Rattle.pieces.specs.declared.Parts.{Parts}
 use Rattle.pieces.specs.declared.Pieced.{Pieced}
 use Rattle.pieces.specs.declared.Pieced.the-variants as pieced
 use Rattle.pieces.specs.Chains.{PieceOf}
-use Rattle.pieces.specs.Forest.{longestSearch}
 
 -- 5: "when either buffer is shorter than n (value: n)"
 abbrev pub bufferRow : ℕ → ℕ → ℕ → Checked

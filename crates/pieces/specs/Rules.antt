@@ -3,8 +3,8 @@
 use Prim.Native.Nat.{ℕ, suc, _^_, _≤_, _<_}
 use mathlib.Core.List.{List}
 use lib.ListN.{length}
+use Rattle.trees.specs.Forest.{at}
 use Rattle.pieces.specs.Chains.{VertexOf}
-use Rattle.pieces.specs.Forest.{at}
 
 -- each number of a list is below n
 abbrev pub AllBelow : ℕ → List ℕ → Type 0

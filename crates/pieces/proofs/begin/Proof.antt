@@ -8,7 +8,7 @@ use borrow.Author.Needs.{needs}
 use lib.ListN.{length, length-set}
 use Rattle.laws.specs.Below.{over}
 use Rattle.laws.proofs.Over.{each, over-none, over-put, over-each}
-use Rattle.pieces.specs.Steps.{stored}
+use Rattle.trees.specs.Steps.{stored}
 use Rattle.pieces.proofs.begin.Statement.{statement}
 use Rattle.pieces.proofs.begin.Tie as tie
 use Rattle.pieces.proofs.begin.Reads as reads

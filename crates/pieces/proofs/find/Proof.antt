@@ -2,7 +2,7 @@
 -- Assumes nothing.
 use mathlib.Core.Path.{ap, sym, _∙_}
 use Prim.Native.Nat.{_<_}
-use Rattle.pieces.specs.Forest.{begin}
+use Rattle.trees.specs.Forest.{begin}
 use Rattle.pieces.proofs.Found.{begun, standing, found-all}
 use borrow.Author.Needs.{needs}
 use Rattle.pieces.proofs.find.Statement.{statement}

@@ -5,14 +5,14 @@ use Prim.Native.Nat.{ℕ, _/_, _-_, _≤_, _<_}
 use native.Mathlib.Omega.{arith}
 use borrow.Author.Needs.{needs}
 use lib.ListN.{length}
-use Rattle.pieces.specs.Forest.{at, after}
-use Rattle.pieces.specs.Steps.{stored}
+use Rattle.trees.specs.Forest.{at, after}
+use Rattle.trees.specs.Steps.{stored}
 use Rattle.pieces.proofs.Quads.{after-none, after-more, ready-at}
 use Rattle.pieces.proofs.join_all.Statement.{statement}
 use Rattle.pieces.proofs.join_all.Tie as tie
 use Rattle.pieces.proofs.join_all.Reads as reads
 use Rattle.pieces.proofs.join_all.Lts as lts
-use Rattle.pieces.proofs.join_quad.Reads as join-quad-reads
+use Rattle.trees.proofs.join_quad.Reads as join-quad-reads
 
 abbrev Inv-loop : tie.InvT-loop
 Inv-loop quads up₀ size₀ all longest₀ q₀ up size longest q =

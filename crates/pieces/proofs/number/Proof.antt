@@ -7,7 +7,7 @@ use Rattle.pieces.proofs.number.Statement.{statement}
 use Rattle.pieces.proofs.number.Tie as tie
 use Rattle.pieces.proofs.number.Reads as reads
 use Rattle.pieces.proofs.number.Lts as lts
-use Rattle.pieces.proofs.search.Reads as search-reads
+use Rattle.trees.proofs.search.Reads as search-reads
 
 search-requires : tie.Need-search-requires
 search-requires c κs = search needs

@@ -4,8 +4,8 @@ use mathlib.Core.Path.{_≡_, ap, sym, _∙_, subst}
 use Prim.Native.Nat.{ℕ, _-_, _≤_}
 use native.Mathlib.Omega.{arith}
 use borrow.Author.Needs.{needs}
-use Rattle.pieces.specs.Forest.{at, topOf}
-use Rattle.pieces.specs.Steps.{Ends}
+use Rattle.trees.specs.Forest.{at, topOf}
+use Rattle.trees.specs.Steps.{Ends}
 use Rattle.pieces.proofs.Midway.{Midway, midway-first, midway-ends, midway-top, midway-next, midway-last}
 use Rattle.pieces.proofs.number_all.Statement.{statement}
 use Rattle.pieces.proofs.number_all.Tie as tie

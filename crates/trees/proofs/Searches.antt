@@ -8,8 +8,8 @@ use native.Mathlib.Numerals.{add-one}
 use native.Mathlib.Omega.{arith}
 use lib.Dec.{eqb}
 use borrow.Author.Tests.{eq-eqb, ne-eqb, eqb-true, eqb-false}
-use Rattle.pieces.specs.Forest.{at, topOf, linksOf}
-use Rattle.pieces.specs.Steps.{Ends, Standing, Tops}
+use Rattle.trees.specs.Forest.{at, topOf, linksOf}
+use Rattle.trees.specs.Steps.{Ends, Standing, Tops}
 
 pub links-le : (up : ℕ → ℕ) (steps v : ℕ) → linksOf up steps v ≤ steps
 unfolding linksOf

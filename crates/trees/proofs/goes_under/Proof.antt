@@ -1,10 +1,10 @@
 -- `goes_under` meets its contract.
 -- Assumes nothing.
-use Rattle.pieces.proofs.Unites.{under-fewer, under-tied, under-more}
-use Rattle.pieces.proofs.goes_under.Statement.{statement}
-use Rattle.pieces.proofs.goes_under.Tie as tie
-use Rattle.pieces.proofs.goes_under.Reads as reads
-use Rattle.pieces.proofs.goes_under.Lts as lts
+use Rattle.trees.proofs.Unites.{under-fewer, under-tied, under-more}
+use Rattle.trees.proofs.goes_under.Statement.{statement}
+use Rattle.trees.proofs.goes_under.Tie as tie
+use Rattle.trees.proofs.goes_under.Reads as reads
+use Rattle.trees.proofs.goes_under.Lts as lts
 
 returns : tie.Need-returns
 returns c = let a = c .before .args in under-fewer (a .s) (a .t) (a .a) (a .b) (c .if1 .taken)

@@ -3,17 +3,17 @@
 use mathlib.Core.Path.{ap, _∙_}
 use Prim.Native.Nat.{max}
 use native.Mathlib.Omega.{arith}
-use Rattle.pieces.proofs.Searches.{tops}
-use Rattle.pieces.proofs.Trees.{shallow}
-use Rattle.pieces.proofs.Joins.{joins-under, joins-over}
+use Rattle.trees.proofs.Searches.{tops}
+use Rattle.trees.proofs.Trees.{shallow}
+use Rattle.trees.proofs.Joins.{joins-under, joins-over}
 use borrow.Author.Needs.{needs}
-use Rattle.pieces.proofs.join.Statement.{statement}
-use Rattle.pieces.proofs.join.Tie as tie
-use Rattle.pieces.proofs.join.Reads as reads
-use Rattle.pieces.proofs.join.Lts as lts
-use Rattle.pieces.proofs.larger.Reads as larger-reads
-use Rattle.pieces.proofs.search.Reads as search-reads
-use Rattle.pieces.proofs.unite.Reads as unite-reads
+use Rattle.trees.proofs.join.Statement.{statement}
+use Rattle.trees.proofs.join.Tie as tie
+use Rattle.trees.proofs.join.Reads as reads
+use Rattle.trees.proofs.join.Lts as lts
+use Rattle.trees.proofs.larger.Reads as larger-reads
+use Rattle.trees.proofs.search.Reads as search-reads
+use Rattle.trees.proofs.unite.Reads as unite-reads
 
 search-requires : tie.Need-search-requires
 search-requires c κs = search needs

@@ -5,12 +5,12 @@ use Prim.Native.Nat.{_+_, _<_}
 use native.Mathlib.Omega.{arith}
 use borrow.Author.Needs.{needs}
 use lib.ListN.{length}
-use Rattle.pieces.specs.Forest.{at, topOf, linksOf}
-use Rattle.pieces.proofs.Searches.{links-le, at-top, inside, nearer-to}
-use Rattle.pieces.proofs.search.Statement.{statement}
-use Rattle.pieces.proofs.search.Tie as tie
-use Rattle.pieces.proofs.search.Reads as reads
-use Rattle.pieces.proofs.search.Lts as lts
+use Rattle.trees.specs.Forest.{at, topOf, linksOf}
+use Rattle.trees.proofs.Searches.{links-le, at-top, inside, nearer-to}
+use Rattle.trees.proofs.search.Statement.{statement}
+use Rattle.trees.proofs.search.Tie as tie
+use Rattle.trees.proofs.search.Reads as reads
+use Rattle.trees.proofs.search.Lts as lts
 
 abbrev Inv-loop : tie.InvT-loop
 Inv-loop up v top₀ above₀ links₀ top above links =

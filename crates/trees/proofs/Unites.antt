@@ -8,9 +8,9 @@ use native.Mathlib.Omega.{arith}
 use lib.Dec.{eqb, ltb}
 use lib.ListN.{length, set}
 use borrow.Author.Tests.{eq-eqb, ne-eqb, eqb-true, lt-ltb, le-ltb, ltb-true, ltb-false}
-use Rattle.pieces.specs.Forest.{at, goesUnder}
-use Rattle.pieces.specs.Steps.{Standing, Tops, Unites}
-use Rattle.pieces.proofs.Trees.{two-tops}
+use Rattle.trees.specs.Forest.{at, goesUnder}
+use Rattle.trees.specs.Steps.{Standing, Tops, Unites}
+use Rattle.trees.proofs.Trees.{two-tops}
 
 -- ---- the test as the code makes it: fewer vertices, or as many and the higher top
 

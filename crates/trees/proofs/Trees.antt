@@ -11,8 +11,8 @@ use borrow.Author.Tests.{eq-eqb, ne-eqb, eqb-true, eqb-false}
 use Rattle.laws.specs.Bits.{bit}
 use Rattle.laws.specs.Counting.{count}
 use Rattle.laws.proofs.Counting.{count-same, count-le-all, count-two, count-this}
-use Rattle.pieces.specs.Forest.{topOf, linksOf}
-use Rattle.pieces.specs.Steps.{Trees}
+use Rattle.trees.specs.Forest.{topOf, linksOf}
+use Rattle.trees.specs.Steps.{Trees}
 
 -- ---- trees
 

@@ -1,14 +1,14 @@
 -- `unite` meets its contract.
 -- Assumes nothing.
 use mathlib.Core.Path.{sym}
-use Rattle.pieces.proofs.Unites.{unites-one, unites-under, unites-over, hangable, turned}
+use Rattle.trees.proofs.Unites.{unites-one, unites-under, unites-over, hangable, turned}
 use borrow.Author.Needs.{needs}
-use Rattle.pieces.proofs.unite.Statement.{statement}
-use Rattle.pieces.proofs.unite.Tie as tie
-use Rattle.pieces.proofs.unite.Reads as reads
-use Rattle.pieces.proofs.unite.Lts as lts
-use Rattle.pieces.proofs.goes_under.Reads as goes-under-reads
-use Rattle.pieces.proofs.hang.Reads as hang-reads
+use Rattle.trees.proofs.unite.Statement.{statement}
+use Rattle.trees.proofs.unite.Tie as tie
+use Rattle.trees.proofs.unite.Reads as reads
+use Rattle.trees.proofs.unite.Lts as lts
+use Rattle.trees.proofs.goes_under.Reads as goes-under-reads
+use Rattle.trees.proofs.hang.Reads as hang-reads
 
 returns : tie.Need-returns
 returns c = unites-one _ _ _ _ (c .if1 .taken)

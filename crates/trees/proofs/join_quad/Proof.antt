@@ -2,15 +2,15 @@
 -- Assumes nothing.
 use mathlib.Core.Path.{_∙_}
 use lib.ListN.{length}
-use Rattle.pieces.specs.Steps.{Follows}
-use Rattle.pieces.proofs.Joins.{ready-on, quad-is}
+use Rattle.trees.specs.Steps.{Follows}
+use Rattle.trees.proofs.Joins.{ready-on, quad-is}
 use borrow.Author.Needs.{needs}
-use Rattle.pieces.proofs.join_quad.Statement.{statement}
-use Rattle.pieces.proofs.join_quad.Tie as tie
-use Rattle.pieces.proofs.join_quad.Reads as reads
-use Rattle.pieces.proofs.join_quad.Lts as lts
-use Rattle.pieces.proofs.join.Reads as join-reads
-use Rattle.pieces.proofs.search.Reads as search-reads
+use Rattle.trees.proofs.join_quad.Statement.{statement}
+use Rattle.trees.proofs.join_quad.Tie as tie
+use Rattle.trees.proofs.join_quad.Reads as reads
+use Rattle.trees.proofs.join_quad.Lts as lts
+use Rattle.trees.proofs.join.Reads as join-reads
+use Rattle.trees.proofs.search.Reads as search-reads
 
 -- the way of the first vertex, as the search found it
 abbrev way-found : (c : tie.After-search) → let a = c .before .before .before .before .args in Follows (length (a .up .now)) (a .up .now) (a .v0) (c .search .result .top) (c .search .result .links)

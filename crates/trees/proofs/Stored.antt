@@ -8,7 +8,7 @@ use lib.Dec.{eqb}
 use lib.ListN.{length, getD, set}
 use borrow.Author.Tests.{eqb-true, eqb-false}
 use lib.Seq.{getD-set-same, getD-set-other}
-use Rattle.pieces.specs.Forest.{at}
+use Rattle.trees.specs.Forest.{at}
 
 -- a list with one element set, as a function
 pub set-as : (l : List ℕ) (i x : ℕ) → i < length l → _≡_ {A = ℕ → ℕ} (at (set l i x)) (λ v. cond (eqb v i) x (at l v))

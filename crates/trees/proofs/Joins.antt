@@ -1,25 +1,23 @@
--- One join: the links stay those of trees, its two vertices have one top then, vertices that had one top have one still, and where a chain of quads joins
--- the two, vertices with one top are joined by a chain. Its two searches are short. Then what the code makes of it.
+-- One join: the links stay those of trees, its two vertices have one top then, vertices that had one top have one still, and others have one only if they
+-- had the tops of the two. Its two searches are short. Then what the code makes of it.
 -- Assumes nothing.
 use Prim.Native.Nat.{ℕ, suc, _+_, _^_, _≤_, _<_, max}
 use mathlib.Core.Path.{_≡_, refl, ap, ap₂, sym, _∙_, subst}
 use mathlib.Core.Bool.{Bool, true, false, not, cond, _&&_}
 use mathlib.Core.Logic.{_⊎_, inl, inr}
-use mathlib.Core.List.{List, []}
+use mathlib.Core.List.{List}
 use native.Mathlib.Omega.{arith}
 use lib.Dec.{eqb}
 use lib.ListN.{length, set, length-set}
 use borrow.Author.Tests.{eq-eqb, ne-eqb, eqb-true, eqb-false}
 use Rattle.laws.specs.Bits.{bit}
 use Rattle.laws.proofs.Tests.{lt-or-ge}
-use Rattle.pieces.specs.Chains.{Chain, more}
-use Rattle.pieces.specs.Forest.{State, at, topOf, linksOf, hung, goesUnder, united, counted, join, joinQuad}
-use Rattle.pieces.specs.Steps.{stored, Trees, Standing, Tops, Unites, Follows, Joins}
-use Rattle.pieces.proofs.Trees.{hungUp, hungSize, hang, small, found, settled}
-use Rattle.pieces.proofs.Chains.{turn}
-use Rattle.pieces.proofs.Searches.{at-top, one-link, tops}
-use Rattle.pieces.proofs.Stored.{set-as}
-use Rattle.pieces.proofs.Unites.{under-true, under-false}
+use Rattle.trees.specs.Forest.{State, at, topOf, linksOf, hung, goesUnder, united, counted, join, joinQuad}
+use Rattle.trees.specs.Steps.{stored, Trees, Standing, Tops, Unites, Follows, Joins}
+use Rattle.trees.proofs.Trees.{hungUp, hungSize, hang, small, found, settled}
+use Rattle.trees.proofs.Searches.{at-top, one-link, tops}
+use Rattle.trees.proofs.Stored.{set-as}
+use Rattle.trees.proofs.Unites.{under-true, under-false}
 
 -- ---- the sizes after a top is hung, as a function
 
@@ -42,17 +40,19 @@ max-pow a b n p q = go (lt-or-ge a b)
     go (inl l) = let e : max a b ≡ b = omega arith in rw e q
     go (inr g) = let e : max a b ≡ a = omega arith in rw e p
 
-module _ (n : ℕ) (quads : List ℕ) where
+-- x and y have one top, or one of them has the top of v and the other that of w
+pub data Merged (root : ℕ → ℕ) (v w x y : ℕ) : Type 0 where
+  same : root x ≡ root y → Merged root v w x y
+  there : root x ≡ root v → root y ≡ root w → Merged root v w x y
+  back : root x ≡ root w → root y ≡ root v → Merged root v w x y
+
+module _ (n : ℕ) where
   -- the top that a search finds
   abbrev pub top : State → ℕ → ℕ
   top st x = topOf (at (st .up)) n x
 
   abbrev pub links : State → ℕ → ℕ
   links st x = linksOf (at (st .up)) n x
-
-  -- vertices with one top are joined by a chain
-  abbrev pub Sound : State → Type 0
-  Sound st = (x y : ℕ) → x < n → y < n → top st x ≡ top st y → Chain quads x y
 
   -- a later state, in which v and w have one top
   pub record Next (st st′ : State) (v w : ℕ) : Type 0 where
@@ -61,7 +61,7 @@ module _ (n : ℕ) (quads : List ℕ) where
     pub done : top st′ v ≡ top st′ w
     -- a way goes on from the top that it had
     pub onward : (x : ℕ) → x < n → (top st′ x ≡ top st′ (top st x)) × (links st′ x ≡ links st x + links st′ (top st x))
-    pub sound : Sound st → Chain quads v w → Sound st′
+    pub only : (x y : ℕ) → x < n → y < n → top st′ x ≡ top st′ y → Merged (top st) v w x y
 
   -- c, the top of v, is hung under d, the top of w
   hung-next : (st : State) → Stands n st → (c d v w : ℕ) → v < n → w < n → top st v ≡ c → top st w ≡ d → (c ≡ d → ⊥) → at (st .size) c ≤ at (st .size) d
@@ -79,7 +79,7 @@ module _ (n : ℕ) (quads : List ℕ) where
       is x hx ∙ sym (ap (λ (r : ℕ). cond (eqb r c) d r) (own x hx)) ∙ sym (is (top st x) (S .trees .inside x hx)),
       found grown x hx .1 ∙ longer (eqb (top st x) c) (links st x) ∙ ap (λ (k : ℕ). links st x + k) (sym (found grown (top st x) (S .trees .inside x hx) .1 ∙ rw (own x hx, still x hx))),
     );
-    sound = λ s j x y hx hy e. chained s j x y hx hy (eqb (top st x) c) (eqb (top st y) c) refl refl (sym (is x hx) ∙ e ∙ is y hy);
+    only = λ x y hx hy e. merged x y (eqb (top st x) c) (eqb (top st y) c) refl refl (sym (is x hx) ∙ e ∙ is y hy);
   }
     where
       hc : c < n
@@ -120,18 +120,22 @@ module _ (n : ℕ) (quads : List ℕ) where
       from-w : new w ≡ d
       from-w = rw (ew, ne-eqb d c (λ (z : d ≡ c). ne (sym z)))
 
-      chained : Sound st → Chain quads v w → (x y : ℕ) → x < n → y < n → (p q : Bool) → eqb (top st x) c ≡ p → eqb (top st y) c ≡ q
-          → cond p d (top st x) ≡ cond q d (top st y) → Chain quads x y
-      chained s j x y hx hy true true ep eq e = s x y hx hy (eqb-true _ _ ep ∙ sym (eqb-true _ _ eq))
-      chained s j x y hx hy true false ep eq e = more (s x v hx hv (eqb-true _ _ ep ∙ sym ev)) (more j (s w y hw hy (ew ∙ e)))
-      chained s j x y hx hy false true ep eq e = more (s x w hx hw (e ∙ sym ew)) (more (turn j) (s v y hv hy (ev ∙ sym (eqb-true _ _ eq))))
-      chained s j x y hx hy false false ep eq e = s x y hx hy e
+      merged : (x y : ℕ) (p q : Bool) → eqb (top st x) c ≡ p → eqb (top st y) c ≡ q → cond p d (top st x) ≡ cond q d (top st y) → Merged (top st) v w x y
+      merged x y true true ep eq e = same (eqb-true _ _ ep ∙ sym (eqb-true _ _ eq))
+      merged x y true false ep eq e = there (eqb-true _ _ ep ∙ sym ev) (sym e ∙ sym ew)
+      merged x y false true ep eq e = back (e ∙ sym ew) (eqb-true _ _ eq ∙ sym ev)
+      merged x y false false ep eq e = same e
 
   united-next : (st : State) → Stands n st → (v w : ℕ) → v < n → w < n → Next st (united (top st v) (top st w) st) v w
   united-next st S v w hv hw = go (eqb (top st v) (top st w)) refl
     where
+      other : (x y : ℕ) → Merged (top st) w v x y → Merged (top st) v w x y
+      other x y (same p) = same p
+      other x y (there p q) = back p q
+      other x y (back p q) = there p q
+
       swap : (st′ : State) → Next st st′ w v → Next st st′ v w
-      swap st′ N = record { stands = N .stands; keep = N .keep; done = sym (N .done); onward = N .onward; sound = λ s j. N .sound s (turn j) }
+      swap st′ N = record { stands = N .stands; keep = N .keep; done = sym (N .done); onward = N .onward; only = λ x y hx hy e. other x y (N .only x y hx hy e) }
 
       two : (x : Bool) → goesUnder (st .size) (top st v) (top st w) ≡ x → (top st v ≡ top st w → ⊥)
           → Next st (cond x (hung (top st v) (top st w) st) (hung (top st w) (top st v) st)) v w
@@ -147,7 +151,7 @@ module _ (n : ℕ) (quads : List ℕ) where
         onward = λ x hx.
             let s = S .trees .stay (top st x) (S .trees .inside x hx) (S .trees .tops x hx) in
             (sym (s .0), omega (arith, s .1));
-        sound = λ s j. s;
+        only = λ x y hx hy z. same z;
       }
       go false e = two (goesUnder (st .size) (top st v) (top st w)) refl (eqb-false (top st v) (top st w) e)
 
@@ -155,7 +159,7 @@ module _ (n : ℕ) (quads : List ℕ) where
   unfolding join
   join-next st S v w hv hw =
       let N = united-next (counted (linksOf (at (st .up)) n v) (linksOf (at (st .up)) n w) st) S v w hv hw in
-      record { stands = N .stands; keep = N .keep; done = N .done; onward = N .onward; sound = N .sound }
+      record { stands = N .stands; keep = N .keep; done = N .done; onward = N .onward; only = N .only }
 
   -- the longest search so far is short
   abbrev pub Short : State → Type 0
@@ -180,7 +184,7 @@ pub ready-again : (up size up′ size′ : List ℕ) (longest r v w : ℕ) → v
     → stored up′ size′ r ≡ join (length up) v w (stored up size longest)
     → (length up′ ≡ length up) × Standing (length up′) up′ size′
 ready-again up size up′ size′ longest r v w hv hw S e =
-    let S′ : Standing (length up) up′ size′ = subst (Stands (length up)) (sym e) (join-next (length up) [] (stored up size longest) S v w hv hw .stands) in
+    let S′ : Standing (length up) up′ size′ = subst (Stands (length up)) (sym e) (join-next (length up) (stored up size longest) S v w hv hw .stands) in
     (S′ .up-length, subst (λ (m : ℕ). Standing m up′ size′) (sym (S′ .up-length)) S′)
 
 -- two searches, and the tops that they find are united
@@ -234,7 +238,7 @@ module _ (up size up′ size′ : List ℕ) (w a k longest b l longest′ : ℕ)
           let t = tops S v w (F .inside) hw a b (F .finds) eb in
           let h = hung-top S t up′ size′ u in
           let o = subst (λ (st : State). (topOf (at (st .up)) (length up) v ≡ topOf (at (st .up)) (length up) (topOf (at up) (length up) v)) × (linksOf (at (st .up)) (length up) v ≡ linksOf (at up) (length up) v + linksOf (at (st .up)) (length up) (topOf (at up) (length up) v)))
-          (sym (is-joined v F)) (join-next (length up) [] (stored up size longest) S v w (F .inside) hw .onward v (F .inside)) in
+          (sym (is-joined v F)) (join-next (length up) (stored up size longest) S v w (F .inside) hw .onward v (F .inside)) in
           record {
             inside = F .inside;
             finds = ea ∙ ap (λ (x : Bool). cond x b a) ec ∙ sym (h .0) ∙ ap (topOf (at up′) (length up)) (F .finds) ∙ sym (o .0);
