@@ -685,25 +685,25 @@ fn told_with(quads: &[u32], room: usize, closure: Closure, work: [u64; 14]) {
 // None of the work lent, eleven words of it, twelve, and all fourteen.
 fn with_none(quads: &[u32]) {
     let mut work = [11936128518282651045u64; 14];
-    let closure = closed::closed_with(quads, &mut work[..0]);
+    let closure = closed_with::closed_with(quads, &mut work[..0]);
     told_with(quads, 0, closure, work);
 }
 
 fn with_eleven(quads: &[u32]) {
     let mut work = [11936128518282651045u64; 14];
-    let closure = closed::closed_with(quads, &mut work[..11]);
+    let closure = closed_with::closed_with(quads, &mut work[..11]);
     told_with(quads, 11, closure, work);
 }
 
 fn with_twelve(quads: &[u32]) {
     let mut work = [11936128518282651045u64; 14];
-    let closure = closed::closed_with(quads, &mut work[..12]);
+    let closure = closed_with::closed_with(quads, &mut work[..12]);
     told_with(quads, 12, closure, work);
 }
 
 fn with_all(quads: &[u32]) {
     let mut work = [11936128518282651045u64; 14];
-    let closure = closed::closed_with(quads, &mut work);
+    let closure = closed_with::closed_with(quads, &mut work);
     told_with(quads, 14, closure, work);
 }
 

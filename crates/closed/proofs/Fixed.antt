@@ -1,13 +1,15 @@
--- The promises of `closed` and `closed_with` fix their answers and the lent memory: any two outcomes that they allow are equal. With room enough both answer the same.
+-- The promises of `next`, `sound`, `closed` and `closed_with` fix their answers and the lent memory: any two outcomes that they allow are equal. With room enough
+-- the last two answer the same.
 -- Assumes nothing.
 use mathlib.Core.Path.{_≡_, refl, ap, ap₂, sym, _∙_}
+use mathlib.Core.Bool.{Bool}
 use mathlib.Core.List.{List, [], _∷_}
 use Prim.Native.Nat.{ℕ, _≤_}
 use native.Mathlib.Omega.{arith}
 use lib.ListN.{length}
 use borrow.Author.Tests.{le-leb}
 use Rattle.laws.specs.Fixed.{Fixes}
-use Rattle.laws.proofs.Fixed.{Injective, said-fixes}
+use Rattle.laws.proofs.Fixed.{Injective, said-fixes, equation-fixes}
 use Rattle.block.specs.declared.Checked.{Checked}
 use Rattle.block.specs.declared.Checked.the-variants.{Passes, Refuses}
 use Rattle.block.specs.Answer.{inOrder, judged}
@@ -18,6 +20,13 @@ use Rattle.closed.specs.declared.Closure.{Closure}
 use Rattle.closed.specs.declared.Closure.the-variants.{Closed, Open, Refused}
 use Rattle.closed.specs.Closed.{findingOf, saidClosure, ClosedAnswered}
 use Rattle.closed.specs.Chains.{wordsNeeded, ClosedWith}
+use Rattle.closed.specs.Steps.{nextPlace, soundSide}
+
+pub next-fixed : (n : ℕ) → Fixes (λ (r : ℕ). r ≡ nextPlace n)
+next-fixed n = equation-fixes (nextPlace n)
+
+pub sound-fixed : (a b there back : ℕ) → Fixes (λ (r : Bool). r ≡ soundSide a b there back)
+sound-fixed a b there back = equation-fixes (soundSide a b there back)
 
 pub said-closure-injective : Injective saidClosure
 said-closure-injective Closed Closed e = refl

@@ -126,7 +126,7 @@ pub extern "C" fn parsniprow_closed(quads: &[u32], answer: &mut [u32])
 pub extern "C" fn parsniprow_closed_with(quads: &[u32], work: &mut [u64], answer: &mut [u32])
     ensures { λ _. ⌜ ClosedWithTold (now (quads .entry)) (now (work .entry)) (now (answer .entry)) (now (work .exit)) (now (answer .exit)) ⌝ }
 {
-    let closure = closed::closed_with(quads, work);
+    let closure = closed_with::closed_with(quads, work);
     let told = told::tell_closed(closure);
     put(answer, &told);
 }

@@ -9,7 +9,7 @@ use Rattle.parsniprow_c.proofs.parsniprow_closed_with.Statement.{statem
 use Rattle.parsniprow_c.proofs.parsniprow_closed_with.Tie as tie
 use Rattle.parsniprow_c.proofs.parsniprow_closed_with.Reads as reads
 use Rattle.parsniprow_c.proofs.parsniprow_closed_with.Lts as lts
-use Rattle.closed.proofs.closed_with.Reads as closed-with-reads
+use Rattle.closed_with.proofs.closed_with.Reads as closed-with-reads
 use Rattle.parsniprow_c.proofs.put.Reads as put-reads
 use Rattle.told.proofs.tell_closed.Reads as tell-closed-reads
 

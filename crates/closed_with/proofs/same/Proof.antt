@@ -4,10 +4,10 @@ use mathlib.Core.Path.{sym, ap}
 use borrow.Author.Tests.{eq-eqb, ne-eqb}
 use borrow.Author.Needs.{needs}
 use Rattle.laws.specs.Bits.{bit}
-use Rattle.closed.proofs.same.Statement.{statement}
-use Rattle.closed.proofs.same.Tie as tie
-use Rattle.closed.proofs.same.Reads as reads
-use Rattle.closed.proofs.same.Lts as lts
+use Rattle.closed_with.proofs.same.Statement.{statement}
+use Rattle.closed_with.proofs.same.Tie as tie
+use Rattle.closed_with.proofs.same.Reads as reads
+use Rattle.closed_with.proofs.same.Lts as lts
 
 returns : tie.Need-returns
 returns c = (ap bit (sym (eq-eqb _ _ (c .if1 .taken))), search needs)

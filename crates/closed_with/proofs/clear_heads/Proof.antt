@@ -5,11 +5,11 @@ use Prim.Native.Nat.{ℕ, _-_, _≤_, _<_}
 use native.Mathlib.Omega.{arith}
 use borrow.Author.Needs.{needs}
 use lib.ListN.{length, getD}
-use Rattle.closed.proofs.Chains.{cleared-more, chained-none}
-use Rattle.closed.proofs.clear_heads.Statement.{statement}
-use Rattle.closed.proofs.clear_heads.Tie as tie
-use Rattle.closed.proofs.clear_heads.Reads as reads
-use Rattle.closed.proofs.clear_heads.Lts as lts
+use Rattle.closed_with.proofs.Chains.{cleared-more, chained-none}
+use Rattle.closed_with.proofs.clear_heads.Statement.{statement}
+use Rattle.closed_with.proofs.clear_heads.Tie as tie
+use Rattle.closed_with.proofs.clear_heads.Reads as reads
+use Rattle.closed_with.proofs.clear_heads.Lts as lts
 
 abbrev Inv-loop : tie.InvT-loop
 Inv-loop quads top work₀ none v₀ work v = (v ≤ top) × (length work ≡ length work₀) × (none ≡ length quads) × ((p : ℕ) → p < v → getD work p 0 ≡ length quads) × ((p : ℕ) → v ≤ p → getD work p 0 ≡ getD work₀ p 0)

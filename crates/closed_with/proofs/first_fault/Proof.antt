@@ -8,16 +8,16 @@ use borrow.Author.Needs.{needs}
 use borrow.Author.Tests.{not-true, not-false}
 use lib.ListN.{length}
 use Rattle.laws.proofs.Leading.{HoldsTo, holds-to-none, holds-more, leading-at, leading-all}
 use Rattle.closed.specs.Closed.{sideSound}
 use Rattle.closed.proofs.Search.{side-judged}
 use Rattle.closed.proofs.Chains.{top-above}
-use Rattle.closed.proofs.first_fault.Statement.{statement}
-use Rattle.closed.proofs.first_fault.Tie as tie
-use Rattle.closed.proofs.first_fault.Reads as reads
-use Rattle.closed.proofs.first_fault.Lts as lts
+use Rattle.closed_with.proofs.first_fault.Statement.{statement}
+use Rattle.closed_with.proofs.first_fault.Tie as tie
+use Rattle.closed_with.proofs.first_fault.Reads as reads
+use Rattle.closed_with.proofs.first_fault.Lts as lts
 use Rattle.closed.proofs.next.Reads as next-reads
 use Rattle.closed.proofs.sound.Reads as sound-reads
-use Rattle.closed.proofs.walks_from.Reads as walks-from-reads
+use Rattle.closed_with.proofs.walks_from.Reads as walks-from-reads
 
 abbrev Inv-loop : tie.InvT-loop
 Inv-loop quads top work n₀ n = (n ≤ length quads) × HoldsTo (sideSound quads) n

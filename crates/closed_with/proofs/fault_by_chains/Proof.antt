@@ -1,14 +1,14 @@
 -- `fault_by_chains` meets its contract.
 -- Assumes nothing.
-use Rattle.closed.proofs.Chains.{chained-then, chains-followed, chains-written}
+use Rattle.closed_with.proofs.Chains.{chained-then, chains-followed, chains-written}
 use borrow.Author.Needs.{needs}
-use Rattle.closed.proofs.fault_by_chains.Statement.{statement}
-use Rattle.closed.proofs.fault_by_chains.Tie as tie
-use Rattle.closed.proofs.fault_by_chains.Reads as reads
-use Rattle.closed.proofs.fault_by_chains.Lts as lts
-use Rattle.closed.proofs.chain_sides.Reads as chain-sides-reads
-use Rattle.closed.proofs.clear_heads.Reads as clear-heads-reads
-use Rattle.closed.proofs.first_fault.Reads as first-fault-reads
+use Rattle.closed_with.proofs.fault_by_chains.Statement.{statement}
+use Rattle.closed_with.proofs.fault_by_chains.Tie as tie
+use Rattle.closed_with.proofs.fault_by_chains.Reads as reads
+use Rattle.closed_with.proofs.fault_by_chains.Lts as lts
+use Rattle.closed_with.proofs.chain_sides.Reads as chain-sides-reads
+use Rattle.closed_with.proofs.clear_heads.Reads as clear-heads-reads
+use Rattle.closed_with.proofs.first_fault.Reads as first-fault-reads
 
 clear-heads-requires : tie.Need-clear-heads-requires
 clear-heads-requires c κs = search needs

@@ -13,17 +13,17 @@ use Rattle.block.specs.Rows.{roomRow}
 use Rattle.block.proofs.Rows.{unless-none}
 use Rattle.lists.specs.Rows.{lengthRow}
 use Rattle.lists.proofs.Rows.{length-exactly}
 use Rattle.closed.specs.Closed.{sideSound}
 use Rattle.closed.specs.Chains.{wordsNeeded}
 use Rattle.closed.proofs.With.{finding-at, finding-none, length-refused, room-refused, found-with}
 use borrow.Author.Needs.{needs}
-use Rattle.closed.proofs.closed_with.Statement.{statement}
-use Rattle.closed.proofs.closed_with.Tie as tie
-use Rattle.closed.proofs.closed_with.Reads as reads
-use Rattle.closed.proofs.closed_with.Lts as lts
+use Rattle.closed_with.proofs.closed_with.Statement.{statement}
+use Rattle.closed_with.proofs.closed_with.Tie as tie
+use Rattle.closed_with.proofs.closed_with.Reads as reads
+use Rattle.closed_with.proofs.closed_with.Lts as lts
 use Rattle.block.proofs.check_room.Reads as check-room-reads
-use Rattle.closed.proofs.fault_by_chains.Reads as fault-by-chains-reads
-use Rattle.closed.proofs.top_number.Reads as top-number-reads
+use Rattle.closed_with.proofs.fault_by_chains.Reads as fault-by-chains-reads
+use Rattle.closed_with.proofs.top_number.Reads as top-number-reads
 use Rattle.lists.proofs.check_length.Reads as check-length-reads
 
 -- the list and the memory, when row 7 has passed the list

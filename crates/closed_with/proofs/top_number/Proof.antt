@@ -6,13 +6,13 @@ use native.Mathlib.Omega.{arith}
 use borrow.Author.Needs.{needs}
 use lib.ListN.{length, getD}
 use Rattle.laws.proofs.Leading.{before-more}
 use Rattle.closed.specs.Chains.{topNumber}
 use Rattle.closed.proofs.Chains.{top-above, top-least}
-use Rattle.closed.proofs.top_number.Statement.{statement}
-use Rattle.closed.proofs.top_number.Tie as tie
-use Rattle.closed.proofs.top_number.Reads as reads
-use Rattle.closed.proofs.top_number.Lts as lts
-use Rattle.closed.proofs.wide.Reads as wide-reads
+use Rattle.closed_with.proofs.top_number.Statement.{statement}
+use Rattle.closed_with.proofs.top_number.Tie as tie
+use Rattle.closed_with.proofs.top_number.Reads as reads
+use Rattle.closed_with.proofs.top_number.Lts as lts
+use Rattle.closed_with.proofs.wide.Reads as wide-reads
 
 abbrev Inv-loop : tie.InvT-loop
 Inv-loop quads top₀ n₀ top n = (n ≤ length quads) × (top ≤ 4294967296) × (top ≤ topNumber quads) × ((i : ℕ) → i < n → getD quads i 0 < top)

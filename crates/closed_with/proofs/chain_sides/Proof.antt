@@ -5,13 +5,14 @@ use Prim.Native.Nat.{ℕ, _+_, _-_, _≤_}
 use native.Mathlib.Omega.{arith}
 use borrow.Author.Needs.{needs}
 use lib.ListN.{length, getD, length-set}
-use Rattle.closed.specs.Steps.{Chained}
-use Rattle.closed.proofs.Chains.{top-above, chained-more}
-use Rattle.closed.proofs.chain_sides.Statement.{statement}
-use Rattle.closed.proofs.chain_sides.Tie as tie
-use Rattle.closed.proofs.chain_sides.Reads as reads
-use Rattle.closed.proofs.chain_sides.Lts as lts
-use Rattle.closed.proofs.wide.Reads as wide-reads
+use Rattle.closed.proofs.Chains.{top-above}
+use Rattle.closed_with.specs.Steps.{Chained}
+use Rattle.closed_with.proofs.Chains.{chained-more}
+use Rattle.closed_with.proofs.chain_sides.Statement.{statement}
+use Rattle.closed_with.proofs.chain_sides.Tie as tie
+use Rattle.closed_with.proofs.chain_sides.Reads as reads
+use Rattle.closed_with.proofs.chain_sides.Lts as lts
+use Rattle.closed_with.proofs.wide.Reads as wide-reads
 
 abbrev Inv-loop : tie.InvT-loop
 Inv-loop quads top work₀ m₀ work m = (m ≤ length quads) × Chained quads top m work₀ work

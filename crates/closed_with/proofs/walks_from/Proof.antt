@@ -4,14 +4,15 @@ use Prim.Native.Nat.{_+_, _-_}
 use native.Mathlib.Omega.{arith}
 use borrow.Author.Needs.{needs}
 use lib.ListN.{length}
 use Rattle.closed.specs.Closed.{from}
-use Rattle.closed.proofs.Chains.{first-ge, Following, follow-first, follow-next, follow-end}
-use Rattle.closed.proofs.walks_from.Statement.{statement}
-use Rattle.closed.proofs.walks_from.Tie as tie
-use Rattle.closed.proofs.walks_from.Reads as reads
-use Rattle.closed.proofs.walks_from.Lts as lts
+use Rattle.closed.proofs.Chains.{first-ge}
+use Rattle.closed_with.proofs.Chains.{Following, follow-first, follow-next, follow-end}
+use Rattle.closed_with.proofs.walks_from.Statement.{statement}
+use Rattle.closed_with.proofs.walks_from.Tie as tie
+use Rattle.closed_with.proofs.walks_from.Reads as reads
+use Rattle.closed_with.proofs.walks_from.Lts as lts
 use Rattle.closed.proofs.next.Reads as next-reads
-use Rattle.closed.proofs.same.Reads as same-reads
+use Rattle.closed_with.proofs.same.Reads as same-reads
 
 abbrev Inv-loop : tie.InvT-loop
 Inv-loop quads top work a b found₀ m₀ found m = Following quads a b found m
