@@ -110,10 +110,16 @@ fn eight_of(part: &[u8]) -> u64
 }
 
 // A word of eight rows of eight bits, with rows and columns exchanged. The steps swap bits that are 7, 14 and 28 places apart: single bits, then
-// squares of four bits, then squares of sixteen.
+// squares of four bits, then squares of sixteen. Where all bits are alike there is nothing to do, and in a scan most words are so.
 fn transposed(y: u64) -> u64
     ensures { λ r. ⌜ r ≡ pack (λ (i : ℕ). y / 2 ^ (8 * (i % 8) + i / 8) % 2) 64 ⌝ }
 {
+    if y == 0 {
+        return 0;
+    }
+    if y == u64::MAX {
+        return u64::MAX;
+    }
     let s = (y ^ (y >> 7)) & 0x00AA00AA00AA00AA;
     let a = y ^ s ^ (s << 7);
     let t = (a ^ (a >> 14)) & 0x0000CCCC0000CCCC;
