@@ -372,7 +372,7 @@ Pieces: milliseconds, measured as above; in brackets the library's time divided 
 """
 
 ROOM_TEXT = """
-All times are milliseconds. `crossed` is the library's call `parsniprow_crossed`. It gives E, the number of crossed
+Room before work. All times here are milliseconds. `crossed` is the library's call `parsniprow_crossed`. It gives E, the number of crossed
 edges of the block, and E tells how much room is enough for the mesh. `counts` is the call that gives the exact numbers
 of the mesh.
 
@@ -385,7 +385,7 @@ of the mesh.
   too. The median is that of all runs of both rounds.
 - Plain C goes through all samples and compares each with its neighbours, one by one. It is timed by itself, in the same
   processes. In brackets: `crossed` divided by its time.
-- The request asks for a ratio of at most 0.6 for the housing of 256 samples an axis. No time makes the benchmark fail.
+- No time makes the benchmark fail.
 """
 
 BOUNDS_TEXT = """

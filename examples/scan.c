@@ -606,8 +606,8 @@ static void report_room(const struct request *request, const struct block *block
     printf("vertices-at-most %" PRIu64 "\n", bounds->vertex_count);
     printf("quads-at-most %" PRIu64 "\n", bounds->quad_count);
     printf("bytes-at-most %" PRIu64 "\n", bounds->bytes);
-    printf("note No mesh was made. These numbers say how much room it takes at most, and they are no counts of it: "
-           "enter none of them beside a claim.\n");
+    printf("note No mesh was made. The four numbers above say how much room it takes at most, and they are no counts of "
+           "it: enter none of them beside a claim.\n");
     if (block->ceiling_count > 0)
         note_first_ceiling(request, block);
     if (bounds->edge_count == 0)

@@ -105,10 +105,10 @@ void parsniprow_cube(uint16_t c0, uint16_t c1, uint16_t c2, uint16_t c3, uint16_
 /* How many edges of a block are crossed, those on the faces of the box too. This bounds the size of the mesh, and is
    found in less time than the counts. At most 50135040. With E crossed edges a mesh has at most 4 * E / 3 vertices,
    rounded down, and at most E quads. So buffers of these lengths are never refused with 5 or 6 by parsniprow_mesh, for
-   the same block and threshold; v is 4 * (size_t)E / 3:
+   the same block and threshold; v is 4 * E / 3, and 4 * E fits into 32 bits:
      words    2 * v items
      offsets  3 * v items
-     quads    4 * (size_t)E items
+     quads    4 * E items
    That is 32 bytes for each of v vertices and 16 for each of E quads. A mesh often takes less. The answer of
    parsniprow_mesh says how much it took.
      nx, ny, nz, samples, t  as of parsniprow_counts

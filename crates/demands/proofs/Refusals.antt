@@ -27,7 +27,7 @@ use Rattle.cell.specs.Answer.{saidCube, CubeAnswered}
 use Rattle.mesh.specs.declared.Totals.{Totals}
 use Rattle.mesh.specs.declared.Counted.{Counted}
 use Rattle.block.specs.Block.{blockRows, blockVerdict}
-use Rattle.mesh.specs.Answer.{countsOf, saidCounts, CountsAnswered, roomRows, meshVerdict, Meshed}
+use Rattle.mesh.specs.Answer.{countsOf, saidCounts, CountsAnswered, bufferRows, meshVerdict, Meshed}
 use Rattle.closed.specs.declared.Closure.{Closure}
 use Rattle.closed.specs.Closed.{Finding, findingOf, saidClosure, ClosedAnswered}
 use Rattle.closed.specs.Chains.{workRows, ClosedWith}
@@ -111,7 +111,7 @@ module _ (quads work : List ℕ) (r : Closure) (work′ : List ℕ) (promise : C
 module _ (nx ny nz : ℕ) (s : List ℕ) (cut : Cut) (w : List ℕ) (o : List Float) (q : List ℕ) (r : Counted) (w′ : List ℕ) (o′ : List Float) (q′ : List ℕ)
     (promise : Meshed nx ny nz s cut w o q r w′ o′ q′) where
   pub mesh-refuses : (x : Refusal) → (saidCounts r ≡ refused x)
-      ↔ First (axisRow nx ny nz ∷ blockRows (sizeOf nx ny nz) s cut ++ roomRows (countsOf (sizeOf nx ny nz) s cut) (length w) (length o) (length q)) x
+      ↔ First (axisRow nx ny nz ∷ blockRows (sizeOf nx ny nz) s cut ++ bufferRows (countsOf (sizeOf nx ny nz) s cut) (length w) (length o) (length q)) x
   mesh-refuses = refuses-by _ _ _ (promise .answer)
 
   pub mesh-accepts : (c : Totals)

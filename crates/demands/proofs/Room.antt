@@ -23,7 +23,7 @@ use Rattle.cube_rule.specs.Decider.{joined, loopsOf}
 use Rattle.cube_rule.proofs.Laws.{cube-laws}
 use Rattle.mesh.specs.declared.Counted.{Counted}
 use Rattle.mesh.specs.declared.Totals.{Totals}
-use Rattle.mesh.specs.Answer.{vertexCount, quadCount, countsOf, saidCounts, CountsAnswered, vertexRow, quadRow, roomRows, meshVerdict, Meshed}
+use Rattle.mesh.specs.Answer.{vertexCount, quadCount, countsOf, saidCounts, CountsAnswered, vertexRow, quadRow, bufferRows, meshVerdict, Meshed}
 use Rattle.room.specs.declared.Edged.{Edged}
 use Rattle.room.specs.declared.Edged.the-variants as edged
 use Rattle.room.specs.Crossed.{crossedCount}
@@ -107,7 +107,7 @@ module _ (nx ny nz : ℕ) (s : List ℕ) (cut : Cut) (r : Edged) (promise : Cros
     rows-pass : (words offsets quads : ℕ) → Reserved e words offsets quads → meshVerdict nx ny nz s cut words offsets quads ≡ Passes
     rows-pass words offsets quads room =
         let n = sizeOf nx ny nz in
-        orders-pass (axisRow nx ny nz ∷ blockRows n s cut) (roomRows (countsOf n s cut) words offsets quads) passed
+        orders-pass (axisRow nx ny nz ∷ blockRows n s cut) (bufferRows (countsOf n s cut) words offsets quads) passed
         ∙ order-passes (vertexRow (vertexCount n s cut) words offsets) (quadRow (quadCount n s cut) quads ∷ [])
         (vertices-pass (vertexCount n s cut) words offsets (omega (arith, few-vertices, room .words-long)) (omega (arith, few-vertices, room .offsets-long)))
         ∙ order-last (quadRow (quadCount n s cut) quads)

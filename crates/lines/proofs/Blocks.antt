@@ -27,7 +27,7 @@ use Rattle.mesh.specs.declared.Totals.{Totals}
 use Rattle.mesh.specs.declared.Counted.{Counted}
 use Rattle.mesh.specs.declared.Counted.the-variants as counted
 use Rattle.mesh.specs.Answer.{vertexCount, quadCount, countsOf, meshVerdict, Meshed}
-use Rattle.mesh.proofs.RoomRows.{roomy}
+use Rattle.mesh.proofs.BufferRows.{roomy}
 use Rattle.mesh.proofs.Tallies.{quads-all-length}
 use Rattle.lines.specs.Output.{meshText, blockText}
 use Rattle.lines.specs.Steps.{Numbers, Readable}

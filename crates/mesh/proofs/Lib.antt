@@ -1,6 +1,6 @@
 pub mod Layers
 pub mod Planes
-pub mod RoomRows
+pub mod BufferRows
 pub mod Regions
 pub mod PlaneQuads
 pub mod Verdicts

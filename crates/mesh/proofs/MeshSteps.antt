@@ -16,9 +16,9 @@ use Rattle.block.specs.Block.{blockRows}
 use Rattle.block.proofs.Order.{orders-refuse, orders-pass, judged-passed, written-passed}
 use Rattle.mesh.specs.declared.Totals.{Totals}
 use Rattle.mesh.specs.declared.Counted.the-variants as counted
-use Rattle.mesh.specs.Answer.{roomRows, countsOf, vertexCount, quadCount, MeshedBy}
+use Rattle.mesh.specs.Answer.{bufferRows, countsOf, vertexCount, quadCount, MeshedBy}
 use Rattle.mesh.specs.Writes.{Roomy, BlockWritten}
-use Rattle.mesh.proofs.RoomRows.{room-passes}
+use Rattle.mesh.proofs.BufferRows.{room-passes}
 use Rattle.mesh.proofs.Verdicts.{refused-by}
 
 module _ (n : Size) (s : List ℕ) (cut : Cut) where
@@ -27,10 +27,10 @@ module _ (n : Size) (s : List ℕ) (cut : Cut) where
 
   module _ (w : List ℕ) (o : List Float) (q : List ℕ) where
     abbrev late : Totals → Checked
-    late c = inOrder (roomRows c (length w) (length o) (length q))
+    late c = inOrder (bufferRows c (length w) (length o) (length q))
 
     abbrev verdict : Checked
-    verdict = inOrder (blockRows n s cut ++ roomRows (countsOf n s cut) (length w) (length o) (length q))
+    verdict = inOrder (blockRows n s cut ++ bufferRows (countsOf n s cut) (length w) (length o) (length q))
 
     -- rows 2 and 3 refuse
     pub early-refused : (r : Refusal) → early ≡ Refuses r → MeshedBy verdict n s cut w o q (counted.Refused r) w o q

@@ -23,7 +23,7 @@ use Rattle.block.proofs.Blocks.{sampled-of}
 use Rattle.block.proofs.Sizes.{axis-refused, axis-passed, size-made}
 use Rattle.mesh.specs.declared.Counted.{Counted}
 use Rattle.mesh.specs.declared.Counted.the-variants as counted
-use Rattle.mesh.specs.Answer.{countsOf, saidCounts, roomRows, CountsAnswered, MeshedBy, Meshed}
+use Rattle.mesh.specs.Answer.{countsOf, saidCounts, bufferRows, CountsAnswered, MeshedBy, Meshed}
 use Rattle.mesh.specs.Steps.{Meshable}
 
 -- ---- a refused axis refuses the call, and leaves every buffer
@@ -45,12 +45,12 @@ module _ (nx ny nz : ℕ) (s : List ℕ) (cut : Cut) where
   -- ---- a size that was made leaves it to the other rows
 
   pub mesh-made : (n : Size) (w : List ℕ) (o : List Float) (q : List ℕ) (r : Counted) (w′ : List ℕ) (o′ : List Float) (q′ : List ℕ) → SizeMade nx ny nz (Made n)
-      → MeshedBy (inOrder (blockRows n s cut ++ roomRows (countsOf n s cut) (length w) (length o) (length q)))
+      → MeshedBy (inOrder (blockRows n s cut ++ bufferRows (countsOf n s cut) (length w) (length o) (length q)))
       n s cut w o q r w′ o′ q′
       → Meshed nx ny nz s cut w o q r w′ o′ q′
   mesh-made n w o q r w′ o′ q′ e h =
       subst (λ (k : Checked). MeshedBy k (sizeOf nx ny nz) s cut w o q r w′ o′ q′) (sym (order-passes (axisRow nx ny nz) _ (axis-passed nx ny nz n e)))
-      (subst (λ (m : Size). MeshedBy (inOrder (blockRows m s cut ++ roomRows (countsOf m s cut) (length w) (length o) (length q)))
+      (subst (λ (m : Size). MeshedBy (inOrder (blockRows m s cut ++ bufferRows (countsOf m s cut) (length w) (length o) (length q)))
       m s cut w o q r w′ o′ q′) (size-made nx ny nz n e .0) h)
 
 -- ---- unique

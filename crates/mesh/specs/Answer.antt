@@ -50,12 +50,12 @@ abbrev pub quadRow : ℕ → ℕ → Checked
 quadRow q room = cond (leb (4 * q) room) Passes (refuses 6 q)
 
 -- both, by the counts and the lengths of the three buffers
-abbrev pub roomRows : Totals → ℕ → ℕ → ℕ → List Checked
-roomRows c words offsets room = vertexRow (c .vertices) words offsets ∷ quadRow (c .quads) room ∷ []
+abbrev pub bufferRows : Totals → ℕ → ℕ → ℕ → List Checked
+bufferRows c words offsets room = vertexRow (c .vertices) words offsets ∷ quadRow (c .quads) room ∷ []
 
 abbrev pub meshVerdict : ℕ → ℕ → ℕ → List ℕ → Cut → ℕ → ℕ → ℕ → Checked
 meshVerdict nx ny nz s cut words offsets room =
-    inOrder (axisRow nx ny nz ∷ blockRows (sizeOf nx ny nz) s cut ++ roomRows (countsOf (sizeOf nx ny nz) s cut) words offsets room)
+    inOrder (axisRow nx ny nz ∷ blockRows (sizeOf nx ny nz) s cut ++ bufferRows (countsOf (sizeOf nx ny nz) s cut) words offsets room)
 
 -- the answer, and the three buffers w, o, q at entry and w′, o′, q′ at exit, where the checks say k
 pub record MeshedBy (k : Checked) (n : Size) (s : List ℕ) (cut : Cut) (w : List ℕ) (o : List Float) (q : List ℕ) (r : Counted) (w′ : List ℕ) (o′ : List Float) (q′ : List ℕ) : Type 0 where

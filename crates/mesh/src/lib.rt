@@ -16,7 +16,7 @@ ghost use Rattle.block.specs.Size.{Limits};
 ghost use Rattle.block.specs.Steps.{Sampled};
 ghost use Rattle.vertices.specs.Layers.{Ready};
 ghost use lib.ListN.{length};
-ghost use Rattle.mesh.specs.Answer.{roomRows, countsOf, saidCounts, CountsAnswered, MeshedBy, Meshed};
+ghost use Rattle.mesh.specs.Answer.{bufferRows, countsOf, saidCounts, CountsAnswered, MeshedBy, Meshed};
 ghost use Rattle.mesh_rule.specs.Layers.{layerFirst};
 ghost use Rattle.mesh.specs.Steps.{Meshable, rowOf, Counting, Tallied};
 ghost use Rattle.mesh.specs.Writes.{Roomy, BelowReady, BelowNoted, TablesReady, Underway, RowMore, LayerMore, BlockWritten};
@@ -34,9 +34,9 @@ pub enum Counted {
 }
 
 // Rows 5 and 6, in this order: the need, and the lengths of the three buffers.
-fn room(vertices: u32, quads: u32, words: usize, offsets: usize, lent: usize) -> Checked
+fn check_buffers(vertices: u32, quads: u32, words: usize, offsets: usize, lent: usize) -> Checked
     requires { ⌜ (vertices ≤ 66325500) × (quads ≤ 49354740) ⌝ }
-    ensures { λ r. ⌜ r ≡ inOrder (roomRows (record { vertices = vertices; quads = quads }) words offsets lent) ⌝ }
+    ensures { λ r. ⌜ r ≡ inOrder (bufferRows (record { vertices = vertices; quads = quads }) words offsets lent) ⌝ }
 {
     let v = vertices as usize;
     if words < 2 * v {
@@ -365,7 +365,7 @@ fn mesh_of(
     quads: &mut [u32],
 ) -> Counted
     requires { ⌜ Limits size ⌝ }
-    ensures { λ r. ⌜ MeshedBy (inOrder (blockRows size (now (samples .entry)) cut ++ roomRows (countsOf size (now (samples .entry)) cut) (length (now (words .entry))) (length (now (offsets .entry))) (length (now (quads .entry))))) size (now (samples .entry)) cut (now (words .entry)) (now (offsets .entry)) (now (quads .entry)) r (now (words .exit)) (now (offsets .exit)) (now (quads .exit)) ⌝ }
+    ensures { λ r. ⌜ MeshedBy (inOrder (blockRows size (now (samples .entry)) cut ++ bufferRows (countsOf size (now (samples .entry)) cut) (length (now (words .entry))) (length (now (offsets .entry))) (length (now (quads .entry))))) size (now (samples .entry)) cut (now (words .entry)) (now (offsets .entry)) (now (quads .entry)) r (now (words .exit)) (now (offsets .exit)) (now (quads .exit)) ⌝ }
 {
     let checked = block::check_block(size, samples, cut);
     if let Checked::Refuses(r) = checked {
@@ -373,7 +373,7 @@ fn mesh_of(
     }
     let t = tally_block(size, samples, cut);
     let counts = total(t);
-    let fits = room(
+    let fits = check_buffers(
         counts.vertices,
         counts.quads,
         words.len(),

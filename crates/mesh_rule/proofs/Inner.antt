@@ -1,5 +1,5 @@
 -- The four cubes of 01's table round an inner edge are cubes of the block, and the edge, if it is crossed, is crossed in each of them by the
--- number that the table gives it there.
+-- number that the table gives it there. Before that, what the tests of inner edges and of the block's edges say.
 -- Assumes nothing.
 use Prim.Native.Nat.{ℕ, _+_, _-_, _<_}
 use mathlib.Core.Path.{_≡_, refl}
@@ -48,6 +48,22 @@ pub inner-test : (n : Size) (a : Axis) (i j k : ℕ) → Inner n a i j k → inn
 inner-test n X i j k h = and (and (lt-ltb _ _ (h .0)) (mid-between _ _ (h .1))) (mid-between _ _ (h .2))
 inner-test n Y i j k h = and (and (mid-between _ _ (h .0)) (lt-ltb _ _ (h .1))) (mid-between _ _ (h .2))
 inner-test n Z i j k h = and (and (mid-between _ _ (h .0)) (mid-between _ _ (h .1))) (lt-ltb _ _ (h .2))
+
+-- the edge from (i,j,k) along the axis does not leave the block
+abbrev pub Stays : Size → Axis → ℕ → ℕ → ℕ → Type 0
+Stays n X i j k = i + 1 < n .nx
+Stays n Y i j k = j + 1 < n .ny
+Stays n Z i j k = k + 1 < n .nz
+
+pub stays-test : (n : Size) (a : Axis) (i j k : ℕ) → Stays n a i j k → stays n a i j k ≡ true
+stays-test n X i j k h = lt-ltb _ _ h
+stays-test n Y i j k h = lt-ltb _ _ h
+stays-test n Z i j k h = lt-ltb _ _ h
+
+pub stays-fact : (n : Size) (a : Axis) (i j k : ℕ) → stays n a i j k ≡ true → Stays n a i j k
+stays-fact n X i j k e = ltb-true _ _ e
+stays-fact n Y i j k e = ltb-true _ _ e
+stays-fact n Z i j k e = ltb-true _ _ e
 
 -- an edge from a sample of the block is one of the block exactly if it does not leave it
 pub stays-in : (n : Size) (a : Axis) (i j k : ℕ) → InBox n i j k → stays n a i j k ≡ true → EdgeIn n a i j k

@@ -1,20 +1,22 @@
 -- What the bits of the words say of the edges from a row's samples, and those of a row's words one sample further on.
 -- Assumes nothing.
-use mathlib.Core.Path.{_≡_, ap₂, _∙_, ap}
-use mathlib.Core.Bool.{Bool}
+use mathlib.Core.Path.{_≡_, sym, ap₂, _∙_, ap}
+use mathlib.Core.Bool.{Bool, _&&_}
 use mathlib.Core.List.{List}
-use Prim.Native.Nat.{ℕ, _+_, _*_, _/_, _%_, _^_, _<_}
+use Prim.Native.Nat.{ℕ, _+_, _-_, _*_, _/_, _%_, _^_, _<_}
 use native.Mathlib.Omega.{arith}
-use lib.Bits.{bitXor}
+use lib.Bits.{bitAnd, bitXor}
+use lib.Dec.{ltb}
 use lib.ListN.{getD}
 use Rattle.laws.specs.Bits.{bit, differ}
-use Rattle.laws.proofs.Words.{xor-digit, xor-tests, Word, word-further, word-bit}
+use Rattle.laws.proofs.Words.{xor-digit, xor-tests, Word, word-xor, word-further, word-bit}
 use Rattle.block.specs.declared.Cut.{Cut}
 use Rattle.block.specs.declared.Size.{Size}
 use Rattle.block.specs.Numbering.{X, Y, Z}
 use Rattle.mesh_rule.specs.Grid.{metal, crossedFrom}
 use Rattle.signs.specs.Signs.{Plane, rowSign}
-use Rattle.planes.specs.Planes.{furtherAt, alongX, alongY, alongZ, furtherOf}
+use Rattle.planes.specs.Planes.{furtherAt, alongX, alongY, alongZ, furtherOf, limitOf}
+use Rattle.planes.proofs.Masks.{word-limited}
 use Rattle.signs.proofs.Planes.{sign-bit, row-sign-bit, word-at}
 use Rattle.signs.proofs.Rows.{row-bit, row-in}
 
@@ -40,6 +42,17 @@ module _ {n : Size} {s : List ℕ} {cut : Cut} {k : ℕ} {ws : List ℕ} (p : Pl
       next : 64 * w + (1 + i) ≡ 64 * w + i + 1
       next = omega arith
 
+-- the word of the next row
+pub next-word : {n : Size} {s : List ℕ} {cut : Cut} {k : ℕ} {ws : List ℕ} (p : Plane n s cut k ws) (j w : ℕ) → j + 1 < n .ny → w < 5
+    → Word (getD ws (5 * j + w + 5) 0) (λ i. rowSign n s cut (j + 1) k (64 * w + i)) 64
+next-word {n} {s} {cut} {k} {ws} p j w hj hw = record {
+  is = ap (λ (q : ℕ). getD ws q 0) place ∙ p .word (j + 1) w hj hw;
+  bit = λ i. row-bit n s cut (j + 1) k (64 * w + i);
+}
+  where
+    place : 5 * j + w + 5 ≡ 5 * (j + 1) + w
+    place = omega arith
+
 -- the bits of two words that stand for signs: whether the signs differ
 apart-bit : (a b i : ℕ) (p q : Bool) → a / 2 ^ i % 2 ≡ bit p → b / 2 ^ i % 2 ≡ bit q → bitXor a b / 2 ^ i % 2 ≡ bit (differ p q)
 apart-bit a b i p q ep eq = xor-digit a b i ∙ ap₂ bitXor ep eq ∙ xor-tests p q
@@ -60,3 +73,10 @@ module _ {n : Size} {s : List ℕ} {cut : Cut} {k : ℕ} {a : List ℕ} (plane :
   along-z-is {b} upper hj hx =
       apart-bit (getD a (5 * j + w) 0) (getD b (5 * j + w) 0) i (metal n s cut (64 * w + i) j k) (metal n s cut (64 * w + i) j (k + 1))
       (sign-bit plane j w hj i (omega arith) hi hx) (sign-bit upper j w hj i (omega arith) hi hx)
+
+-- the crossed edges along x from word w of row j, without the last sample's
+pub along-x-word : {n : Size} {s : List ℕ} {cut : Cut} {k : ℕ} {a : List ℕ} (p : Plane n s cut k a) (j w : ℕ) → j < n .ny → w < 4
+    → Word (bitAnd (alongX a (5 * j + w)) (limitOf (n .nx - 1) w)) (λ i. bit (ltb (64 * w + i) (n .nx - 1) && crossedFrom n s cut X (64 * w + i) j k)) 64
+along-x-word {n} {s} {cut} {k} {a} p j w hj hw =
+    let x = word-xor (word-at p j w hj (omega arith)) (further-word p j w hj hw) in
+    word-limited (λ i. crossedFrom n s cut X (64 * w + i) j k) x (n .nx - 1) w (λ i h l. sym (word-bit x i h) ∙ along-x-is p j w i hw h hj (omega arith))

@@ -9,7 +9,6 @@ use native.Mathlib.Omega.{arith}
 use borrow.Author.Tests.{lt-ltb, le-ltb, ltb-true}
 use lib.Bits.{bitAnd}
 use lib.Dec.{ltb}
-use lib.ListN.{getD}
 use Rattle.laws.specs.Bits.{bit}
 use Rattle.laws.proofs.Bits.{bit-le}
 use Rattle.laws.proofs.Words.{Word, word-same, word-xor, word-bit}
@@ -20,12 +19,11 @@ use Rattle.block.specs.Numbering.{Axis, X, Y, Z}
 use Rattle.block.specs.Size.{Limits}
 use Rattle.mesh_rule.specs.Grid.{between, inner, crossedFrom}
 use Rattle.mesh_rule.proofs.Inner.{Mid, mid-between}
-use Rattle.signs.specs.Signs.{Plane, rowSign}
+use Rattle.signs.specs.Signs.{Plane}
 use Rattle.planes.specs.Planes.{alongX, alongY, alongZ, limitOf, innerOf}
-use Rattle.planes.proofs.Edges.{along-x-is, along-y-is, along-z-is, further-word}
-use Rattle.planes.proofs.Masks.{word-limited, word-inner, below-last}
+use Rattle.planes.proofs.Edges.{along-y-is, along-z-is, next-word, along-x-word}
+use Rattle.planes.proofs.Masks.{word-inner, below-last}
 use Rattle.signs.proofs.Planes.{word-at}
-use Rattle.signs.proofs.Rows.{row-bit}
 use Rattle.quads.specs.declared.Along.{Along}
 use Rattle.quads.specs.declared.Along.the-variants.{AxisX, AxisY, AxisZ}
 use Rattle.quads.specs.Edges.{alongAxis, crossedOn, firstRow, RowIn, Planes, edgesOf}
@@ -117,32 +115,18 @@ module _ (along : Along) (a b : List ℕ) (nx j w d m : ℕ) where
   unfolding edgesOf
   edges-z e ed em = rw (e, ed, em)
 
--- the next row's word
-next-row : {n : Size} {s : List ℕ} {cut : Cut} {k : ℕ} {a : List ℕ} (p : Plane n s cut k a) (j w : ℕ) → j + 1 < n .ny → w < 5
-    → Word (getD a (5 * j + w + 5) 0) (λ i. rowSign n s cut (j + 1) k (64 * w + i)) 64
-next-row {n} {s} {cut} {k} {a} p j w hj hw = record {
-  is = ap (λ (q : ℕ). getD a q 0) place ∙ p .word (j + 1) w hj hw;
-  bit = λ i. row-bit n s cut (j + 1) k (64 * w + i);
-}
-  where
-    place : 5 * j + w + 5 ≡ 5 * (j + 1) + w
-    place = omega arith
-
 pub edges-word : (n : Size) (s : List ℕ) (cut : Cut) (along : Along) (k : ℕ) (a b : List ℕ) (j w : ℕ)
     → Planes n s cut (alongAxis along) k a b → RowIn n along j → w < 4
     → Word (edgesOf along a b (n .nx) j w) (λ i. bit (crossedOn n s cut (alongAxis along) j k (64 * w + i))) 64
 unfolding edgesOf
 edges-word n s cut AxisX k a b j w p r hw =
     let hj : j < n .ny = omega (arith, r .1) in
-    let x = word-xor (word-at (p .lower) j w hj (omega arith)) (further-word (p .lower) j w hj hw) in
-    word-same _
-    (word-limited (λ i. crossedFrom n s cut X (64 * w + i) j k) x (n .nx - 1) w
-    (λ i h l. sym (word-bit x i h) ∙ along-x-is (p .lower) j w i hw h hj (omega arith)))
+    word-same _ (along-x-word (p .lower) j w hj hw)
     (λ i. bit-le (crossedOn n s cut X j k (64 * w + i)))
     (λ i h. ap (λ (t : Bool). bit (t && crossedFrom n s cut X (64 * w + i) j k)) (below-last (64 * w + i) (n .nx) ∙ sym (inner-x n (64 * w + i) j k r (p .in-z))))
 edges-word n s cut AxisY k a b j w p r hw =
     let hj : j < n .ny = omega (arith, r .1) in
-    let x = word-xor (word-at (p .lower) j w hj (omega arith)) (next-row (p .lower) j w (r .1) (omega arith)) in
+    let x = word-xor (word-at (p .lower) j w hj (omega arith)) (next-word (p .lower) j w (r .1) (omega arith)) in
     word-same _
     (word-inner (λ i. crossedFrom n s cut Y (64 * w + i) j k) x (n .nx) w
     (λ i h l. sym (word-bit x i h) ∙ along-y-is (p .lower) j w i hw h (r .1) (between-in (n .nx) (64 * w + i) l)))

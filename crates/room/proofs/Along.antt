@@ -1,29 +1,18 @@
 -- The crossed edges along an axis as a sum over the samples of the block, in rows and planes.
 -- Assumes nothing.
-use Prim.Native.Nat.{ℕ, _+_, _<_}
+use Prim.Native.Nat.{ℕ}
 use mathlib.Core.Path.{_≡_, sym, _∙_}
-use mathlib.Core.Bool.{true, _&&_}
+use mathlib.Core.Bool.{_&&_}
 use mathlib.Core.List.{List}
-use borrow.Author.Tests.{lt-ltb}
 use Rattle.laws.specs.Bits.{bit}
 use Rattle.laws.specs.Pack.{total}
 use Rattle.laws.proofs.Sums.{total-count, boxed, total-boxed}
 use Rattle.block.specs.declared.Cut.{Cut}
 use Rattle.block.specs.declared.Size.{Size}
-use Rattle.block.specs.Numbering.{Axis, X, Y, Z, sampleCount}
+use Rattle.block.specs.Numbering.{Axis, sampleCount}
 use Rattle.mesh_rule.specs.Grid.{stays, crossedFrom}
+use Rattle.mesh_rule.proofs.Inner.{Stays, stays-test}
 use Rattle.room.specs.Crossed.{crossedEdge, crossedAlong}
-
--- the edge from (i,j,k) along the axis does not leave the block
-abbrev pub Stays : Size → Axis → ℕ → ℕ → ℕ → Type 0
-Stays n X i j k = i + 1 < n .nx
-Stays n Y i j k = j + 1 < n .ny
-Stays n Z i j k = k + 1 < n .nz
-
-pub stays-test : (n : Size) (a : Axis) (i j k : ℕ) → Stays n a i j k → stays n a i j k ≡ true
-stays-test n X i j k h = lt-ltb _ _ h
-stays-test n Y i j k h = lt-ltb _ _ h
-stays-test n Z i j k h = lt-ltb _ _ h
 
 module _ (n : Size) (s : List ℕ) (cut : Cut) where
   -- 1 for a crossed edge of the block, else 0

@@ -1,5 +1,5 @@
 -- Three times the vertices is at most four times the crossed edges, and the quads are at most as many as these (document 02, Seven). A loop has at least
--- three edges, and an edge of a cube is in one loop; an edge of the block is in at most four cubes. Whatever decides the faces.
+-- three edges, and a crossed edge of a cube is in one loop; an edge of the block is in at most four cubes. Whatever decides the faces.
 -- Assumes nothing.
 use Prim.Native.Nat.{ℕ, _+_, _-_, _*_, _/_, _%_, _≤_, _<_}
 use mathlib.Core.Path.{_≡_, refl, ap, _∙_}
@@ -24,10 +24,10 @@ use Rattle.cube_rule.specs.Links.{Decider}
 use Rattle.cube_rule.specs.Rule.{holders}
 use Rattle.mesh_rule.specs.Grid.{stays, inner, crossedInner, cornersAt, cornersOf}
 use Rattle.mesh_rule.specs.Mesh.{quads, verticesOf, verticesBefore, vertices}
-use Rattle.mesh_rule.proofs.Inner.{Inner, inner-facts}
+use Rattle.mesh_rule.proofs.Inner.{Inner, inner-facts, Stays, stays-test}
 use Rattle.mesh_rule.proofs.Quads.{quad-count}
 use Rattle.room.specs.Crossed.{crossedEdge, crossedAlong, crossedCount}
-use Rattle.room.proofs.Along.{Stays, stays-test, edgeAt, edge-there, along-boxed}
+use Rattle.room.proofs.Along.{edgeAt, edge-there, along-boxed}
 
 -- ---- an edge of the block is in at most four cubes
 

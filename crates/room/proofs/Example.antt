@@ -18,7 +18,7 @@ pub nine-edges : crossedCount (size 3) (replicate 13 0 ++ 400 ∷ replicate 12 0
 unfolding crossedCount count
 nine-edges = refl
 
--- a corner of the smallest block is metal, and every other sample
+-- the smallest block: with metal at one corner, and as a checkerboard
 pub three-edges : crossedCount (size 2) (400 ∷ replicate 7 0) cut ≡ 3
 unfolding crossedCount count
 three-edges = refl
@@ -27,15 +27,15 @@ pub all-edges : crossedCount (size 2) (400 ∷ 0 ∷ 0 ∷ 400 ∷ 0 ∷ 400 ∷
 unfolding crossedCount count
 all-edges = refl
 
--- metal at (1,1,0), at (1,0,0) and at (2,2,2) alone
-pub on-face : crossedCount (size 3) (replicate 4 0 ++ 400 ∷ replicate 22 0) cut ≡ 5
+-- one metal sample: at (1,1,0) on a face of the box, at (1,0,0) on an edge, at (2,2,2) at a corner
+pub five-on-face : crossedCount (size 3) (replicate 4 0 ++ 400 ∷ replicate 22 0) cut ≡ 5
 unfolding crossedCount count
-on-face = refl
+five-on-face = refl
 
-pub on-edge : crossedCount (size 3) (0 ∷ 400 ∷ replicate 25 0) cut ≡ 4
+pub four-on-edge : crossedCount (size 3) (0 ∷ 400 ∷ replicate 25 0) cut ≡ 4
 unfolding crossedCount count
-on-edge = refl
+four-on-edge = refl
 
-pub at-corner : crossedCount (size 3) (replicate 26 0 ++ 400 ∷ []) cut ≡ 3
+pub three-at-corner : crossedCount (size 3) (replicate 26 0 ++ 400 ∷ []) cut ≡ 3
 unfolding crossedCount count
-at-corner = refl
+three-at-corner = refl

@@ -1,11 +1,10 @@
 -- The most crossed edges: all edges of a block, and 50,135,040 of them with 256 samples along each axis. A checkerboard of any size reaches it.
 -- Assumes nothing.
-use Prim.Native.Nat.{ℕ, _+_, _-_, _/_, _%_, _≤_}
+use Prim.Native.Nat.{ℕ, _+_, _-_, _*_, _/_, _%_, _≤_}
 use mathlib.Core.Path.{_≡_, refl, _∙_}
 use mathlib.Core.Bool.{Bool, true, false, _&&_}
 use mathlib.Core.List.{List}
 use native.Mathlib.Omega.{arith}
-use borrow.Author.Tests.{ltb-true}
 use lib.Dec.{ltb}
 use Rattle.laws.specs.Counting.{count}
 use Rattle.laws.proofs.Counting.{count-same, count-le, count-all, count-box}
@@ -19,13 +18,19 @@ use Rattle.mesh_rule.specs.Boards.{cut, board, size}
 use Rattle.mesh_rule.specs.Grid.{InBox, stays, crossedFrom}
 use Rattle.mesh_rule.proofs.Checkerboard.{ends-differ}
 use Rattle.mesh_rule.proofs.Counts.{count-lower, bit-and-le}
-use Rattle.room.specs.Crossed.{crossedEdge, crossedAlong, crossedCount, edgesAlong}
-use Rattle.room.proofs.Along.{Stays}
+use Rattle.mesh_rule.proofs.Inner.{Stays, stays-fact}
+use Rattle.room.specs.Crossed.{crossedEdge, crossedAlong, crossedCount}
 
 -- ---- all edges of a block
 
+-- how many edges of the block run along an axis, crossed or not
+abbrev pub edgesAlong : Size → Axis → ℕ
+edgesAlong n X = (n .nx - 1) * (n .ny * n .nz)
+edgesAlong n Y = n .nx * ((n .ny - 1) * n .nz)
+edgesAlong n Z = n .nx * (n .ny * (n .nz - 1))
+
 -- the edge along the axis from the sample with the index p is one of the block
-abbrev edgeFrom : Size → Axis → ℕ → Bool
+abbrev pub edgeFrom : Size → Axis → ℕ → Bool
 edgeFrom n a p = atSample n (stays n a) p
 
 abbrev yes : ℕ → Bool
@@ -42,7 +47,8 @@ second : (a : Bool) → a ≡ (true && a && true)
 second true = refl
 second false = refl
 
-edge-count : (n : Size) (a : Axis) → count (edgeFrom n a) (sampleCount n) ≡ edgesAlong n a
+-- that many they are
+pub edge-count : (n : Size) (a : Axis) → count (edgeFrom n a) (sampleCount n) ≡ edgesAlong n a
 edge-count n X =
     count-same _ _ (sampleCount n) (λ p l. first (ltb (p % n .nx + 1) (n .nx)))
     ∙ count-box (λ (i : ℕ). ltb (i + 1) (n .nx)) yes yes (n .nx) (n .ny) (n .nz)
@@ -84,16 +90,11 @@ module _ (n : Size) where
   edge-crossed Y i j k b h = ends-differ n i j k i (j + 1) k (b .0) (b .1) (b .2) (b .0) h (b .2) (omega arith)
   edge-crossed Z i j k b h = ends-differ n i j k i j (k + 1) (b .0) (b .1) (b .2) (b .0) (b .1) h (omega arith)
 
-  stays-fact : (a : Axis) (i j k : ℕ) → stays n a i j k ≡ true → Stays n a i j k
-  stays-fact X i j k e = ltb-true _ _ e
-  stays-fact Y i j k e = ltb-true _ _ e
-  stays-fact Z i j k e = ltb-true _ _ e
-
   crossed-there : (a : Axis) (i j k : ℕ) → InBox n i j k → (stays n a i j k && crossedFrom n (board n) cut a i j k) ≡ stays n a i j k
   crossed-there a i j k b = go (stays n a i j k) refl
     where
       go : (t : Bool) → stays n a i j k ≡ t → (t && crossedFrom n (board n) cut a i j k) ≡ t
-      go true e = edge-crossed a i j k b (stays-fact a i j k e)
+      go true e = edge-crossed a i j k b (stays-fact n a i j k e)
       go false e = refl
 
   along-board : (a : Axis) → crossedAlong n (board n) cut a ≡ edgesAlong n a

@@ -13,18 +13,18 @@ use lib.ListN.{length, getD, take, drop}
 use Rattle.laws.specs.Bits.{bit, differ}
 use Rattle.laws.specs.Pack.{total}
 use Rattle.laws.proofs.Sums.{total-one, total-same, total-nothing, total-stop, total-mul}
-use Rattle.laws.proofs.Words.{Word, word-xor, word-bit, word-ones, xor-tests}
+use Rattle.laws.proofs.Words.{Word, word-xor, word-ones, xor-tests}
 use Rattle.block.specs.declared.Cut.{Cut}
 use Rattle.block.specs.declared.Size.{Size}
 use Rattle.block.specs.Numbering.{X, Y, Z}
 use Rattle.mesh_rule.specs.Grid.{metal, crossedFrom}
 use Rattle.signs.specs.Signs.{Plane, rowSign}
 use Rattle.signs.proofs.Planes.{word-at}
-use Rattle.signs.proofs.Rows.{row-bit, row-in}
+use Rattle.signs.proofs.Rows.{row-in}
 use Rattle.signs.proofs.Windows.{part-of}
 use Rattle.planes.specs.Planes.{alongX, alongY, alongZ, limitOf}
-use Rattle.planes.proofs.Edges.{along-x-is, further-word}
-use Rattle.planes.proofs.Masks.{word-limited, below-last}
+use Rattle.planes.proofs.Edges.{next-word, along-x-word}
+use Rattle.planes.proofs.Masks.{below-last}
 use Rattle.room.specs.Steps.{differingBits, limitsOf, rowX, planeX, planeY, planeZ}
 use Rattle.room.proofs.Along.{edge-there, fromRow, fromPlane}
 
@@ -83,11 +83,6 @@ module _ (n : Size) (s : List ℕ) (cut : Cut) (few : n .nx ≤ 256) where
 
   module _ (k : ℕ) {a : List ℕ} (p : Plane n s cut k a) where
     -- along x
-    x-word : (j w : ℕ) → j < n .ny → w < 4 → Word (bitAnd (alongX a (5 * j + w)) (limitOf (n .nx - 1) w)) (λ i. bit (ltb (64 * w + i) (n .nx - 1) && crossedFrom n s cut X (64 * w + i) j k)) 64
-    x-word j w hj hw =
-        let x = word-xor (word-at p j w hj (omega arith)) (further-word p j w hj hw) in
-        word-limited (λ i. crossedFrom n s cut X (64 * w + i) j k) x (n .nx - 1) w (λ i h l. sym (word-bit x i h) ∙ along-x-is p j w i hw h hj (omega arith))
-
     limit-at : (w : ℕ) → w < 4 → getD (limitsOf (n .nx)) w 0 ≡ limitOf (n .nx - 1) w
     limit-at zero h = refl
     limit-at (suc zero) h = refl
@@ -97,7 +92,7 @@ module _ (n : Size) (s : List ℕ) (cut : Cut) (few : n .nx ≤ 256) where
 
     x-row : (j : ℕ) → j < n .ny → rowX a (limitsOf (n .nx)) j ≡ fromRow n s cut X k j
     x-row j hj =
-        total-same _ _ 4 (λ w l. ap (λ (m : ℕ). ones (bitAnd (alongX a (5 * j + w)) m)) (limit-at w l) ∙ word-ones (x-word j w hj l))
+        total-same _ _ 4 (λ w l. ap (λ (m : ℕ). ones (bitAnd (alongX a (5 * j + w)) m)) (limit-at w l) ∙ word-ones (along-x-word p j w hj l))
         ∙ sym (total-mul (λ (x : ℕ). bit (ltb x (n .nx - 1) && crossedFrom n s cut X x j k)) 64 4)
         ∙ total-stop (λ (x : ℕ). bit (ltb x (n .nx - 1) && crossedFrom n s cut X x j k)) (n .nx) 256 few (λ x h. rw (le-ltb x (n .nx - 1) (omega arith)))
         ∙ total-same _ _ (n .nx) (λ x l. ap (λ (t : Bool). bit (t && crossedFrom n s cut X x j k)) (below-last x (n .nx)))
@@ -109,11 +104,8 @@ module _ (n : Size) (s : List ℕ) (cut : Cut) (few : n .nx ≤ 256) where
     y-row : (j : ℕ) → j + 1 < n .ny → total (λ (w : ℕ). ones (alongY a (5 * j + w))) 5 ≡ fromRow n s cut Y k j
     y-row j hj =
         rows-differ j k (j + 1) k (λ w. getD a (5 * j + w) 0) (λ w. getD a (5 * j + w + 5) 0) (λ w l. word-at p j w (omega arith) l)
-        (λ w l. record { is = ap (λ (q : ℕ). getD a q 0) (place w) ∙ p .word (j + 1) w hj l; bit = λ i. row-bit n s cut (j + 1) k (64 * w + i) })
+        (λ w l. next-word p j w hj l)
         ∙ total-same _ _ (n .nx) (λ x l. sym (edge-there n s cut Y x j k hj))
-      where
-        place : (w : ℕ) → 5 * j + w + 5 ≡ 5 * (j + 1) + w
-        place w = omega arith
 
     pub y-plane : 0 < n .ny → planeY a (n .ny) ≡ fromPlane n s cut Y k
     y-plane low =

@@ -1,6 +1,6 @@
 -- "The number E of crossed edges of the whole block, each counted once" (document 02, Seven). An edge is counted at its lower sample, and the edges on the
 -- faces of the box count too.
-use Prim.Native.Nat.{ℕ, _+_, _-_, _*_}
+use Prim.Native.Nat.{ℕ, _+_}
 use mathlib.Core.Bool.{Bool, _&&_}
 use mathlib.Core.List.{List}
 use Rattle.laws.specs.Counting.{count}
@@ -19,9 +19,3 @@ crossedAlong n s cut a = count (crossedEdge n s cut a) (sampleCount n)
 
 unfoldable pub crossedCount : Size → List ℕ → Cut → ℕ
 crossedCount n s cut = crossedAlong n s cut X + crossedAlong n s cut Y + crossedAlong n s cut Z
-
--- how many edges of the block run along an axis, crossed or not
-abbrev pub edgesAlong : Size → Axis → ℕ
-edgesAlong n X = (n .nx - 1) * (n .ny * n .nz)
-edgesAlong n Y = n .nx * ((n .ny - 1) * n .nz)
-edgesAlong n Z = n .nx * (n .ny * (n .nz - 1))

@@ -16,7 +16,7 @@ use Rattle.mesh.proofs.mesh_of.Tie as tie
 use Rattle.mesh.proofs.mesh_of.Reads as reads
 use Rattle.mesh.proofs.mesh_of.Lts as lts
 use Rattle.block.proofs.check_block.Reads as check-block-reads
-use Rattle.mesh.proofs.room.Reads as room-reads
+use Rattle.mesh.proofs.check_buffers.Reads as check-buffers-reads
 use Rattle.mesh.proofs.tally_block.Reads as tally-block-reads
 use Rattle.mesh.proofs.total.Reads as total-reads
 use Rattle.mesh.proofs.write_block.Reads as write-block-reads
@@ -69,8 +69,8 @@ counts-are c =
     let a = start (checked c) in
     tallied-counts (a .args .size) (a .args .samples .now) (a .args .cut) (c .before .tally-block .result) (c .total .result) (c .before .tally-block .ensures) (c .total .ensures .0) (c .total .ensures .1)
 
-room-requires : tie.Need-room-requires
-room-requires c κs =
+check-buffers-requires : tie.Need-check-buffers-requires
+check-buffers-requires c κs =
     let a = start (checked c) in
     let few = tallied-few (a .args .size) (a .args .samples .now) (a .args .cut) (c .before .tally-block .result) (a .pre) (c .before .tally-block .ensures) in
     (omega (arith, few .0, c .total .ensures .0), omega (arith, few .1, c .total .ensures .1))
@@ -83,7 +83,7 @@ returns-2 c =
     let n = c .before .before .before .before in
     let a = start (checked n) in
     late-refused (a .args .size) (a .args .samples .now) (a .args .cut) (a .args .words .now) (a .args .offsets .now) (a .args .quads .now) (passed (checked n)) (n .total .result) (counts-are n) _
-    (sym (c .before .before .before .room .ensures) ∙ c .before .fits2 .given .1)
+    (sym (c .before .before .before .check-buffers .ensures) ∙ c .before .fits2 .given .1)
 
 enum-told-2 : tie.Need-enum-told-2
 enum-told-2 c = search needs
@@ -96,7 +96,7 @@ write-block-requires c κs =
       meshable-of (a .args .size) (a .args .samples .now) (a .args .cut) (a .pre) (passed (checked n)),
       n .before .tally-block .ensures,
       roomy-of (a .args .size) (a .args .samples .now) (a .args .cut) (a .args .words .now) (a .args .offsets .now) (a .args .quads .now) (n .total .result) (counts-are n)
-          (sym (e .before .before .room .ensures) ∙ e .enum-told2 .given .1),
+          (sym (e .before .before .check-buffers .ensures) ∙ e .enum-told2 .given .1),
     )
 
 same-length : tie.Need-same-length
@@ -115,7 +115,7 @@ returns-3 c =
     let n = counted e in
     let a = start (checked n) in
     passed-by (a .args .size) (a .args .samples .now) (a .args .cut) (a .args .words .now) (a .args .offsets .now) (a .args .quads .now) (passed (checked n)) (n .total .result) (counts-are n)
-    (sym (e .before .before .room .ensures) ∙ e .enum-told2 .given .1) _ _ _ (w .write-block .ensures)
+    (sym (e .before .before .check-buffers .ensures) ∙ e .enum-told2 .given .1) _ _ _ (w .write-block .ensures)
 
 pub mesh-of-spec : {M : Type 1} → statement M
 mesh-of-spec =
@@ -127,7 +127,7 @@ mesh-of-spec =
     enum-told
     tally-block-requires
     total-requires
-    room-requires
+    check-buffers-requires
     enum-known-fits
     returns-2
     enum-told-2

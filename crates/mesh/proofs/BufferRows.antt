@@ -10,11 +10,11 @@ use Rattle.block.specs.declared.Checked.the-variants.{Passes}
 use Rattle.block.specs.Answer.{inOrder, refuses}
 use Rattle.block.proofs.Order.{order-refuses, order-passes, order-last, order-first, order-rest}
 use Rattle.block.proofs.Rows.{refusal, given-small, unless-none}
-use Rattle.mesh.specs.Answer.{vertexRow, quadRow, roomRows}
+use Rattle.mesh.specs.Answer.{vertexRow, quadRow, bufferRows}
 
 module _ (v q w o l : ℕ) where
   abbrev roomOf : Checked
-  roomOf = inOrder (roomRows (record { vertices = v; quads = q }) w o l)
+  roomOf = inOrder (bufferRows (record { vertices = v; quads = q }) w o l)
 
   vertex-short : v ≤ 4294967295 → (leb (2 * v) w && leb (3 * v) o) ≡ false → roomOf ≡ refusal 5 v
   vertex-short s h = order-refuses (vertexRow v w o) _ _ (ap (λ (b : Bool). cond b Passes (refuses 5 v)) h ∙ ap (refusal 5) (given-small v s))

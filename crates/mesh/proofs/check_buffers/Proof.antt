@@ -1,13 +1,13 @@
--- `room` meets its contract: the first of rows 5 and 6 that refuses decides.
+-- `check_buffers` meets its contract: the first of rows 5 and 6 that refuses decides.
 -- Assumes nothing.
 use mathlib.Core.Path.{sym}
 use native.Mathlib.Omega.{arith}
-use Rattle.mesh.proofs.RoomRows.{short-words, short-offsets, short-quads, roomy}
+use Rattle.mesh.proofs.BufferRows.{short-words, short-offsets, short-quads, roomy}
 use borrow.Author.Needs.{needs}
-use Rattle.mesh.proofs.room.Statement.{statement}
-use Rattle.mesh.proofs.room.Tie as tie
-use Rattle.mesh.proofs.room.Reads as reads
-use Rattle.mesh.proofs.room.Lts as lts
+use Rattle.mesh.proofs.check_buffers.Statement.{statement}
+use Rattle.mesh.proofs.check_buffers.Tie as tie
+use Rattle.mesh.proofs.check_buffers.Reads as reads
+use Rattle.mesh.proofs.check_buffers.Lts as lts
 
 mul-if1 : tie.Need-mul-if1
 mul-if1 c = search needs
@@ -38,5 +38,5 @@ returns-4 c =
     let a = c .before .before .before .args in
     sym (roomy (a .vertices) (a .quads) (a .words) (a .offsets) (a .lent) (c .before .before .if1 .left) (c .before .if2 .left) (c .if3 .left))
 
-pub room-spec : {M : Type 1} → statement M
-room-spec = tie.close (tie.spec mul-if1 returns mul-if2 returns-2 mul-if3 returns-3 returns-4)
+pub check-buffers-spec : {M : Type 1} → statement M
+check-buffers-spec = tie.close (tie.spec mul-if1 returns mul-if2 returns-2 mul-if3 returns-3 returns-4)
