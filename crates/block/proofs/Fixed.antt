@@ -2,7 +2,7 @@
 -- Assumes nothing.
 use mathlib.Core.Path.{_≡_}
 use mathlib.Core.List.{List}
-use Prim.Native.Nat.{ℕ, _≤_}
+use Prim.Native.Nat.{ℕ}
 use Rattle.laws.specs.Fixed.{Fixes}
 use Rattle.laws.proofs.Fixed.{equation-fixes}
 use Rattle.block.specs.declared.CeilingCount.{CeilingCount}
@@ -10,7 +10,6 @@ use Rattle.block.specs.declared.Checked.{Checked}
 use Rattle.block.specs.declared.Checked.the-variants.{Refuses}
 use Rattle.block.specs.declared.Cut.{Cut}
 use Rattle.block.specs.declared.Size.{Size}
-use Rattle.block.specs.Numbering.{sampleCount}
 use Rattle.block.specs.Answer.{given, inOrder}
 use Rattle.block.specs.Block.{blockRows}
 use Rattle.block.specs.Ceilings.{ceilingsIn}
@@ -27,8 +26,6 @@ pub nz-fixed : (n : Size) → Fixes (λ (r : ℕ). r ≡ n .nz)
 nz-fixed n = equation-fixes (n .nz)
 
 -- of `Size::samples`
-pub samples-fixed : (n : Size) → Fixes (λ (r : ℕ). (r ≡ sampleCount n) × (r ≤ 16777216))
-samples-fixed n a b p q = equation-fixes (sampleCount n) a b (p .0) (q .0)
 
 -- of `check_block`, `check_threshold` and `check_room`
 pub check-block-fixed : (n : Size) (s : List ℕ) (cut : Cut) → Fixes (λ (r : Checked). r ≡ inOrder (blockRows n s cut))

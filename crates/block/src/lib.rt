@@ -104,7 +104,7 @@ impl Size {
     }
 
     // How many samples a block of this size has.
-    pub fn samples(self) -> usize
+    fn samples(self) -> usize
         requires { ⌜ Limits self ⌝ }
         ensures { λ r. ⌜ r ≡ sampleCount self ⌝ }
         ensures { λ r. ⌜ r ≤ 16777216 ⌝ }

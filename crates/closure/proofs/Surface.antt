@@ -10,13 +10,13 @@ use lib.Dec.{ltb}
 use borrow.Author.Tests.{eq-eqb, ne-eqb, lt-ltb, le-ltb, not-true}
 use Rattle.block.specs.declared.Cut.{Cut}
 use Rattle.block.specs.declared.Size.{Size}
-use Rattle.laws.specs.Bits.{differ}
 use Rattle.block.specs.Numbering.{Axis, X, Y, Z, sampleIndex, sampleCount, atSample}
 use Rattle.mesh_rule.specs.Grid.{EdgeIn, metal, crossedFrom, stays, inner, between, atEnd}
 use Rattle.laws.proofs.Index.{index-lt, index-x, index-y, index-z, index-box}
 use Rattle.laws.proofs.Tests.{lt-or-ge, and-both, some-or-none}
 use Rattle.mesh_rule.proofs.Inner.{Inner, inner-facts, stays-in, in-stays}
 use Rattle.closure.specs.Faces.{onBoxFace, FacesAre, CutOff}
+use Rattle.cube_rule.proofs.Laws.{differ-self}
 
 -- no edge of the block that lies on a face of the box is crossed
 abbrev pub Uncut : Size → List ℕ → Cut → Type 0
@@ -52,10 +52,6 @@ xy true false true x e h = refl
 xy false q true x e h = refl
 xy p q false x e h = absurd (false≢true e)
 
-level : (a b c : Bool) → a ≡ c → b ≡ c → differ a b ≡ false
-level a b true p q = rw (p, q)
-level a b false p q = rw (p, q)
-
 -- ---- faces of one sign
 
 module _ (n : Size) (s : List ℕ) (cut : Cut) (sign : Bool) (faces : FacesAre sign n s cut) where
@@ -63,13 +59,13 @@ module _ (n : Size) (s : List ℕ) (cut : Cut) (sign : Bool) (faces : FacesAre s
   pub faces-uncut : Uncut n s cut
   faces-uncut X i j k h e =
       let on : (x : ℕ) → onBoxFace n x j k ≡ true = λ x. ap₂ (λ (p q : Bool). atEnd (n .nx) x || p || q) (at-out (n .ny) j (h .0 .1)) (at-out (n .nz) k (h .0 .2)) ∙ yz (ltb (i + 1) (n .nx)) (between (n .ny) j) (between (n .nz) k) (atEnd (n .nx) x) (lt-ltb _ _ (h .1 .0)) e in
-      level (metal n s cut i j k) (metal n s cut (i + 1) j k) sign (faces i j k (h .0) (on i)) (faces (i + 1) j k (h .1) (on (i + 1)))
+      differ-self (metal n s cut i j k) (metal n s cut (i + 1) j k) sign (faces i j k (h .0) (on i)) (faces (i + 1) j k (h .1) (on (i + 1)))
   faces-uncut Y i j k h e =
       let on : (y : ℕ) → onBoxFace n i y k ≡ true = λ y. ap₂ (λ (p q : Bool). p || atEnd (n .ny) y || q) (at-out (n .nx) i (h .0 .0)) (at-out (n .nz) k (h .0 .2)) ∙ xz (between (n .nx) i) (ltb (j + 1) (n .ny)) (between (n .nz) k) (atEnd (n .ny) y) (lt-ltb _ _ (h .1 .1)) e in
-      level (metal n s cut i j k) (metal n s cut i (j + 1) k) sign (faces i j k (h .0) (on j)) (faces i (j + 1) k (h .1) (on (j + 1)))
+      differ-self (metal n s cut i j k) (metal n s cut i (j + 1) k) sign (faces i j k (h .0) (on j)) (faces i (j + 1) k (h .1) (on (j + 1)))
   faces-uncut Z i j k h e =
       let on : (z : ℕ) → onBoxFace n i j z ≡ true = λ z. ap₂ (λ (p q : Bool). p || q || atEnd (n .nz) z) (at-out (n .nx) i (h .0 .0)) (at-out (n .ny) j (h .0 .1)) ∙ xy (between (n .nx) i) (between (n .ny) j) (ltb (k + 1) (n .nz)) (atEnd (n .nz) z) (lt-ltb _ _ (h .1 .2)) e in
-      level (metal n s cut i j k) (metal n s cut i j (k + 1)) sign (faces i j k (h .0) (on k)) (faces i j (k + 1) (h .1) (on (k + 1)))
+      differ-self (metal n s cut i j k) (metal n s cut i j (k + 1)) sign (faces i j k (h .0) (on k)) (faces i j (k + 1) (h .1) (on (k + 1)))
 
 -- ---- an edge on a face of the box that is crossed, or none
 

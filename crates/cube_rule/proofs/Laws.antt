@@ -67,7 +67,7 @@ holder-same a b [] h = refl
 holder-same a b (m ∷ ms) h =
     ap₂ (λ (x : Bool) (n : ℕ). cond x 0 (suc n)) (h m (List·Memᴰ·head refl)) (holder-same a b ms (λ n d. h n (List·Memᴰ·tail d)))
 
-differ-self : (a b s : Bool) → a ≡ s → b ≡ s → differ a b ≡ false
+pub differ-self : (a b s : Bool) → a ≡ s → b ≡ s → differ a b ≡ false
 differ-self a b true p q = rw (p, q)
 differ-self a b false p q = rw (p, q)
 

@@ -8,6 +8,7 @@ use native.Mathlib.Nat.{not-suc-le-zero, le-of-suc-le-suc}
 use native.Mathlib.Omega.{arith}
 use lib.ListN.{length, getD}
 use Rattle.cube_rule.specs.Loops.{lowestEdge}
+use Rattle.laws.proofs.Filled.{mem-at}
 
 abbrev pub Rising : List ℕ → Type 0
 Rising [] = Unit {0}
@@ -62,15 +63,10 @@ rising-same (m ∷ ms) (n ∷ ns) r s f g =
 abbrev InOrder : List ℕ → Type 0
 InOrder ms = (a b : ℕ) → a < b → b < length ms → lowestEdge (getD ms a 0) < lowestEdge (getD ms b 0)
 
-element : (ms : List ℕ) (k : ℕ) → k < length ms → List·Memᴰ (getD ms k 0) ms
-element [] k h = absurd (not-suc-le-zero h)
-element (m ∷ ms) zero h = List·Memᴰ·head refl
-element (m ∷ ms) (suc k) h = List·Memᴰ·tail (element ms k (le-of-suc-le-suc h))
-
 pub rising-order : (ms : List ℕ) → Rising ms → InOrder ms
 rising-order [] r a b l h = absurd (not-suc-le-zero h)
 rising-order (m ∷ ms) r a zero l h = absurd (not-suc-le-zero l)
-rising-order (m ∷ ms) r zero (suc b) l h = rising-past m ms r (getD ms b 0) (element ms b (le-of-suc-le-suc h))
+rising-order (m ∷ ms) r zero (suc b) l h = rising-past m ms r (getD ms b 0) (mem-at ms b (le-of-suc-le-suc h))
 rising-order (m ∷ ms) r (suc a) (suc b) l h = rising-order ms (rising-tail m ms r) a b (le-of-suc-le-suc l) (le-of-suc-le-suc h)
 
 pub order-rising : (ms : List ℕ) → InOrder ms → Rising ms

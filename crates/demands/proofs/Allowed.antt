@@ -1,5 +1,5 @@
--- There is an answer: for every input the promise of each entry point allows one, with its buffers. With the theorems that a promise fixes its answer,
--- there is exactly one. So there is a call of `mesh` wherever its checks pass.
+-- There is an answer: for every input the promise of an entry point allows one, with its buffers (of `pieces` in Pieces.antt, of `crossed` in Room.antt). With
+-- the theorems that a promise fixes its answer, there is exactly one. So there is a call of `mesh` wherever its checks pass.
 use Prim.Native.Nat.{ℕ, _≤_}
 use native.Mathlib.Omega.{arith}
 use mathlib.Core.Path.{_≡_, refl, sym}

@@ -27,13 +27,13 @@ use Rattle.block.proofs.Saturated.{ceiling-exactly}
 use Rattle.cube_rule.specs.Decider.{joined, loopsOf}
 use Rattle.cube_rule.specs.Edges.{cornerSample, patternOf}
 use Rattle.cube_rule.specs.Plain.{mixed}
-use Rattle.cube_rule.proofs.Laws.{cube-laws, pattern-sign}
+use Rattle.cube_rule.proofs.Laws.{cube-laws, pattern-sign, differ-self}
 use Rattle.cell.specs.declared.CubeAnswer.{CubeAnswer}
 use Rattle.cell.specs.Answer.{wordOf, cubeVerdict, saidCube, loopsAnswered, CubeAnswered}
 use Rattle.cell.proofs.Answers.{accepted-loops}
 use Rattle.cell.proofs.Words.{word-mark, word-mask, word-small}
 use Rattle.mesh_rule.specs.Buffers.{meshWords}
-use Rattle.mesh_rule.specs.Grid.{InBox, sampleAt, cornersAt, cornersOf, ahead, crossedFrom}
+use Rattle.mesh_rule.specs.Grid.{sampleAt, cornersAt, cornersOf, ahead, crossedFrom, EdgeIn}
 use Rattle.mesh_rule.specs.Mesh.{Vertex, cubeLoops, verticesBefore, vertices, vertexOf}
 use Rattle.mesh_rule.proofs.Numbers.{corners-of-number, loop-lt, loop-stands, vertex-is-loop}
 use Rattle.mesh_rule.proofs.Words.{words-at}
@@ -141,15 +141,11 @@ both-mixed cut corners b = go (mixed (holds (patternOf cut corners))) refl
     sign : (c : ℕ) → c < 8 → mixed (holds (patternOf cut corners)) ≡ false → positive cut (cornerSample corners c) ≡ holds (patternOf cut corners) 0
     sign c h e = sym (pattern-sign cut corners c h) ∙ one-sign (holds (patternOf cut corners)) e c h
 
-    same : (x y z : Bool) → x ≡ z → y ≡ z → differ x y ≡ false
-    same x y true e f = rw (e, f)
-    same x y false e f = rw (e, f)
-
     go : (m : Bool) → mixed (holds (patternOf cut corners)) ≡ m → m ≡ true
     go true e = refl
     go false e =
         absurd (true≢false (sym (b .apart-there)
-        ∙ same _ _ (holds (patternOf cut corners) 0) (sign (b .one) (b .one-there) e) (sign (b .other) (b .other-there) e)))
+        ∙ differ-self _ _ (holds (patternOf cut corners) 0) (sign (b .one) (b .one-there) e) (sign (b .other) (b .other-there) e)))
 
 -- a cube with corners of both signs has a vertex, which would be marked
 pub words-clear : (n : Size) (s : List ℕ) (cut : Cut)
@@ -268,11 +264,11 @@ module _ {nx ny nz : ℕ} {s : List ℕ} {cut : Cut} (a : MeshCall nx ny nz s cu
       (x .low-is) (y .low-is) (z .low-is) (x .high-is) (y .high-is) (z .high-is)
 
   -- each crossed edge of the block, on its faces too, has both ends below 65,535
-  pub crossed-below : (axis : Axis) (i j k : ℕ) → InBox n i j k → ahead (InBox n) axis i j k → crossedFrom n s cut axis i j k ≡ true
+  pub crossed-below : (axis : Axis) (i j k : ℕ) → EdgeIn n axis i j k → crossedFrom n s cut axis i j k ≡ true
       → (sampleAt n s i j k < 65535) × (ahead (sampleAt n s) axis i j k < 65535)
-  crossed-below X i j k (hi, hj, hk) (g, _, _) = neighbours-below i j k (i + 1) j k (goes nx i g) (stays ny j (limits a .y-low) hj) (stays nz k (limits a .z-low) hk)
-  crossed-below Y i j k (hi, hj, hk) (_, g, _) = neighbours-below i j k i (j + 1) k (stays nx i (limits a .x-low) hi) (goes ny j g) (stays nz k (limits a .z-low) hk)
-  crossed-below Z i j k (hi, hj, hk) (_, _, g) = neighbours-below i j k i j (k + 1) (stays nx i (limits a .x-low) hi) (stays ny j (limits a .y-low) hj) (goes nz k g)
+  crossed-below X i j k ((hi, hj, hk), (g, _, _)) = neighbours-below i j k (i + 1) j k (goes nx i g) (stays ny j (limits a .y-low) hj) (stays nz k (limits a .z-low) hk)
+  crossed-below Y i j k ((hi, hj, hk), (_, g, _)) = neighbours-below i j k i (j + 1) k (stays nx i (limits a .x-low) hi) (goes ny j g) (stays nz k (limits a .z-low) hk)
+  crossed-below Z i j k ((hi, hj, hk), (_, _, g)) = neighbours-below i j k i j (k + 1) (stays nx i (limits a .x-low) hi) (stays ny j (limits a .y-low) hj) (goes nz k g)
 
 -- ---- the cube question
 

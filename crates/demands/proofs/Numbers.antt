@@ -140,8 +140,8 @@ module _ (nx ny nz : ℕ) (s : List ℕ) (cut : Cut) (x : Refusal) (grey : cut .
       (order-splits (thresholdRow cut) _ x (h₁ .1)))
       (order-splits (countRow n (length s)) _ x e)
 
-  room-uncut : (words offsets room : ℕ) → inOrder (bufferRows (countsOf n s cut) words offsets room) ≡ Refuses x → x .value ≤ 66325500
-  room-uncut words offsets room e =
+  buffers-uncut : (words offsets room : ℕ) → inOrder (bufferRows (countsOf n s cut) words offsets room) ≡ Refuses x → x .value ≤ 66325500
+  buffers-uncut words offsets room e =
       ⊎-elim (λ h. omega (arith, most-vertices loopsOf n s cut (cube-laws joined) limits, given-le x (vertexCount n s cut) (holds-unless (leb (2 * vertexCount n s cut) words && leb (3 * vertexCount n s cut) offsets) 5 (vertexCount n s cut) x h)))
       (λ h. omega (arith, most-quads loopsOf n s cut limits, given-le x (quadCount n s cut) (holds-unless (leb (4 * quadCount n s cut) room) 6 (quadCount n s cut) x (sym (order-last (quadRow (quadCount n s cut) room)) ∙ h .1))))
       (order-splits (vertexRow (vertexCount n s cut) words offsets) _ x e)
@@ -164,5 +164,5 @@ pub mesh-uncut : (nx ny nz : ℕ) (s : List ℕ) (cut : Cut) (words offsets room
     → x .value ≤ 66325500
 mesh-uncut nx ny nz s cut words offsets room x grey e =
     ⊎-elim (axis-uncut nx ny nz x)
-    (λ h. block-uncut nx ny nz s cut x grey (h .0) (bufferRows (countsOf (sizeOf nx ny nz) s cut) words offsets room) (room-uncut nx ny nz s cut x grey (h .0) words offsets room) (h .1))
+    (λ h. block-uncut nx ny nz s cut x grey (h .0) (bufferRows (countsOf (sizeOf nx ny nz) s cut) words offsets room) (buffers-uncut nx ny nz s cut x grey (h .0) words offsets room) (h .1))
     (order-splits (axisRow nx ny nz) _ x e)

@@ -8,8 +8,7 @@ use mathlib.Core.List.{List, []}
 use lib.Dec.{eqb, leb}
 use lib.ListN.{length, getD}
 use Rattle.laws.specs.Below.{over}
-use Rattle.laws.specs.Counting.{count}
-use Rattle.laws.specs.Pack.{total}
+use Rattle.laws.specs.Counting.{count, total}
 use Rattle.laws.proofs.Counting.{count-same}
 use Rattle.laws.proofs.Over.{each-length, each-at, over-length, over-front, over-behind}
 use Rattle.laws.proofs.Sums.{total-same}

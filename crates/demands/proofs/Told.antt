@@ -20,7 +20,7 @@ use Rattle.cell.specs.declared.Found.the-variants as found-is
 use Rattle.cell.specs.declared.Found.{Found}
 use Rattle.cell.specs.Answer.{wordOf, saidCube}
 use Rattle.cell.proofs.Answers.{verdict-is, accepted-loops}
-use Rattle.mesh_rule.specs.Grid.{InBox, sampleAt, cornersOf, ahead, crossedFrom}
+use Rattle.mesh_rule.specs.Grid.{sampleAt, cornersOf, ahead, crossedFrom, EdgeIn}
 use Rattle.mesh.specs.declared.Counted.{Counted}
 use Rattle.mesh.specs.declared.Counted.the-variants as counted
 use Rattle.mesh.specs.declared.Totals.{Totals}
@@ -156,6 +156,6 @@ module _ (nx ny nz : ℕ) (s : List ℕ) (t : ℕ) (w : List ℕ) (o : List Floa
 
   -- so each crossed edge of the block, on its faces too, has both ends below 65,535
   pub mesh-told-below : 2 ≤ length place → ((v : ℕ) → v < getD place′ 1 0 → hasMark (getD w′ (2 * v + 1) 0) ≡ false) → SixteenBit s
-      → (axis : Axis) (i j k : ℕ) → InBox (sizeOf nx ny nz) i j k → ahead (InBox (sizeOf nx ny nz)) axis i j k → crossedFrom (sizeOf nx ny nz) s (cutOf t) axis i j k ≡ true
+      → (axis : Axis) (i j k : ℕ) → EdgeIn (sizeOf nx ny nz) axis i j k → crossedFrom (sizeOf nx ny nz) s (cutOf t) axis i j k ≡ true
       → (sampleAt (sizeOf nx ny nz) s i j k < 65535) × (ahead (sampleAt (sizeOf nx ny nz) s) axis i j k < 65535)
   mesh-told-below room none grey = crossed-below call (λ v h. none v (seen room v h)) grey

@@ -1,1 +1,1 @@
-// The three demands as theorems about the promises of the entry points: no code.
+// Theorems about the promises of the entry points: the three demands, the idle versions, and what follows from several promises together. No code.

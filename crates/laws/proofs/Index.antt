@@ -37,7 +37,7 @@ pub index-of : (w h p : ℕ) → indexIn w h (p % w) (p / w % h) (p / w / h) ≡
 index-of w h p = rw (mod-add-div (p / w) h) (mod-add-div p w)
 
 -- rows of the width w hold the place p, so w is not 0
-wide : (w m p : ℕ) → p < w * m → 0 < w
+pub wide : (w m p : ℕ) → p < w * m → 0 < w
 wide zero m p h = absurd (omega (arith, h, zero-mul m))
 wide (suc w) m p h = omega arith
 

@@ -11,7 +11,8 @@ use lib.Bits.{bitAnd, bitOr, bitXor, and-block, xor-block, and-lt, xor-lt, or-ad
 use lib.Count.{ones, ones-cat, ones-step}
 use lib.Pow.{ones-split, ones-lt, pow-pos, pow-add, high, low, shl-exact}
 use Rattle.laws.specs.Bits.{bit, maskOf}
-use Rattle.laws.specs.Pack.{pack, total}
+use Rattle.laws.specs.Counting.{total}
+use Rattle.laws.specs.Pack.{pack}
 
 -- ---- the word of the bits of f
 

@@ -10,8 +10,7 @@ use native.Mathlib.Numerals.{add-one}
 use native.Mathlib.Omega.{arith}
 use Rattle.laws.specs.Below.{below}
 use Rattle.laws.specs.Bits.{bit}
-use Rattle.laws.specs.Counting.{count}
-use Rattle.laws.specs.Pack.{total}
+use Rattle.laws.specs.Counting.{count, total}
 use Rattle.laws.proofs.Index.{pair-mod, pair-div}
 
 -- ---- over the numbers below a bound
@@ -74,18 +73,15 @@ abbrev pub moved : Bool → ℕ → ℕ
 moved true x = x + 1
 moved false x = x
 
+one-less : (n : ℕ) → suc n - 1 ≡ n
+one-less n = omega arith
+
 total-but-one : (a : Bool) (f : ℕ → ℕ) (n : ℕ) → total (λ (x : ℕ). f (moved a x)) (n - 1) ≤ total f n
 unfolding total
 total-but-one true f zero = omega arith
-total-but-one true f (suc n) = rw (less n) (omega (arith, total-moved f n))
-  where
-    less : (n : ℕ) → suc n - 1 ≡ n
-    less n = omega arith
+total-but-one true f (suc n) = rw (one-less n) (omega (arith, total-moved f n))
 total-but-one false f zero = omega arith
-total-but-one false f (suc n) = rw (less n) (omega arith)
-  where
-    less : (n : ℕ) → suc n - 1 ≡ n
-    less n = omega arith
+total-but-one false f (suc n) = rw (one-less n) (omega arith)
 
 -- in two parts, and in rows of w
 pub total-add : (f : ℕ → ℕ) (n m : ℕ) → total f (n + m) ≡ total f n + total (λ (x : ℕ). f (n + x)) m
@@ -167,10 +163,10 @@ module _ (f : ℕ → ℕ → ℕ → ℕ) (w h d : ℕ) where
 
 -- ---- over a list
 
-pub length-below : {A : Type 0} (f : ℕ → List A) (n : ℕ) → length (below f n) ≡ total (λ (m : ℕ). length (f m)) n
+pub length-total : {A : Type 0} (f : ℕ → List A) (n : ℕ) → length (below f n) ≡ total (λ (m : ℕ). length (f m)) n
 unfolding below total
-length-below f zero = refl
-length-below f (suc n) = omega (arith, length-append (below f n) (f n), length-below f n)
+length-total f zero = refl
+length-total f (suc n) = omega (arith, length-append (below f n) (f n), length-total f n)
 
 module _ {A : Type 0} (g : A → ℕ) where
   abbrev pub summed : List A → ℕ

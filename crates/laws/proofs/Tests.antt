@@ -50,6 +50,11 @@ and-both true true e = (refl, refl)
 and-both true false e = absurd (true≢false (sym e))
 and-both false b e = absurd (true≢false (sym e))
 
+-- where the first implies the second, both are what the first is
+pub and-implied : (a b : Bool) → (a ≡ true → b ≡ true) → (a && b) ≡ a
+and-implied true b f = f refl
+and-implied false b f = refl
+
 -- and as one test behind the other finds it: the first that fails decides, and else the last
 pub and-fails : {a : Bool} (b : Bool) → a ≡ false → false ≡ (a && b)
 and-fails b e = rw e

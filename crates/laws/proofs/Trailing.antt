@@ -32,8 +32,9 @@ trailing-lt (suc k) n p h =
 shift-down : (n j : ℕ) → n / 2 ^ suc j % 2 ≡ n / 2 / 2 ^ j % 2
 shift-down n j = ap (λ (x : ℕ). x % 2) (ap (λ (x : ℕ). n / x) (pow-succ' 2 j) ∙ sym (div-div-eq-div-mul n 2 (2 ^ j)))
 
-digit-is : (n : ℕ) → (n % 2 ≡ 0) ⊎ (n % 2 ≡ 1)
-digit-is n = ⊎-elim (λ (h : n % 2 ≡ 0). inl h) (λ (h : 0 < n % 2). inr (one n h)) (eq-zero-or-pos (n % 2))
+-- even or odd
+pub even-or-odd : (n : ℕ) → (n % 2 ≡ 0) ⊎ (n % 2 ≡ 1)
+even-or-odd n = ⊎-elim (λ (h : n % 2 ≡ 0). inl h) (λ (h : 0 < n % 2). inr (one n h)) (eq-zero-or-pos (n % 2))
   where
     one : (n : ℕ) → 0 < n % 2 → n % 2 ≡ 1
     one n h = omega arith
@@ -54,4 +55,4 @@ trailing-set (suc k) n h =
     (λ (e : n % 2 ≡ 0). subst (λ (x : ℕ). n / 2 ^ x % 2 ≡ 1) (sym (under-zero (n % 2) t e))
     (shift-down n t ∙ trailing-set k (n / 2) (le-of-suc-le-suc (subst (λ (x : ℕ). x < suc k) (under-zero (n % 2) t e) h))))
     (λ (e : n % 2 ≡ 1). subst (λ (x : ℕ). n / 2 ^ x % 2 ≡ 1) (sym (under-one (n % 2) t e)) (ap (λ (x : ℕ). x % 2) (div-one n) ∙ e))
-    (digit-is n)
+    (even-or-odd n)

@@ -10,7 +10,8 @@ use lib.Count.{ones}
 use lib.Dec.{eqb}
 use lib.Pow.{mod-pow-add}
 use Rattle.laws.specs.Bits.{bit, differ, holds}
-use Rattle.laws.specs.Pack.{pack, total}
+use Rattle.laws.specs.Counting.{total}
+use Rattle.laws.specs.Pack.{pack}
 use Rattle.laws.proofs.Bits.{bit-le}
 use Rattle.laws.proofs.Pack.{pack-lt, pack-cong, pack-high, pack-low, pack-and, pack-xor, pack-ones, and-bit, xor-bit, or-none, xor-none}
 

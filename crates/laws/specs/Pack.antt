@@ -1,13 +1,8 @@
--- A word of bits made of a function from places to bits, and the sum of a function: what the passes over words say. What is promised is said by
--- `maskOf` and `count`; `pack-mask` and `total-count` lead from the one to the other. Assumes nothing.
+-- A word of bits made of a function from places to bits: what the passes over words say. What is promised is said by `maskOf`, and `pack-mask` leads from the one
+-- to the other. Assumes nothing.
 use Prim.Native.Nat.{ℕ, zero, suc, _+_, _*_, _^_}
 
 -- bit i of the word is f i, for i below n; each f i is 0 or 1
 unfoldable pub pack : (ℕ → ℕ) → ℕ → ℕ
 pack f zero = 0
 pack f (suc n) = f n * 2 ^ n + pack f n
-
--- f 0 + f 1 + .. + f (n − 1)
-unfoldable pub total : (ℕ → ℕ) → ℕ → ℕ
-total f zero = 0
-total f (suc n) = f n + total f n

@@ -22,7 +22,7 @@ use Rattle.rows.specs.Rows.{loopsAt, picked, wordLoops, WordReady}
 use Rattle.joins.specs.Joined.{Sorted}
 use Rattle.joins.proofs.JoinedFaces.{plain-single}
 use Rattle.rows.proofs.Visits.{picked-none, bitsOf, picked-next}
-use Rattle.laws.specs.Pack.{total}
+use Rattle.laws.specs.Counting.{total}
 use Rattle.laws.proofs.Visit.{Left}
 use Rattle.laws.proofs.Tests.{and-both}
 

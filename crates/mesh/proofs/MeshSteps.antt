@@ -18,7 +18,7 @@ use Rattle.mesh.specs.declared.Totals.{Totals}
 use Rattle.mesh.specs.declared.Counted.the-variants as counted
 use Rattle.mesh.specs.Answer.{bufferRows, countsOf, vertexCount, quadCount, MeshedBy}
 use Rattle.mesh.specs.Writes.{Roomy, BlockWritten}
-use Rattle.mesh.proofs.BufferRows.{room-passes}
+use Rattle.mesh.proofs.BufferRows.{buffers-pass}
 use Rattle.mesh.proofs.Verdicts.{refused-by}
 
 module _ (n : Size) (s : List ℕ) (cut : Cut) where
@@ -45,7 +45,7 @@ module _ (n : Size) (s : List ℕ) (cut : Cut) where
 
     pub roomy-of : (c : Totals) → c ≡ countsOf n s cut → late c ≡ Passes → Roomy loopsOf n s cut w o q
     roomy-of c f h =
-        let p = room-passes (vertexCount n s cut) (quadCount n s cut) (length w) (length o) (length q) (ap late (sym f) ∙ h) in
+        let p = buffers-pass (vertexCount n s cut) (quadCount n s cut) (length w) (length o) (length q) (ap late (sym f) ∙ h) in
         record { words = p .0; offsets = p .1; quads = p .2 }
 
     -- all pass

@@ -5,9 +5,9 @@
 use Prim.Native.Nat.{ℕ, zero, suc, _+_, _*_, _-_, _/_, _%_, _<_}
 use mathlib.Core.Path.{_≡_, refl, ap, _∙_}
 use mathlib.Core.Logic.{_⊎_, inl, inr}
-use mathlib.Core.Bool.{Bool, true, false, cond, _&&_}
+use mathlib.Core.Bool.{true, cond, _&&_}
 use mathlib.Core.List.{List, [], _∷_}
-use native.Mathlib.Nat.{mod-lt, zero-mul}
+use native.Mathlib.Nat.{zero-mul}
 use native.Mathlib.Omega.{arith}
 use lib.Count.{trailingZeros}
 use lib.Dec.{eqb, leb}
@@ -19,19 +19,22 @@ use Rattle.laws.proofs.Counting.{count-same}
 use Rattle.laws.proofs.Below.{length-constant}
 use Rattle.laws.proofs.Index.{index-lt, index-x, index-y, index-z, index-box}
 use Rattle.laws.proofs.Over.{each-length, each-at}
+use Rattle.laws.proofs.Tests.{and-implied}
+use Rattle.laws.proofs.Trailing.{even-or-odd}
 use Rattle.block.specs.declared.Checked.the-variants.{Passes}
 use Rattle.block.specs.declared.Size.{Size}
 use Rattle.block.specs.Answer.{inOrder}
 use Rattle.block.specs.Numbering.{Axis, X, Y, Z, sampleIndex, sampleCount, cubeCount}
-use Rattle.block.specs.Rows.{lowestRow, axisRow, countRow, thresholdRow}
+use Rattle.block.specs.Rows.{lowestRow, countRow}
+use Rattle.block.specs.Block.{blockVerdict}
 use Rattle.cube_rule.specs.Edges.{patternOf, crossedMask}
 use Rattle.cube_rule.specs.Loops.{grow, loopFrom, loopsFrom, loopsBy}
 use Rattle.cube_rule.specs.Decider.{joined, loopsOf}
-use Rattle.mesh_rule.specs.Grid.{sampleAt, cornersAt, cornersOf, inner, crossedFrom, crossedInner}
+use Rattle.mesh_rule.specs.Grid.{InBox, sampleAt, cornersAt, cornersOf, inner, crossedFrom, crossedInner}
 use Rattle.mesh_rule.specs.Mesh.{verticesOf, verticesBefore, vertices, quads}
 use Rattle.mesh_rule.specs.Boards.{cut, shade, board, hollow, size}
 use Rattle.mesh_rule.proofs.Counts.{innerFrom, innerCount, inner-count}
-use Rattle.mesh_rule.proofs.Inner.{Inner, inner-facts}
+use Rattle.mesh_rule.proofs.Inner.{Inner, inner-facts, inner-sample, inner-stays, Stays}
 use Rattle.mesh_rule.proofs.Numbers.{one-for-each-loop}
 use Rattle.mesh_rule.proofs.Quads.{quad-count}
 
@@ -58,15 +61,6 @@ board-counted n = rw (eq-eqb (length (board n)) (sampleCount n) (board-length n)
 
 -- ---- a cube of the board
 
--- even or odd
-parity : (m : ℕ) → (m % 2 ≡ 0) ⊎ (m % 2 ≡ 1)
-parity m = go (m % 2) (mod-lt m (omega arith))
-  where
-    go : (d : ℕ) → d < 2 → (d ≡ 0) ⊎ (d ≡ 1)
-    go zero h = inl refl
-    go (suc zero) h = inr refl
-    go (suc (suc d)) h = absurd (omega arith)
-
 shade-even : (m : ℕ) → m % 2 ≡ 0 → shade m ≡ 110
 shade-even m e = rw e
 
@@ -88,7 +82,7 @@ odd-loops = refl
 
 -- so four loops whether m is even or odd
 four-loops : (m : ℕ) → length (loopsOf cut (checks (shade m) (shade (m + 1)))) ≡ 4
-four-loops m = go (parity m)
+four-loops m = go (even-or-odd m)
   where
     go : (m % 2 ≡ 0) ⊎ (m % 2 ≡ 1) → length (loopsOf cut (checks (shade m) (shade (m + 1)))) ≡ 4
     go (inl e) = rw (shade-even m e, shade-odd (m + 1) (omega arith)) even-loops
@@ -96,7 +90,7 @@ four-loops m = go (parity m)
 
 -- the ends of an edge differ in sign
 shades-differ : (m : ℕ) → differ (leb 100 (shade m)) (leb 100 (shade (m + 1))) ≡ true
-shades-differ m = go (parity m)
+shades-differ m = go (even-or-odd m)
   where
     go : (m % 2 ≡ 0) ⊎ (m % 2 ≡ 1) → differ (leb 100 (shade m)) (leb 100 (shade (m + 1))) ≡ true
     go (inl e) = rw (shade-even m e, shade-odd (m + 1) (omega arith))
@@ -148,18 +142,17 @@ module _ (n : Size) where
   ends-differ i j k x y z hi hj hk hx hy hz e =
       rw (board-at n i j k hi hj hk, board-at n x y z hx hy hz, e) (shades-differ (i + j + k))
 
-  -- every inner edge is crossed
+  -- every edge of the block is crossed, and so is every inner edge
+  pub edge-crossed : (a : Axis) (i j k : ℕ) → InBox n i j k → Stays n a i j k → crossedFrom n (board n) cut a i j k ≡ true
+  edge-crossed X i j k b h = ends-differ i j k (i + 1) j k (b .0) (b .1) (b .2) h (b .1) (b .2) (omega arith)
+  edge-crossed Y i j k b h = ends-differ i j k i (j + 1) k (b .0) (b .1) (b .2) (b .0) h (b .2) (omega arith)
+  edge-crossed Z i j k b h = ends-differ i j k i j (k + 1) (b .0) (b .1) (b .2) (b .0) (b .1) h (omega arith)
+
   pub inner-crossed : (a : Axis) (i j k : ℕ) → Inner n a i j k → crossedFrom n (board n) cut a i j k ≡ true
-  inner-crossed X i j k h = ends-differ i j k (i + 1) j k (omega arith) (omega arith) (omega arith) (h .0) (omega arith) (omega arith) (omega arith)
-  inner-crossed Y i j k h = ends-differ i j k i (j + 1) k (omega arith) (omega arith) (omega arith) (omega arith) (h .1) (omega arith) (omega arith)
-  inner-crossed Z i j k h = ends-differ i j k i j (k + 1) (omega arith) (omega arith) (omega arith) (omega arith) (omega arith) (h .2) (omega arith)
+  inner-crossed a i j k h = edge-crossed a i j k (inner-sample n a i j k h) (inner-stays n a i j k h)
 
   crossed-there : (a : Axis) (i j k : ℕ) → (inner n a i j k && crossedFrom n (board n) cut a i j k) ≡ inner n a i j k
-  crossed-there a i j k = go (inner n a i j k) refl
-    where
-      go : (b : Bool) → inner n a i j k ≡ b → (b && crossedFrom n (board n) cut a i j k) ≡ b
-      go true e = inner-crossed a i j k (inner-facts n a i j k e)
-      go false e = refl
+  crossed-there a i j k = and-implied (inner n a i j k) _ (λ e. inner-crossed a i j k (inner-facts n a i j k e))
 
   all-crossed : (a : Axis) → count (crossedInner n (board n) cut a) (sampleCount n) ≡ innerCount n a
   all-crossed a =
@@ -179,7 +172,7 @@ pub most-quads-reached : length (quads loopsOf size (board size) cut) ≡ 493547
 most-quads-reached = board-quads size
 
 -- and the block is accepted: rows 1 to 3 pass
-pub board-accepted : inOrder (axisRow 256 256 256 ∷ countRow size (length (board size)) ∷ thresholdRow cut ∷ []) ≡ Passes
+pub board-accepted : blockVerdict 256 256 256 (board size) cut ≡ Passes
 unfolding inOrder lowestRow
 board-accepted = rw (board-counted size)
 

@@ -77,10 +77,16 @@ in-stays n Y i j k h = lt-ltb _ _ (h .1 .1)
 in-stays n Z i j k h = lt-ltb _ _ (h .1 .2)
 
 -- an inner edge starts at a sample of the block
-pub inner-sample : (n : Size) (a : Axis) (i j k : ℕ) → Inner n a i j k → (i < n .nx) × (j < n .ny) × (k < n .nz)
+pub inner-sample : (n : Size) (a : Axis) (i j k : ℕ) → Inner n a i j k → InBox n i j k
 inner-sample n X i j k h = omega arith
 inner-sample n Y i j k h = omega arith
 inner-sample n Z i j k h = omega arith
+
+-- and does not leave the block
+pub inner-stays : (n : Size) (a : Axis) (i j k : ℕ) → Inner n a i j k → Stays n a i j k
+inner-stays n X i j k h = h .0
+inner-stays n Y i j k h = h .1
+inner-stays n Z i j k h = h .2
 
 -- ---- 01's table: what holds of each of the four cubes and of the edge's number there
 abbrev pub Round : (ℕ → ℕ → ℕ → ℕ → Type 0) → Axis → ℕ → ℕ → ℕ → Type 0

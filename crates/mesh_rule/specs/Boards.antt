@@ -1,4 +1,4 @@
--- Two blocks of every size at the threshold 100: a checkerboard, which has the most vertices and quads, and one without metal.
+-- Two blocks of every size at the threshold 100: a checkerboard, which has the most vertices, quads and crossed edges, and one without metal.
 use Prim.Native.Nat.{ℕ, _+_, _%_}
 use mathlib.Core.Bool.{cond}
 use mathlib.Core.List.{List, [], _∷_}

@@ -7,8 +7,7 @@ use native.Mathlib.Omega.{arith}
 use lib.Dec.{eqb}
 use borrow.Author.Tests.{eq-eqb, ne-eqb, eqb-true, eqb-false}
 use Rattle.laws.specs.Bits.{bit}
-use Rattle.laws.specs.Counting.{count}
-use Rattle.laws.specs.Pack.{total}
+use Rattle.laws.specs.Counting.{count, total}
 use Rattle.laws.proofs.Counting.{count-same, count-this}
 use Rattle.laws.proofs.Sums.{total-plus, total-nothing, total-count}
 

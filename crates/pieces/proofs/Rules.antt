@@ -12,8 +12,7 @@ use lib.Dec.{eqb}
 use lib.ListN.{length, getD}
 use lib.Pow.{pow-pos, pow-mono}
 use borrow.Author.Tests.{eq-eqb, ne-eqb, eqb-true, eqb-false}
-use Rattle.laws.specs.Counting.{count}
-use Rattle.laws.specs.Pack.{total}
+use Rattle.laws.specs.Counting.{count, total}
 use Rattle.laws.proofs.Counting.{count-all, clear-count, count-same, count-this}
 use Rattle.laws.proofs.Tests.{lt-or-ge}
 use Rattle.trees.specs.Forest.{State, at, topOf, after, longestSearch}

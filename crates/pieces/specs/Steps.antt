@@ -1,4 +1,4 @@
--- What numbering the pieces asks of the links and sizes that it is lent, and what it promises of them.
+-- What numbering the pieces promises of the links and sizes that it is lent. What it asks of them is in `trees`.
 -- Assumes nothing.
 use Prim.Native.Nat.{ℕ, _<_}
 use mathlib.Core.Path.{_≡_}

@@ -17,7 +17,7 @@ use Rattle.mesh_rule.specs.Grid.{metal, crossedFrom}
 use Rattle.signs.specs.Signs.{Plane, rowSign}
 use Rattle.planes.specs.Planes.{furtherAt, alongX, alongY, alongZ, furtherOf, limitOf}
 use Rattle.planes.proofs.Masks.{word-limited}
-use Rattle.signs.proofs.Planes.{sign-bit, row-sign-bit, word-at}
+use Rattle.signs.proofs.Planes.{sign-bit, word-at, next-bit}
 use Rattle.signs.proofs.Rows.{row-bit, row-in}
 
 -- the words of a row, one sample further on
@@ -42,17 +42,6 @@ module _ {n : Size} {s : List ℕ} {cut : Cut} {k : ℕ} {ws : List ℕ} (p : Pl
       next : 64 * w + (1 + i) ≡ 64 * w + i + 1
       next = omega arith
 
--- the word of the next row
-pub next-word : {n : Size} {s : List ℕ} {cut : Cut} {k : ℕ} {ws : List ℕ} (p : Plane n s cut k ws) (j w : ℕ) → j + 1 < n .ny → w < 5
-    → Word (getD ws (5 * j + w + 5) 0) (λ i. rowSign n s cut (j + 1) k (64 * w + i)) 64
-next-word {n} {s} {cut} {k} {ws} p j w hj hw = record {
-  is = ap (λ (q : ℕ). getD ws q 0) place ∙ p .word (j + 1) w hj hw;
-  bit = λ i. row-bit n s cut (j + 1) k (64 * w + i);
-}
-  where
-    place : 5 * j + w + 5 ≡ 5 * (j + 1) + w
-    place = omega arith
-
 -- the bits of two words that stand for signs: whether the signs differ
 apart-bit : (a b i : ℕ) (p q : Bool) → a / 2 ^ i % 2 ≡ bit p → b / 2 ^ i % 2 ≡ bit q → bitXor a b / 2 ^ i % 2 ≡ bit (differ p q)
 apart-bit a b i p q ep eq = xor-digit a b i ∙ ap₂ bitXor ep eq ∙ xor-tests p q
@@ -66,7 +55,7 @@ module _ {n : Size} {s : List ℕ} {cut : Cut} {k : ℕ} {a : List ℕ} (plane :
   pub along-y-is : j + 1 < n .ny → 64 * w + i < n .nx → alongY a (5 * j + w) / 2 ^ i % 2 ≡ bit (crossedFrom n s cut Y (64 * w + i) j k)
   along-y-is hj hx =
       apart-bit (getD a (5 * j + w) 0) (getD a (5 * j + w + 5) 0) i (metal n s cut (64 * w + i) j k) (metal n s cut (64 * w + i) (j + 1) k)
-      (sign-bit plane j w (omega arith) i (omega arith) hi hx) (row-sign-bit plane j w i hj hw hi hx)
+      (sign-bit plane j w (omega arith) i (omega arith) hi hx) (next-bit plane j w hj (omega arith) i hi hx)
 
   pub along-z-is : {b : List ℕ} → Plane n s cut (k + 1) b → j < n .ny → 64 * w + i < n .nx
       → alongZ a b (5 * j + w) / 2 ^ i % 2 ≡ bit (crossedFrom n s cut Z (64 * w + i) j k)

@@ -1,8 +1,8 @@
 -- The places of a word that count: the words that have them, and what a word under such a mask keeps.
 -- Assumes nothing.
-use mathlib.Core.Path.{_≡_, refl, sym, ap, ap₂, _∙_}
+use mathlib.Core.Path.{_≡_, sym, ap, ap₂, _∙_}
 use mathlib.Core.Logic.{_⊎_, inl, inr}
-use mathlib.Core.Bool.{Bool, true, false, false≢true, _&&_}
+use mathlib.Core.Bool.{Bool, true, false, false≢true, _&&_, and-comm}
 use Prim.Native.Nat.{ℕ, _+_, _-_, _*_, _/_, _%_, _^_, _≤_, _<_}
 use native.Mathlib.Omega.{arith}
 use borrow.Author.Tests.{lt-ltb, le-ltb, ltb-true}
@@ -40,12 +40,6 @@ below-last x n = go (lt-or-ge (x + 1) n)
     go (inl l) = lt-ltb x (n - 1) (omega arith) ∙ sym (lt-ltb (x + 1) n l)
     go (inr g) = le-ltb x (n - 1) (omega arith) ∙ sym (le-ltb (x + 1) n g)
 
-swap : (a b : Bool) → a && b ≡ b && a
-swap true true = refl
-swap true false = refl
-swap false true = refl
-swap false false = refl
-
 -- the first word has the first place, which is not inner
 pub inner-first : (nx : ℕ) → bitAnd (limitOf (nx - 1) 0) 18446744073709551614 ≡ innerOf nx 0
 unfolding pack
@@ -58,7 +52,7 @@ inner-first nx =
 
     same : (i : ℕ) → ltb (64 * 0 + i) (nx - 1) && ltb 0 i ≡ between nx (64 * 0 + i)
     same i =
-        swap (ltb (64 * 0 + i) (nx - 1)) (ltb 0 i)
+        and-comm (ltb (64 * 0 + i) (nx - 1)) (ltb 0 i)
         ∙ ap₂ (λ (a b : Bool). a && b) (ap (ltb 0) (place i)) (below-last (64 * 0 + i) nx)
 
 -- the others do not
@@ -91,8 +85,8 @@ module _ {a : ℕ} {f : ℕ → ℕ} (p : ℕ → Bool) (x : Word a f 64) (n w :
   word-inner e = word-masked (λ i. between n (64 * w + i)) p x e
 
 -- no place past the end is inner
-pub inner-past : (n x : ℕ) → n ≤ x + 1 → between n x ≡ false
-inner-past n x h = swap (ltb 0 x) (ltb (x + 1) n) ∙ ap (λ (b : Bool). b && ltb 0 x) (le-ltb (x + 1) n h)
+pub not-between : (n x : ℕ) → n ≤ x + 1 → between n x ≡ false
+not-between n x h = and-comm (ltb 0 x) (ltb (x + 1) n) ∙ ap (λ (b : Bool). b && ltb 0 x) (le-ltb (x + 1) n h)
 
 -- an inner place has a neighbour on either side
 pub inner-in : (n x : ℕ) → between n x ≡ true → (0 < x) × (x + 1 < n)
@@ -103,5 +97,5 @@ inner-in n x t = go (lt-or-ge 0 x) (lt-or-ge (x + 1) n)
 
     go : (0 < x) ⊎ (x ≤ 0) → (x + 1 < n) ⊎ (n ≤ x + 1) → (0 < x) × (x + 1 < n)
     go (inl p) (inl q) = (p, q)
-    go (inl p) (inr q) = none (inner-past n x q)
+    go (inl p) (inr q) = none (not-between n x q)
     go (inr p) r = none (ap (λ (b : Bool). b && ltb (x + 1) n) (le-ltb 0 x p))

@@ -33,8 +33,8 @@ use Rattle.ply.specs.declared.Spacing.{Spacing}
 use Rattle.ply.specs.Rows.{spacings, goodSpacing, badSpacing, spacingRow}
 use Rattle.ply.specs.File.{cubePlace, placeOn, plyFile}
 use Rattle.ply.specs.Answer.{plyVerdict}
-use Rattle.ply.specs.Words.{fileLength}
-use Rattle.ply.specs.Steps.{Number, xOf, yOf, zOf, AllNumbers}
+use Rattle.ply.specs.Words.{fileLength, Number, AllNumbers}
+use Rattle.ply.specs.Steps.{xOf, yOf, zOf}
 use Rattle.ply.proofs.Files.{ply-length}
 use Rattle.ply.proofs.Places.{coordinate-number, coordinate-inside}
 

@@ -15,7 +15,7 @@ use Rattle.place.specs.Place.{plusZero, one}
 use Rattle.vertex_lists.specs.Rows.{fromZeroToOne}
 use Rattle.ply.specs.Rows.{goodSpacing}
 use Rattle.ply.specs.File.{millimetres}
-use Rattle.ply.specs.Steps.{Number}
+use Rattle.ply.specs.Words.{Number}
 
 holds : {b : Bool} → b ≡ true → T b
 holds e = subst T (sym e) tt

@@ -1,18 +1,11 @@
--- What the steps of writing a PLY file promise or ask: a vertex and a face by their fields, and that no coordinate is a NaN.
+-- What the steps of writing a PLY file promise or ask: a vertex and a face by their fields.
 -- Assumes nothing.
-use Prim.Native.Nat.{ℕ, _/_, _%_, _<_}
-use mathlib.Core.Bool.{not}
+use Prim.Native.Nat.{ℕ, _/_, _%_}
 use mathlib.Core.List.{List, _++_}
-use lib.Dec.{T}
-use lib.Ieee.{Float, isNan}
-use Rattle.block.specs.declared.Size.{Size}
+use lib.Ieee.{Float}
 use Rattle.file_bytes.specs.Bytes.{littleEndian}
 use Rattle.ply.specs.declared.Spacing.{Spacing}
-use Rattle.ply.specs.File.{millimetres, double, placeOn}
-
--- a float that is no NaN
-abbrev pub Number : Float → Type 0
-Number x = T (not (isNan x))
+use Rattle.ply.specs.File.{millimetres, double}
 
 -- the three coordinates of a vertex of a cube, in a box that is w cubes wide and h high
 abbrev pub xOf : ℕ → ℕ → Float → Spacing → Float
@@ -30,7 +23,3 @@ threeDoubles x y z = double x ++ double y ++ double z
 
 unfoldable pub indexList : ℕ → ℕ → ℕ → ℕ → List ℕ
 indexList a b c d = littleEndian 1 4 ++ littleEndian 4 a ++ littleEndian 4 b ++ littleEndian 4 c ++ littleEndian 4 d
-
--- each coordinate of the vertices before this one is a number
-abbrev pub AllNumbers : Size → List ℕ → List Float → Spacing → ℕ → Type 0
-AllNumbers n words offsets spacing count = (v a : ℕ) → v < count → a < 3 → Number (placeOn n words offsets spacing v a)

@@ -14,8 +14,8 @@ ghost use Rattle.block.specs.Size.{sizeOf};
 ghost use Rattle.ply.specs.Rows.{goodSpacing, spacingRow};
 ghost use Rattle.ply.specs.File.{header, millimetres, double, vertexBytes, faceBytes, plyFile};
 ghost use Rattle.ply.specs.Answer.{faceRows, plyVerdict, PlyWritten};
-ghost use Rattle.ply.specs.Words.{headerLength, fileLength};
-ghost use Rattle.ply.specs.Steps.{Number, xOf, yOf, zOf, threeDoubles, indexList, AllNumbers};
+ghost use Rattle.ply.specs.Words.{headerLength, fileLength, Number, AllNumbers};
+ghost use Rattle.ply.specs.Steps.{xOf, yOf, zOf, threeDoubles, indexList};
 
 // Millimetres from one sample to the next, along each axis.
 pub struct Spacing {

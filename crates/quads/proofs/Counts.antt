@@ -11,7 +11,8 @@ use lib.Dec.{ltb}
 use lib.ListN.{length, length-append}
 use Rattle.laws.specs.Below.{below}
 use Rattle.laws.specs.Bits.{bit, holds}
-use Rattle.laws.specs.Pack.{pack, total}
+use Rattle.laws.specs.Counting.{total}
+use Rattle.laws.specs.Pack.{pack}
 use Rattle.laws.proofs.Bits.{bit-le}
 use Rattle.laws.proofs.Pack.{pack-lt}
 use Rattle.laws.proofs.Words.{digit-holds, word-of, word-ones}

@@ -2,7 +2,7 @@
 -- crossed.
 -- Assumes nothing.
 use mathlib.Core.Path.{_≡_, refl, sym, ap, _∙_}
-use mathlib.Core.Bool.{Bool, true, false, _&&_, and-false}
+use mathlib.Core.Bool.{Bool, true, false, _&&_, and-true, and-false}
 use mathlib.Core.List.{List}
 use Prim.Native.Nat.{ℕ, _+_, _*_, _-_, _≤_, _<_}
 use native.Mathlib.Omega.{arith}
@@ -21,23 +21,14 @@ use Rattle.mesh_rule.specs.Grid.{between, inner, crossedFrom}
 use Rattle.mesh_rule.proofs.Inner.{Mid, mid-between}
 use Rattle.signs.specs.Signs.{Plane}
 use Rattle.planes.specs.Planes.{alongX, alongY, alongZ, limitOf, innerOf}
-use Rattle.planes.proofs.Edges.{along-y-is, along-z-is, next-word, along-x-word}
-use Rattle.planes.proofs.Masks.{word-inner, below-last}
-use Rattle.signs.proofs.Planes.{word-at}
+use Rattle.planes.proofs.Edges.{along-y-is, along-z-is, along-x-word}
+use Rattle.planes.proofs.Masks.{word-inner, below-last, not-between}
+use Rattle.signs.proofs.Planes.{word-at, next-word}
 use Rattle.quads.specs.declared.Along.{Along}
 use Rattle.quads.specs.declared.Along.the-variants.{AxisX, AxisY, AxisZ}
 use Rattle.quads.specs.Edges.{alongAxis, crossedOn, firstRow, RowIn, Planes, edgesOf}
 
--- ---- tests
-
-and-true : (a : Bool) → (a && true) ≡ a
-and-true true = refl
-and-true false = refl
-
 -- ---- which edges of a row are inner
-
-not-between : (n c : ℕ) → n ≤ c + 1 → between n c ≡ false
-not-between n c h = rw (le-ltb (c + 1) n h) (and-false (ltb 0 c))
 
 -- none past the row's end
 pub inner-past : (n : Size) (axis : Axis) (x j k : ℕ) → n .nx ≤ x + 1 → inner n axis x j k ≡ false

@@ -7,7 +7,6 @@ use Prim.Native.Nat.{ℕ, zero, suc, _+_, _*_, _-_, _/_, _%_, _^_, _≤_, _<_}
 use native.Mathlib.Nat.{mod-eq-of-lt}
 use native.Mathlib.Omega.{arith}
 use lib.Bits.{bitOr}
-use lib.Dec.{eqb}
 use lib.ListN.{length, getD, length-append, length-map}
 use lib.Pow.{field, mod-mod-pow}
 use Rattle.laws.specs.Below.{below}
@@ -15,7 +14,7 @@ use Rattle.laws.specs.Bits.{bit, holds}
 use Rattle.laws.proofs.Below.{below-add, at-most}
 use Rattle.laws.proofs.Bits.{holds-none}
 use Rattle.laws.proofs.Index.{index-lt}
-use Rattle.laws.proofs.Words.{or-digit}
+use Rattle.laws.proofs.Words.{or-digit, digit-holds}
 use Rattle.block.specs.declared.Cut.{Cut}
 use Rattle.block.specs.declared.Size.{Size}
 use Rattle.block.specs.Numbering.{cubeNumber, cubeCount}
@@ -48,17 +47,6 @@ low-digit z e h =
   where
     parts : e < 16 → 16 ≡ 15 - e + 1 + e
     parts h = omega arith
-
-digit-is : (m e : ℕ) → m / 2 ^ e % 2 ≡ bit (holds m e)
-digit-is m e = go (m / 2 ^ e % 2) (less (m / 2 ^ e))
-  where
-    less : (x : ℕ) → x % 2 < 2
-    less x = omega arith
-
-    go : (d : ℕ) → d < 2 → d ≡ bit (eqb d 1)
-    go zero h = refl
-    go (suc zero) h = refl
-    go (suc (suc d)) h = absurd (omega arith)
 
 -- the two digits of the one that holds, of one to four
 one-of : (p : Bool) → bit p + 0 ≡ 1 → _≡_ {A = ℕ} (cond p 0 1) 0
@@ -96,7 +84,7 @@ four-of false false false false e = absurd (omega arith)
 
 -- the digits of two words joined
 or-digits : (a b e : ℕ) → bitOr a b / 2 ^ e % 2 ≡ bitOr (bit (holds a e)) (bit (holds b e))
-or-digits a b e = or-digit a b e ∙ ap₂ bitOr (digit-is a e) (digit-is b e)
+or-digits a b e = or-digit a b e ∙ ap₂ bitOr (digit-holds a e) (digit-holds b e)
 
 none-holds : (e : ℕ) → bit (holds 0 e) ≡ 0
 none-holds e = rw (holds-none e)

@@ -7,7 +7,7 @@ use mathlib.Core.List.{List}
 use lib.Bits.{bitAnd}
 use lib.Count.{ones}
 use lib.ListN.{length}
-use Rattle.laws.specs.Pack.{total}
+use Rattle.laws.specs.Counting.{total}
 use Rattle.block.specs.declared.Cut.{Cut}
 use Rattle.block.specs.declared.Size.{Size}
 use Rattle.block.specs.Numbering.{Axis, X, Y, Z}

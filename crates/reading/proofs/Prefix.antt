@@ -5,7 +5,7 @@ use mathlib.Core.Path.{_≡_, refl, ap, ap₂}
 use mathlib.Core.Logic.{_⊎_, inl, inr}
 use mathlib.Core.Bool.{cond}
 use mathlib.Core.List.{List, [], _∷_, _++_}
-use native.Mathlib.Nat.{mul-le-mul, div-lt-iff-lt-mul, mod-lt, zero-mul, not-suc-le-zero, mul-comm}
+use native.Mathlib.Nat.{mul-le-mul, div-lt-iff-lt-mul, mod-lt, mul-comm}
 use native.Mathlib.Omega.{arith}
 use lib.Dec.{eqb}
 use borrow.Author.Tests.{eq-eqb}
@@ -14,6 +14,7 @@ use lib.Seq.{getD-take}
 use Rattle.laws.proofs.Below.{below-same}
 use Rattle.laws.proofs.Leading.{leading-same}
 use Rattle.laws.proofs.Tests.{lt-or-ge}
+use Rattle.laws.proofs.Index.{wide}
 use Rattle.block.specs.declared.Size.{Size}
 use Rattle.block.specs.declared.Checked.{Checked}
 use Rattle.block.specs.declared.Checked.the-variants.{Passes}
@@ -40,14 +41,10 @@ row-inside nx j hx hj = omega (arith, mul-le-mul (top j hj) (wide nx hx))
 -- a sample of such rows
 sample-inside : (nx rows i : ℕ) → nx ≤ 8 → rows ≤ 64 → i < nx * rows → rowPlace nx (i / nx) + 4 * (i % nx) + 4 ≤ 2130
 sample-inside nx rows i hx hr h =
-    let some = positive nx rows i h in
+    let some = wide nx rows i h in
     let row : i / nx < rows = div-lt-iff-lt-mul some .1 (rw (mul-comm nx rows) at h) in
     last nx (i / nx) (i % nx) (row-inside nx (i / nx) hx (omega (arith, row))) (mod-lt i some)
   where
-    positive : (nx rows i : ℕ) → i < nx * rows → 0 < nx
-    positive zero rows i h = absurd (not-suc-le-zero (rw (zero-mul rows) at h))
-    positive (suc nx) rows i h = omega arith
-
     last : (nx j r : ℕ) → rowPlace nx j + 4 * nx ≤ 2128 → r < nx → rowPlace nx j + 4 * r + 4 ≤ 2130
     last nx j r h l = omega arith
 

@@ -10,10 +10,9 @@ use native.Mathlib.Omega.{arith}
 use lib.Count.{ones}
 use lib.ListN.{length, length-map}
 use Rattle.laws.specs.Bits.{bit, holds}
-use Rattle.laws.specs.Counting.{count}
-use Rattle.laws.specs.Pack.{total}
+use Rattle.laws.specs.Counting.{count, total}
 use Rattle.laws.proofs.Counting.{count-le}
-use Rattle.laws.proofs.Sums.{moved, total-same, total-le, total-plus, total-times, total-nothing, boxed, boxed-same, boxed-plus, boxed-four, boxed-part, total-boxed, summed, length-below}
+use Rattle.laws.proofs.Sums.{moved, total-same, total-le, total-plus, total-times, total-nothing, boxed, boxed-same, boxed-plus, boxed-four, boxed-part, total-boxed, summed, length-total}
 use Rattle.laws.proofs.Words.{digit-holds, word-of, word-ones}
 use Rattle.block.specs.declared.Cut.{Cut}
 use Rattle.block.specs.declared.Size.{Size}
@@ -24,7 +23,7 @@ use Rattle.cube_rule.specs.Links.{Decider}
 use Rattle.cube_rule.specs.Rule.{holders}
 use Rattle.mesh_rule.specs.Grid.{stays, inner, crossedInner, cornersAt, cornersOf}
 use Rattle.mesh_rule.specs.Mesh.{quads, verticesOf, verticesBefore, vertices}
-use Rattle.mesh_rule.proofs.Inner.{Inner, inner-facts, Stays, stays-test}
+use Rattle.mesh_rule.proofs.Inner.{inner-facts, inner-stays, stays-test}
 use Rattle.mesh_rule.proofs.Quads.{quad-count}
 use Rattle.room.specs.Crossed.{crossedEdge, crossedAlong, crossedCount}
 use Rattle.room.proofs.Along.{edgeAt, edge-there, along-boxed}
@@ -91,11 +90,11 @@ ones-is : (m : ℕ) → m < 4096 → ones m ≡ total (λ (e : ℕ). bit (holds 
 ones-is m h = word-ones (word-of m 12 h) ∙ total-same _ _ 12 (λ e l. digit-holds m e)
 
 -- edges and loops, counted either way
-either-way : (ms : List ℕ) → total (λ (e : ℕ). holders e ms) 12 ≡ summed (λ (m : ℕ). total (λ (e : ℕ). bit (holds m e)) 12) ms
-either-way [] = total-nothing 12
-either-way (m ∷ ms) =
+counted-twice : (ms : List ℕ) → total (λ (e : ℕ). holders e ms) 12 ≡ summed (λ (m : ℕ). total (λ (e : ℕ). bit (holds m e)) 12) ms
+counted-twice [] = total-nothing 12
+counted-twice (m ∷ ms) =
     total-plus (λ (e : ℕ). bit (holds m e)) (λ (e : ℕ). holders e ms) 12
-    ∙ ap (λ (x : ℕ). total (λ (e : ℕ). bit (holds m e)) 12 + x) (either-way ms)
+    ∙ ap (λ (x : ℕ). total (λ (e : ℕ). bit (holds m e)) 12 + x) (counted-twice ms)
 
 three-each : (ms : List ℕ) → ((m : ℕ) → List·Memᴰ m ms → (3 ≤ ones m) × (ones m ≤ 12) × (m < 4096)) → 3 * length ms ≤ summed (λ (m : ℕ). total (λ (e : ℕ). bit (holds m e)) 12) ms
 three-each [] h = omega arith
@@ -111,7 +110,7 @@ module _ (D : Decider) (loopsOf : Cut → List ℕ → List ℕ) (laws : CubeLaw
       omega (
         arith,
         three-each (loopsOf cut cs) (λ m k. laws .sized cut cs m k),
-        either-way (loopsOf cut cs),
+        counted-twice (loopsOf cut cs),
         total-same (λ (e : ℕ). holders e (loopsOf cut cs)) (λ (e : ℕ). bit (crossedAt cut cs e)) 12 (λ e he. laws .each cut cs e he),
       )
 
@@ -119,7 +118,7 @@ module _ (D : Decider) (loopsOf : Cut → List ℕ → List ℕ) (laws : CubeLaw
   pub vertices-bound : (n : Size) (s : List ℕ) (cut : Cut) → 3 * length (vertices loopsOf n s cut) ≤ 4 * crossedCount n s cut
   unfolding vertices verticesBefore verticesOf
   vertices-bound n s cut =
-      rw (length-below (verticesOf loopsOf n s cut) (cubeCount n), total-times 3 (λ (c : ℕ). length (verticesOf loopsOf n s cut c)) (cubeCount n))
+      rw (length-total (verticesOf loopsOf n s cut) (cubeCount n), total-times 3 (λ (c : ℕ). length (verticesOf loopsOf n s cut c)) (cubeCount n))
       (le-trans
       (total-le _ _ (cubeCount n) (λ c lc. rw length-map (three-a-loop cut (cornersOf n s c))))
       (in-cubes n s cut))
@@ -133,13 +132,8 @@ pub quads-bound : (loopsOf : Cut → List ℕ → List ℕ) (n : Size) (s : List
 unfolding crossedCount
 quads-bound loopsOf n s cut = omega (arith, quad-count loopsOf n s cut, along-le X, along-le Y, along-le Z)
   where
-    inner-stays : (a : Axis) (i j k : ℕ) → Inner n a i j k → Stays n a i j k
-    inner-stays X i j k h = h .0
-    inner-stays Y i j k h = h .1
-    inner-stays Z i j k h = h .2
-
     along-le : (a : Axis) → count (crossedInner n s cut a) (sampleCount n) ≤ crossedAlong n s cut a
     along-le a =
         count-le (crossedInner n s cut a) (crossedEdge n s cut a) (sampleCount n)
         (λ p lp. weaker (inner n a (p % n .nx) (p / n .nx % n .ny) (p / n .nx / n .ny)) (stays n a (p % n .nx) (p / n .nx % n .ny) (p / n .nx / n .ny)) _
-        (λ h. stays-test n a _ _ _ (inner-stays a _ _ _ (inner-facts n a (p % n .nx) (p / n .nx % n .ny) (p / n .nx / n .ny) h))))
+        (λ h. stays-test n a _ _ _ (inner-stays n a _ _ _ (inner-facts n a (p % n .nx) (p / n .nx % n .ny) (p / n .nx / n .ny) h))))

@@ -1,14 +1,15 @@
 -- The most crossed edges: all edges of a block, and 50,135,040 of them with 256 samples along each axis. A checkerboard of any size reaches it.
 -- Assumes nothing.
 use Prim.Native.Nat.{ℕ, _+_, _-_, _*_, _/_, _%_, _≤_}
-use mathlib.Core.Path.{_≡_, refl, _∙_}
-use mathlib.Core.Bool.{Bool, true, false, _&&_}
+use mathlib.Core.Path.{_≡_, refl, sym, _∙_}
+use mathlib.Core.Bool.{Bool, true, _&&_, and-true}
 use mathlib.Core.List.{List}
 use native.Mathlib.Omega.{arith}
 use lib.Dec.{ltb}
 use Rattle.laws.specs.Counting.{count}
 use Rattle.laws.proofs.Counting.{count-same, count-le, count-all, count-box}
 use Rattle.laws.proofs.Index.{index-box}
+use Rattle.laws.proofs.Tests.{and-implied}
 use Rattle.block.specs.declared.Cut.{Cut}
 use Rattle.block.specs.declared.Size.{Size}
 use Rattle.block.specs.Numbering.{Axis, X, Y, Z, sampleCount, atSample}
@@ -16,9 +17,9 @@ use Rattle.block.specs.Size.{Limits}
 use Rattle.block.proofs.Products.{product-le}
 use Rattle.mesh_rule.specs.Boards.{cut, board, size}
 use Rattle.mesh_rule.specs.Grid.{InBox, stays, crossedFrom}
-use Rattle.mesh_rule.proofs.Checkerboard.{ends-differ}
+use Rattle.mesh_rule.proofs.Checkerboard.{edge-crossed}
 use Rattle.mesh_rule.proofs.Counts.{count-lower, bit-and-le}
-use Rattle.mesh_rule.proofs.Inner.{Stays, stays-fact}
+use Rattle.mesh_rule.proofs.Inner.{stays-fact}
 use Rattle.room.specs.Crossed.{crossedEdge, crossedAlong, crossedCount}
 
 -- ---- all edges of a block
@@ -39,22 +40,14 @@ yes c = true
 yes-count : (m : ℕ) → count yes m ≡ m
 yes-count m = count-all yes m (λ c l. refl)
 
-first : (a : Bool) → a ≡ (a && true && true)
-first true = refl
-first false = refl
-
-second : (a : Bool) → a ≡ (true && a && true)
-second true = refl
-second false = refl
-
 -- that many they are
 pub edge-count : (n : Size) (a : Axis) → count (edgeFrom n a) (sampleCount n) ≡ edgesAlong n a
 edge-count n X =
-    count-same _ _ (sampleCount n) (λ p l. first (ltb (p % n .nx + 1) (n .nx)))
+    count-same _ _ (sampleCount n) (λ p l. sym (and-true (ltb (p % n .nx + 1) (n .nx) && true) ∙ and-true (ltb (p % n .nx + 1) (n .nx))))
     ∙ count-box (λ (i : ℕ). ltb (i + 1) (n .nx)) yes yes (n .nx) (n .ny) (n .nz)
     ∙ rw (count-lower (n .nx), yes-count (n .ny), yes-count (n .nz))
 edge-count n Y =
-    count-same _ _ (sampleCount n) (λ p l. second (ltb (p / n .nx % n .ny + 1) (n .ny)))
+    count-same _ _ (sampleCount n) (λ p l. sym (and-true (ltb (p / n .nx % n .ny + 1) (n .ny))))
     ∙ count-box yes (λ (j : ℕ). ltb (j + 1) (n .ny)) yes (n .nx) (n .ny) (n .nz)
     ∙ rw (count-lower (n .ny), yes-count (n .nx), yes-count (n .nz))
 edge-count n Z =
@@ -85,17 +78,8 @@ module _ (n : Size) (s : List ℕ) (cut : Cut) where
 -- ---- on a checkerboard all are
 
 module _ (n : Size) where
-  edge-crossed : (a : Axis) (i j k : ℕ) → InBox n i j k → Stays n a i j k → crossedFrom n (board n) cut a i j k ≡ true
-  edge-crossed X i j k b h = ends-differ n i j k (i + 1) j k (b .0) (b .1) (b .2) h (b .1) (b .2) (omega arith)
-  edge-crossed Y i j k b h = ends-differ n i j k i (j + 1) k (b .0) (b .1) (b .2) (b .0) h (b .2) (omega arith)
-  edge-crossed Z i j k b h = ends-differ n i j k i j (k + 1) (b .0) (b .1) (b .2) (b .0) (b .1) h (omega arith)
-
   crossed-there : (a : Axis) (i j k : ℕ) → InBox n i j k → (stays n a i j k && crossedFrom n (board n) cut a i j k) ≡ stays n a i j k
-  crossed-there a i j k b = go (stays n a i j k) refl
-    where
-      go : (t : Bool) → stays n a i j k ≡ t → (t && crossedFrom n (board n) cut a i j k) ≡ t
-      go true e = edge-crossed a i j k b (stays-fact n a i j k e)
-      go false e = refl
+  crossed-there a i j k b = and-implied (stays n a i j k) _ (λ e. edge-crossed n a i j k b (stays-fact n a i j k e))
 
   along-board : (a : Axis) → crossedAlong n (board n) cut a ≡ edgesAlong n a
   along-board a =

@@ -4,6 +4,7 @@ use Prim.Native.Nat.{ℕ, zero, suc, _+_, _-_, _*_, _≤_, _<_}
 use mathlib.Core.Path.{_≡_, refl, ap, ap₂, sym, _∙_}
 use mathlib.Core.Bool.{Bool, _&&_}
 use mathlib.Core.List.{List}
+use native.Mathlib.Nat.{zero-add, add-comm}
 use native.Mathlib.Omega.{arith}
 use borrow.Author.Tests.{le-ltb}
 use lib.Bits.{bitAnd, bitXor}
@@ -11,7 +12,7 @@ use lib.Count.{ones}
 use lib.Dec.{ltb}
 use lib.ListN.{length, getD, take, drop}
 use Rattle.laws.specs.Bits.{bit, differ}
-use Rattle.laws.specs.Pack.{total}
+use Rattle.laws.specs.Counting.{total}
 use Rattle.laws.proofs.Sums.{total-one, total-same, total-nothing, total-stop, total-mul}
 use Rattle.laws.proofs.Words.{Word, word-xor, word-ones, xor-tests}
 use Rattle.block.specs.declared.Cut.{Cut}
@@ -19,11 +20,12 @@ use Rattle.block.specs.declared.Size.{Size}
 use Rattle.block.specs.Numbering.{X, Y, Z}
 use Rattle.mesh_rule.specs.Grid.{metal, crossedFrom}
 use Rattle.signs.specs.Signs.{Plane, rowSign}
-use Rattle.signs.proofs.Planes.{word-at}
+use Rattle.signs.specs.Windows.{Part}
+use Rattle.signs.proofs.Planes.{word-at, next-word}
 use Rattle.signs.proofs.Rows.{row-in}
 use Rattle.signs.proofs.Windows.{part-of}
 use Rattle.planes.specs.Planes.{alongX, alongY, alongZ, limitOf}
-use Rattle.planes.proofs.Edges.{next-word, along-x-word}
+use Rattle.planes.proofs.Edges.{along-x-word}
 use Rattle.planes.proofs.Masks.{below-last}
 use Rattle.room.specs.Steps.{differingBits, limitsOf, rowX, planeX, planeY, planeZ}
 use Rattle.room.proofs.Along.{edge-there, fromRow, fromPlane}
@@ -37,30 +39,25 @@ rows-lent a ny low few room =
     let q = part-of a 5 (5 * ny) (5 * (ny - 1)) (omega arith) (omega arith) in
     (omega (arith, p .long), q .long ∙ sym (p .long))
 
+-- the front of a list and a part of another: in how many bits they differ
+differing-parts : {a b u v : List ℕ} (p m : ℕ) → Part a 0 m u → Part b p m v
+    → differingBits u v (length u) ≡ total (λ (q : ℕ). ones (bitXor (getD a q 0) (getD b (p + q) 0))) m
+differing-parts {a} {b} {u} {v} p m front part =
+    ap (differingBits u v) (front .long)
+    ∙ total-same (λ (x : ℕ). ones (bitXor (getD u x 0) (getD v x 0))) (λ (q : ℕ). ones (bitXor (getD a q 0) (getD b (p + q) 0))) m
+    (λ x l. ap₂ (λ (y z : ℕ). ones (bitXor y z)) (front .at x l ∙ ap (λ (y : ℕ). getD a y 0) (zero-add x)) (part .at x l))
+
 pub differing-rows : (a : List ℕ) (ny : ℕ) → 0 < ny → 5 * ny ≤ length a
     → differingBits (take (5 * (ny - 1) - 0) a) (take (5 * ny - 5) (drop 5 a)) (length (take (5 * (ny - 1) - 0) a)) ≡ planeY a ny
 differing-rows a ny low room =
-    let p = part-of a 0 (5 * (ny - 1)) (5 * (ny - 1)) (omega arith) (omega arith) in
-    let q = part-of a 5 (5 * ny) (5 * (ny - 1)) (omega arith) (omega arith) in
-    ap (differingBits (take (5 * (ny - 1) - 0) a) (take (5 * ny - 5) (drop 5 a))) (p .long)
-    ∙ total-same _ _ (5 * (ny - 1)) (λ x l. ap₂ (λ (u v : ℕ). ones (bitXor u v)) (p .at x l ∙ ap (λ (y : ℕ). getD a y 0) (here x)) (q .at x l ∙ ap (λ (y : ℕ). getD a y 0) (next x)))
-  where
-    here : (x : ℕ) → 0 + x ≡ x
-    here x = omega arith
-
-    next : (x : ℕ) → 5 + x ≡ x + 5
-    next x = omega arith
+    differing-parts 5 (5 * (ny - 1)) (part-of a 0 (5 * (ny - 1)) (5 * (ny - 1)) (omega arith) (omega arith)) (part-of a 5 (5 * ny) (5 * (ny - 1)) (omega arith) (omega arith))
+    ∙ total-same _ _ (5 * (ny - 1)) (λ q _. ap (λ (y : ℕ). ones (bitXor (getD a q 0) (getD a y 0))) (add-comm 5 q))
 
 pub differing-planes : (a b : List ℕ) (ny : ℕ) → 5 * ny ≤ length a → 5 * ny ≤ length b
     → differingBits (take (5 * ny - 0) a) (take (5 * ny - 0) b) (length (take (5 * ny - 0) a)) ≡ planeZ a b ny
 differing-planes a b ny fa fb =
-    let p = part-of a 0 (5 * ny) (5 * ny) (omega arith) (omega arith) in
-    let q = part-of b 0 (5 * ny) (5 * ny) (omega arith) (omega arith) in
-    ap (differingBits (take (5 * ny - 0) a) (take (5 * ny - 0) b)) (p .long)
-    ∙ total-same _ _ (5 * ny) (λ x l. ap₂ (λ (u v : ℕ). ones (bitXor u v)) (p .at x l ∙ ap (λ (y : ℕ). getD a y 0) (here x)) (q .at x l ∙ ap (λ (y : ℕ). getD b y 0) (here x)))
-  where
-    here : (x : ℕ) → 0 + x ≡ x
-    here x = omega arith
+    differing-parts 0 (5 * ny) (part-of a 0 (5 * ny) (5 * ny) (omega arith) (omega arith)) (part-of b 0 (5 * ny) (5 * ny) (omega arith) (omega arith))
+    ∙ total-same _ _ (5 * ny) (λ q _. ap (λ (y : ℕ). ones (bitXor (getD a q 0) (getD b y 0))) (zero-add q))
 
 -- ---- in a block
 

@@ -1,11 +1,11 @@
 -- The crossed edges plane by plane: those within the planes up to one, and those from each plane before it to the next.
 -- Assumes nothing.
-use Prim.Native.Nat.{ℕ, _+_, _-_, _<_}
+use Prim.Native.Nat.{ℕ, _+_, _<_}
 use mathlib.Core.Path.{_≡_, ap, ap₂, sym, _∙_}
 use mathlib.Core.List.{List}
 use native.Mathlib.Omega.{arith}
 use borrow.Author.Tests.{le-ltb}
-use Rattle.laws.specs.Pack.{total}
+use Rattle.laws.specs.Counting.{total}
 use Rattle.laws.proofs.Sums.{total-none, total-one, total-same, total-plus, total-nothing}
 use Rattle.block.specs.declared.Cut.{Cut}
 use Rattle.block.specs.declared.Size.{Size}
@@ -22,12 +22,12 @@ module _ (n : Size) (s : List ℕ) (cut : Cut) where
   abbrev within : ℕ → ℕ
   within k = total (λ (z : ℕ). fromPlane n s cut X z + fromPlane n s cut Y z) k
 
-  abbrev between : ℕ → ℕ
-  between k = total (fromPlane n s cut Z) k
+  abbrev upward : ℕ → ℕ
+  upward k = total (fromPlane n s cut Z) k
 
   -- all up to the plane k
   abbrev pub tally : ℕ → ℕ
-  tally k = within (k + 1) + between k
+  tally k = within (k + 1) + upward k
 
   module _ (l : Limits n) where
     in-plane : {a : List ℕ} (k r nx ny : ℕ) → nx ≡ n .nx → ny ≡ n .ny → Plane n s cut k a → r ≡ planeX a nx ny + planeY a ny → r ≡ fromPlane n s cut X k + fromPlane n s cut Y k
@@ -60,7 +60,7 @@ module _ (n : Size) (s : List ℕ) (cut : Cut) where
           arith,
           ap within e,
           total-plus (fromPlane n s cut X) (fromPlane n s cut Y) (n .nz),
-          ap between (sym e) ∙ total-one (fromPlane n s cut Z) k,
+          ap upward (sym e) ∙ total-one (fromPlane n s cut Z) k,
           last,
           along-boxed n s cut X,
           along-boxed n s cut Y,

@@ -5,7 +5,7 @@ use mathlib.Core.List.{List, [], _∷_}
 use lib.Bits.{bitAnd, bitXor}
 use lib.Count.{ones}
 use lib.ListN.{getD}
-use Rattle.laws.specs.Pack.{total}
+use Rattle.laws.specs.Counting.{total}
 use Rattle.planes.specs.Planes.{alongX, alongY, alongZ, limitOf}
 
 -- in how many bits the first m words of two lists differ

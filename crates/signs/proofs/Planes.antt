@@ -68,10 +68,16 @@ module _ {n : Size} {s : List ℕ} {cut : Cut} {k : ℕ} {ws : List ℕ} (p : Pl
   pub sign-bit : (i : ℕ) → w < 5 → i < 64 → 64 * w + i < n .nx → getD ws (5 * j + w) 0 / 2 ^ i % 2 ≡ bit (metal n s cut (64 * w + i) j k)
   sign-bit i hw hi hx = word-bit (word-at hw) i hi ∙ row-in n s cut j k (64 * w + i) hx
 
--- the row above, five words further on
-pub row-sign-bit : {n : Size} {s : List ℕ} {cut : Cut} {k : ℕ} {ws : List ℕ} (p : Plane n s cut k ws) (j w i : ℕ) → j + 1 < n .ny → w < 4 → i < 64 → 64 * w + i < n .nx
-    → getD ws (5 * j + w + 5) 0 / 2 ^ i % 2 ≡ bit (metal n s cut (64 * w + i) (j + 1) k)
-row-sign-bit {n} {s} {cut} {k} {ws} p j w i hj hw hi hx = ap (λ (q : ℕ). getD ws q 0 / 2 ^ i % 2) five ∙ sign-bit p (j + 1) w hj i (omega arith) hi hx
-  where
-    five : 5 * j + w + 5 ≡ 5 * (j + 1) + w
-    five = omega arith
+-- the next row, five words further on
+module _ {n : Size} {s : List ℕ} {cut : Cut} {k : ℕ} {ws : List ℕ} (p : Plane n s cut k ws) (j w : ℕ) (hj : j + 1 < n .ny) (hw : w < 5) where
+  pub next-word : Word (getD ws (5 * j + w + 5) 0) (λ i. rowSign n s cut (j + 1) k (64 * w + i)) 64
+  next-word = record {
+    is = ap (λ (q : ℕ). getD ws q 0) place ∙ p .word (j + 1) w hj hw;
+    bit = λ i. row-bit n s cut (j + 1) k (64 * w + i);
+  }
+    where
+      place : 5 * j + w + 5 ≡ 5 * (j + 1) + w
+      place = omega arith
+
+  pub next-bit : (i : ℕ) → i < 64 → 64 * w + i < n .nx → getD ws (5 * j + w + 5) 0 / 2 ^ i % 2 ≡ bit (metal n s cut (64 * w + i) (j + 1) k)
+  next-bit i hi hx = word-bit next-word i hi ∙ row-in n s cut (j + 1) k (64 * w + i) hx

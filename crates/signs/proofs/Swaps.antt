@@ -2,7 +2,7 @@
 -- Three swaps exchange the rows and columns of a word of eight rows of eight bits: the place that each bit comes from is computed.
 -- Assumes nothing.
 use mathlib.Core.Path.{_≡_, refl, sym, ap, ap₂, _∙_}
-use mathlib.Core.Bool.{Bool, true, false, not, _&&_, cond, true≢false}
+use mathlib.Core.Bool.{Bool, true, false, not, _&&_, and-comm, cond, true≢false}
 use mathlib.Core.Logic.{_⊎_, inl, inr}
 use Prim.Native.Nat.{ℕ, _+_, _-_, _*_, _/_, _%_, _^_, _≤_, _<_}
 use native.Mathlib.Nat.{mul-assoc, mod-lt}
@@ -87,8 +87,8 @@ abbrev from : ℕ → ℕ → ℕ → ℕ
 from s b i = cond (holds b i) (s + i) (cond (partner s b i) (i - s) i)
 
 -- the place i is not both under the mask and a partner, and its bit comes from within the word
-abbrev apart : ℕ → ℕ → ℕ → Bool
-apart s b i = not (holds b i && partner s b i) && ltb (from s b i) 64
+abbrev swappable : ℕ → ℕ → ℕ → Bool
+swappable s b i = not (holds b i && partner s b i) && ltb (from s b i) 64
 
 -- a bit, turned over where it differs from its partner: y the bit, p the one above it, m the one below it
 turned : (y p m u v : Bool) → not (u && v) ≡ true → differ (differ y (u && differ y p)) (v && differ m y) ≡ cond u p (cond v m y)
@@ -113,18 +113,12 @@ turned y p m false false e = go y
     go true = refl
     go false = refl
 
-and-swap : (a b : Bool) → (a && b) ≡ (b && a)
-and-swap true true = refl
-and-swap true false = refl
-and-swap false true = refl
-and-swap false false = refl
-
 module _ (s b y : ℕ) where
   -- the bits that are turned over, at their own places
   moved-holds : (i : ℕ) → holds (moved s b y) i ≡ (holds b i && differ (holds y i) (holds y (s + i)))
   moved-holds i =
       and-holds (bitXor y (y / 2 ^ s)) b i
-      ∙ and-swap (holds (bitXor y (y / 2 ^ s)) i) (holds b i)
+      ∙ and-comm (holds (bitXor y (y / 2 ^ s)) i) (holds b i)
       ∙ ap (λ (x : Bool). holds b i && x) (xor-holds y (y / 2 ^ s) i ∙ ap (differ (holds y i)) (right-holds y s i))
 
   -- and at the places of their partners
@@ -190,7 +184,7 @@ three-back i = from 7 singles (two-back i)
 -- no place on the way is both under a mask and a partner, and the bit comes from the place with row and column exchanged
 abbrev right : ℕ → Bool
 right i =
-    apart 28 sixteens i && (apart 14 fours (one-back i) && (apart 7 singles (two-back i) && eqb (three-back i) (8 * (i % 8) + i / 8)))
+    swappable 28 sixteens i && (swappable 14 fours (one-back i) && (swappable 7 singles (two-back i) && eqb (three-back i) (8 * (i % 8) + i / 8)))
 
 -- that is so of all 64 places: computed
 all-right : T (below 64 right)

@@ -4,7 +4,7 @@ use native.Mathlib.Omega.{arith}
 use Prim.Native.Nat.{_/_}
 use lib.ListN.{length}
 use Rattle.block.specs.Size.{sizeOf}
-use Rattle.ply.specs.Steps.{AllNumbers}
+use Rattle.ply.specs.Words.{AllNumbers}
 use Rattle.ply.proofs.Accepted.{Accepted, accepted-is, all-numbers}
 use Rattle.ply.proofs.Files.{file-put}
 use borrow.Author.Needs.{needs}

@@ -6,7 +6,7 @@ use mathlib.Core.Path.{_≡_, sym, ap, _∙_}
 use Prim.Native.Nat.{ℕ, _-_, _*_, _≤_}
 use lib.Count.{ones}
 use denote.Ref.{now}
-use Rattle.laws.specs.Pack.{total}
+use Rattle.laws.specs.Counting.{total}
 use Rattle.laws.proofs.Sums.{total-none, total-one}
 use Rattle.quads.specs.Edges.{wordsIn, edgesOf}
 use Rattle.quads.proofs.count_row.Statement.{statement}

@@ -1,6 +1,7 @@
 -- `differing` meets its contract. The loop's invariant: m is the sum over the first q words. The measure is what is left of the words.
 -- Assumes nothing.
 use borrow.Author.Needs.{needs}
+use native.Mathlib.Nat.{le-antisymm}
 use native.Mathlib.Omega.{arith}
 use mathlib.Core.Path.{_≡_, sym, ap, _∙_}
 use Prim.Native.Nat.{ℕ, _-_, _*_, _≤_}
@@ -59,10 +60,7 @@ returns : tie.Need-returns Inv-loop μ-loop
 returns c =
     let a = c .before .before .before .before .args in
     let h = c .before .loop in
-    (h .inv .2 ∙ ap (differingBits (now (a .a)) (now (a .b))) (all (h .inv .0) (c .loop-test .left)), omega arith)
-  where
-    all : {q n : ℕ} → q ≤ n → n ≤ q → q ≡ n
-    all p r = omega arith
+    (h .inv .2 ∙ ap (differingBits (now (a .a)) (now (a .b))) (le-antisymm (h .inv .0) (c .loop-test .left)), omega arith)
 
 pub differing-spec : {M : Type 1} → statement M
 differing-spec =

@@ -1,12 +1,13 @@
 -- `plane_edges` meets its contract. The loop's invariant: m is the sum over the rows before j. The measure is what is left of the rows.
 -- Assumes nothing.
 use borrow.Author.Needs.{needs}
+use native.Mathlib.Nat.{le-antisymm}
 use native.Mathlib.Omega.{arith}
 use mathlib.Core.Path.{_≡_, sym, ap₂, _∙_}
 use mathlib.Core.List.{List, [], _∷_}
 use Prim.Native.Nat.{ℕ, _-_, _*_, _≤_}
 use denote.Ref.{now}
-use Rattle.laws.specs.Pack.{total}
+use Rattle.laws.specs.Counting.{total}
 use Rattle.laws.proofs.Sums.{total-none, total-one}
 use Rattle.room.specs.Steps.{limitsOf, rowX}
 use Rattle.room.proofs.Planes.{rows-lent, differing-rows}
@@ -49,12 +50,9 @@ returns c =
     let l = c .before .before .before .before in
     let s = start (l .before) in
     let h = l .loop in
-    let x = h .inv .2 ∙ ap₂ (λ (w : List ℕ) (j : ℕ). total (rowX (now (s .args .a)) w) j) (limits-are (l .before)) (all (h .inv .0) (c .before .before .before .loop-test .left)) in
+    let x = h .inv .2 ∙ ap₂ (λ (w : List ℕ) (j : ℕ). total (rowX (now (s .args .a)) w) j) (limits-are (l .before)) (le-antisymm (h .inv .0) (c .before .before .before .loop-test .left)) in
     let y = c .differing .ensures .0 ∙ differing-rows (s .args .a .now) (s .args .ny) (s .pre .1) (omega (arith, s .pre)) in
     (omega (arith, x, y), omega (arith, h .inv .1, h .inv .0, s .pre, c .differing .ensures .1))
-  where
-    all : {j ny : ℕ} → j ≤ ny → ny ≤ j → j ≡ ny
-    all p r = omega arith
 
 pub plane-edges-spec : {M : Type 1} → statement M
 plane-edges-spec =

@@ -1,6 +1,7 @@
 -- `row_edges` meets its contract. The loop's invariant: m is the sum over the first w words of the row. The measure is what is left of the four.
 -- Assumes nothing.
 use borrow.Author.Needs.{needs}
+use native.Mathlib.Nat.{le-antisymm}
 use native.Mathlib.Omega.{arith}
 use mathlib.Core.Path.{_≡_, sym, ap, _∙_}
 use Prim.Native.Nat.{ℕ, _+_, _-_, _*_, _≤_}
@@ -8,7 +9,7 @@ use lib.Bits.{bitAnd}
 use lib.Count.{ones}
 use lib.ListN.{getD}
 use denote.Ref.{now}
-use Rattle.laws.specs.Pack.{total}
+use Rattle.laws.specs.Counting.{total}
 use Rattle.laws.proofs.Sums.{total-none, total-one}
 use Rattle.planes.specs.Planes.{alongX}
 use Rattle.room.proofs.row_edges.Statement.{statement}
@@ -38,10 +39,7 @@ returns : tie.Need-returns Inv-loop μ-loop
 returns c =
     let a = c .before .before .before .before .args in
     let h = c .before .loop in
-    (h .inv .2 ∙ ap (total (λ (w : ℕ). ones (bitAnd (alongX (now (a .a)) (5 * a .j + w)) (getD (now (a .limits)) w 0)))) (all (h .inv .0) (c .loop-test .left)), omega arith)
-  where
-    all : {w : ℕ} → w ≤ 4 → 4 ≤ w → w ≡ 4
-    all p r = omega arith
+    (h .inv .2 ∙ ap (total (λ (w : ℕ). ones (bitAnd (alongX (now (a .a)) (5 * a .j + w)) (getD (now (a .limits)) w 0)))) (le-antisymm (h .inv .0) (c .loop-test .left)), omega arith)
 
 pub row-edges-spec : {M : Type 1} → statement M
 row-edges-spec =
