@@ -17,10 +17,10 @@
      the function says. If the place is shorter, as many are written as it has room for. What lies behind is kept.
 
    IN WHICH ORDER
-   parsniprow_counts says how long the buffers of a mesh must be, or parsniprow_crossed which lengths are always enough.
-   parsniprow_mesh fills them. Then parsniprow_closed_with, parsniprow_pieces and parsniprow_ply may be asked about the
-   mesh. The other questions stand by themselves: parsniprow_ceilings, parsniprow_edge, parsniprow_cube and
-   parsniprow_closed.
+   parsniprow_counts says how long the buffers of a mesh must be. Or ask parsniprow_crossed, which takes less time: the
+   lengths that are reserved by its answer are enough for the same block and threshold. parsniprow_mesh fills the
+   buffers. Then parsniprow_closed_with, parsniprow_pieces and parsniprow_ply may be asked about the mesh. The other
+   questions stand by themselves: parsniprow_ceilings, parsniprow_edge, parsniprow_cube and parsniprow_closed.
 
    REFUSALS
    What cannot be answered is refused by number. Each function says which numbers it tries, and in which order; the
@@ -52,13 +52,16 @@
      24      an offset of a vertex is not      lowest such vertex
              from 0 to 1
 
-   A value above 4294967295 is given as that. Number 4 is given by nothing any more.
+   A value above 4294967295 is given as that. Numbers 8 to 12 are of the small program and not of the library. Number 4
+   is given by nothing any more.
 
    GREY VALUES
    A sample is metal if it is at least the threshold t, else hollow. Samples stand x fastest: sample (i, j, k) has index
-   i + nx * (j + ny * k). 65535 is the detector's ceiling. It counts as metal, and what the detector saw there is not
-   known. So each vertex whose cube has a corner at 65535 carries a mark: bit 12 (4096) of its word. Counts show no
-   mark. A ceiling with metal all round leaves no vertex and so no mark: parsniprow_ceilings counts every one.
+   i + nx * (j + ny * k). Eight neighbouring samples are the corners of a cube, and the box is what all cubes fill.
+   65535 is the detector's ceiling. It counts as metal, and what the detector saw there is not known. So each vertex
+   whose cube has a corner at 65535 carries a mark: bit 12 (4096) of its word. Neither the counts nor the number of
+   crossed edges shows a mark. A ceiling with metal all round leaves no vertex and so no mark: parsniprow_ceilings
+   counts every one.
 
    THE MESH
    An edge joins two samples that are neighbours along x, y or z; its lower end has the smaller coordinate. It is
@@ -102,22 +105,26 @@ void parsniprow_cube(uint16_t c0, uint16_t c1, uint16_t c2, uint16_t c3, uint16_
                      uint16_t c7, uint16_t t, uint32_t *words, size_t words_len, double *offsets, size_t offsets_len,
                      uint32_t *answer, size_t answer_len);
 
-/* How many edges of a block are crossed, those on the faces of the box too. This bounds the size of the mesh, and is
-   found in less time than the counts. At most 50135040. With E crossed edges a mesh has at most 4 * E / 3 vertices,
-   rounded down, and at most E quads. So buffers of these lengths are never refused with 5 or 6 by parsniprow_mesh, for
-   the same block and threshold; v is 4 * E / 3, and 4 * E fits into 32 bits:
-     words    2 * v items
-     offsets  3 * v items
-     quads    4 * E items
+/* How many edges of a block are crossed, those on the faces of the box too. There are at most 50135040. The answer is
+   found in less time than the counts. Let E be this number, and let v be 4 * E / 3, rounded down. The mesh of the same
+   block and threshold has at most v vertices and at most E quads. So parsniprow_mesh never refuses buffers of these
+   lengths with 5 or 6:
+     words        2 * v items
+     offsets      3 * v items
+     quads        4 * E items
    That is 32 bytes for each of v vertices and 16 for each of E quads. A mesh often takes less. The answer of
-   parsniprow_mesh says how much it took.
-     nx, ny, nz, samples, t  as of parsniprow_counts
+   parsniprow_mesh says how much it took. For what is asked of that mesh afterwards these lengths are enough:
+     work         v + 4 * E items, for parsniprow_closed_with
+     piece, size  v items each, for parsniprow_pieces
+     file         186 + 24 * v + 17 * E bytes, for parsniprow_ply
+   Each of these numbers fits into 32 bits. The arguments:
+     nx, ny, nz, samples, t  as of parsniprow_counts, which stands next
      answer  answer place, 3 items: 0, crossed edges, 0; or refusal (1, 2 or 3, tried in this order), its value, 0 */
 void parsniprow_crossed(uint32_t nx, uint32_t ny, uint32_t nz, const uint16_t *samples, size_t samples_len, uint16_t t,
                         uint32_t *answer, size_t answer_len);
 
-/* How many vertices and quads the mesh of a block has. At most 66325500 and 49354740. They do not show whether a vertex
-   carries the mark.
+/* How many vertices and quads the mesh of a block has. There are at most 66325500 and 49354740. They do not show
+   whether a vertex carries the mark.
      nx, ny, nz  axis lengths in samples, each 2 to 256
      samples     nx * ny * nz grey values
      t           the threshold, 1 to 65534
@@ -127,7 +134,7 @@ void parsniprow_counts(uint32_t nx, uint32_t ny, uint32_t nz, const uint16_t *sa
 
 /* The mesh of a block. Its time grows with the number of samples and with the size of the mesh. Ask parsniprow_counts
    first, which says the exact lengths: words takes 2 * vertices items, offsets 3 * vertices, quads 4 * quads. More room
-   is allowed. Or ask parsniprow_crossed, which says lengths that are always enough.
+   is allowed. Or ask parsniprow_crossed first, and reserve by its answer.
      nx, ny, nz, samples, t  as of parsniprow_counts
      words    room for 2 items a vertex: the number of its cube, then its word: bits 0 to 11 are the mask of its loop,
               bit 12 is the mark, set if a corner of its cube is 65535. Cube (i, j, k) has number
@@ -179,9 +186,10 @@ void parsniprow_closed_with(const uint32_t *quads, size_t quads_len, uint64_t *w
              vertex 0
      answer  answer place, 3 items: 0, pieces, links of the longest search; or refusal (7, 14 or 5, tried in this
              order), its value, 0
-   What the third number of the answer counts: the first vertex of each quad is joined with the second, the third and
-   the fourth, in the order of the list. Each join searches the tops of both vertices, link by link, and hangs the top
-   with fewer vertices under the other, or where both have as many, the higher under the lower. No link is shortened.
+   What the third number of the answer counts: at first each vertex is a top. The first vertex of each quad is joined
+   with the second, the third and the fourth, in the order of the list. Each join searches the tops of both vertices,
+   link by link. If these are two tops, one is hung under the other by a new link: the top of the piece with fewer
+   vertices, or where both have as many, the higher top. No link is shortened.
    The number is how many links the longest of these searches follows. It is 0 without quads, and at most the whole
    part of the base-two logarithm of n.
    The buffers keep their contents on refusal, and always behind the n items. */

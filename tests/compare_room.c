@@ -1,8 +1,9 @@
 /* Compares the crossed edges of blocks with the plain implementation. Once: blocks that were worked out by hand, and
    boards, boxes and grains, whose crossed edges a formula gives. With each block: its own samples; now and then a block
    with one long axis; and one about which one thing or several may be wrong, so that every refusal and every order of
-   two refusals occurs. Where the library counts the crossed edges, its vertices and quads must keep both bounds, and
-   its mesh must be accepted in rooms that are reserved by the crossed edges alone.
+   two refusals occurs. Where the library counts the crossed edges, its vertices and quads must keep both bounds. For
+   blocks of up to 300000 samples its mesh must be accepted in rooms that are reserved by the crossed edges alone, and
+   so must what is asked of a short mesh afterwards.
    Assumes nothing more than compare.h. */
 #include "compare.h"
 
@@ -15,6 +16,9 @@
 
 enum { REFUSALS = 3, ALL_DUE = 1 << 1 | 1 << 2 | 1 << 3, SAMPLE_EDGES = 6 };
 enum { MOST_BAD_SAMPLES = 8192, PRINTED_SAMPLES = 128, SHORT_BLOCK = 4000, MESHED_SAMPLES = 300000 };
+
+/* A short mesh: plain takes the square of its quads. FILE_REST is what a file has besides vertices and quads. */
+enum { SHORT_EDGES = 2048, SHORT_VERTICES = 4 * SHORT_EDGES / 3, FILE_REST = 186, FILE_VERTEX = 24, FILE_QUAD = 17 };
 
 /* The longest that is asked once, of 256 by 256 by 2 samples, and all that there can be. */
 enum { FIXED_SAMPLES = LONGEST_AXIS * LONGEST_AXIS * 2, MOST_SAMPLES = LONGEST_AXIS * LONGEST_AXIS * LONGEST_AXIS };
@@ -57,7 +61,7 @@ static struct {
     uint64_t blocks, by_hand, boards, boxes, grains, largest, own, long_blocks, bad_blocks;
     uint64_t last_sample[2], last_row[2], last_plane[2]; /* where ny is under 256, and where it is 256 */
     uint64_t none, all_on_faces, some_on_faces, no_multiple, ceilings, long_axes[3][LONG_AXES];
-    uint64_t most_vertices, most_of_many, most_quads, fewer_vertices, fewer_quads, meshed;
+    uint64_t most_vertices, most_of_many, most_quads, fewer_vertices, fewer_quads, meshed, asked_after;
     uint64_t answers[REFUSALS + 1], orders[REFUSALS + 1][REFUSALS + 1], all_three;
     uint64_t bad_axis[3], bad_axes, axis_short, axis_long, no_sample, one_less, one_more, zero, top;
 } tally;
@@ -215,6 +219,27 @@ static void run_mesh(const struct question *q)
     tally.meshed++;
 }
 
+/* What is asked of a short mesh afterwards, in memory that is reserved by the crossed edges alone. */
+static void ask_afterwards(const struct question *q)
+{
+    static uint64_t work[SHORT_VERTICES + 4 * SHORT_EDGES], length;
+    static uint32_t piece[SHORT_VERTICES], size[SHORT_VERTICES];
+    static uint8_t file[FILE_REST + FILE_VERTEX * SHORT_VERTICES + FILE_QUAD * SHORT_EDGES];
+    uint32_t closed[CLOSED_ANSWER], pieces[ANSWER], ply[ANSWER];
+    size_t edges = answer[1], vertices = 4 * edges / 3, quads_len = 4 * (size_t)counted[2];
+    asking("what is asked of a mesh in reserved rooms");
+    parsniprow_closed_with(start(&quads_place), quads_len, work, vertices + 4 * edges, closed, CLOSED_ANSWER);
+    parsniprow_pieces(counted[1], start(&quads_place), quads_len, piece, vertices, size, vertices, pieces, ANSWER);
+    parsniprow_ply(q->length[0], q->length[1], q->length[2], start(&words_place), 2 * (size_t)counted[1],
+                   start(&offsets_place), 3 * (size_t)counted[1], start(&quads_place), quads_len, 1.0, 1.0, 1.0, file,
+                   FILE_REST + FILE_VERTEX * vertices + FILE_QUAD * edges, &length, 1, ply, ANSWER);
+    asking("the comparison");
+    if (closed[0] != 0 || pieces[0] != 0 || ply[0] != 0)
+        if (first_to_fail("too little memory for what is asked of a mesh in reserved rooms"))
+            print_question(q);
+    tally.asked_after++;
+}
+
 /* After a long block, so that with short ones no long pages are opened and closed. */
 static void give_all_back(void)
 {
@@ -235,6 +260,8 @@ static void try_question(const struct question *question)
         if (question->samples_len <= MESHED_SAMPLES) {
             reserve_rooms(question);
             run_mesh(question);
+            if (answer[1] <= SHORT_EDGES && counted[2] <= SQUARE_QUADS)
+                ask_afterwards(question);
         }
     }
     if (question->samples_len > SHORT_BLOCK)
@@ -583,6 +610,7 @@ static void tally_answered(void)
     tally_case("fewer vertices", tally.fewer_vertices);
     tally_case("fewer quads", tally.fewer_quads);
     tally_case("meshes in reserved rooms", tally.meshed);
+    tally_case("and asked about", tally.asked_after);
 }
 
 static void tally_refused(void)

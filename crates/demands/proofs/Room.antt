@@ -1,11 +1,10 @@
 -- The question for room (document 02, Seven): what it refuses and accepts, that three times the vertices is at most four times its answer and the quads are at
--- most as many, and that buffers which are reserved by it are never too short.
-use Prim.Native.Nat.{ℕ, _*_, _≤_, _<_}
+-- most as many, and that buffers which are reserved by it are never too short, for the mesh and for what is asked of it afterwards.
+use Prim.Native.Nat.{ℕ, _+_, _*_, _/_, _≤_, _<_}
 use mathlib.Core.Path.{_≡_, refl, ap, _∙_}
 use mathlib.Core.Logic.{_↔_}
-use mathlib.Core.List.{List, [], _∷_}
+use mathlib.Core.List.{List, _∷_}
 use native.Mathlib.Omega.{arith}
-use borrow.Author.Tests.{le-leb}
 use lib.Ieee.{Float}
 use lib.ListN.{length, getD}
 use Rattle.laws.specs.Filled.{filled}
@@ -17,22 +16,28 @@ use Rattle.block.specs.Block.{blockRows, blockVerdict}
 use Rattle.block.specs.Grey.{cutOf}
 use Rattle.block.specs.Rows.{axisRow}
 use Rattle.block.specs.Size.{sizeOf}
-use Rattle.block.proofs.Order.{order-first, order-passes, order-last, orders-pass, accepted-exactly, refused-exactly}
+use Rattle.block.proofs.Order.{order-first, orders-pass, accepted-exactly, refused-exactly}
 use Rattle.block.proofs.Sizes.{axes-within}
 use Rattle.cube_rule.specs.Decider.{joined, loopsOf}
 use Rattle.cube_rule.proofs.Laws.{cube-laws}
 use Rattle.mesh.specs.declared.Counted.{Counted}
 use Rattle.mesh.specs.declared.Totals.{Totals}
-use Rattle.mesh.specs.Answer.{vertexCount, quadCount, countsOf, saidCounts, CountsAnswered, vertexRow, quadRow, bufferRows, meshVerdict, Meshed}
+use Rattle.mesh.specs.Answer.{vertexCount, quadCount, countsOf, saidCounts, CountsAnswered, bufferRows, meshVerdict, Meshed}
+use Rattle.mesh.proofs.BufferRows.{roomy}
 use Rattle.room.specs.declared.Edged.{Edged}
 use Rattle.room.specs.declared.Edged.the-variants as edged
 use Rattle.room.specs.Crossed.{crossedCount}
-use Rattle.room.specs.Answer.{saidCrossed, CrossedAnswered, Reserved}
+use Rattle.room.specs.Answer.{saidCrossed, CrossedAnswered}
 use Rattle.room.proofs.Bounds.{vertices-bound, quads-bound}
 use Rattle.room.proofs.Most.{most-edges}
+use Rattle.closed.specs.Chains.{wordsNeeded}
+use Rattle.file_bytes.specs.Bytes.{decimal}
+use Rattle.file_bytes.proofs.Decimal.{length-most}
+use Rattle.ply.specs.Words.{fileLength}
 use Rattle.parsniprow_c.specs.Told.{tellOver, CrossedTold, MeshTold}
 use Rattle.told.specs.Numbers.{toldCrossed, toldCounts}
-use Rattle.demands.specs.Answers.{NotRefused, MeshCall}
+use Rattle.demands.specs.Answers.{NotRefused, MeshCall, quadsWritten, Reserved}
+use Rattle.demands.proofs.Closing.{enough-after}
 use Rattle.demands.proofs.Numbers.{counts-numbers}
 use Rattle.demands.proofs.Places.{tell-at, none-told}
 use Rattle.demands.proofs.Refusals.{refuses-by, counts-accepts, mesh-accepts}
@@ -98,24 +103,29 @@ module _ (nx ny nz : ℕ) (s : List ℕ) (cut : Cut) (r : Edged) (promise : Cros
 
     -- ---- buffers that are reserved by it are never refused with 5 or 6, and so not at all
 
-    vertices-pass : (v words offsets : ℕ) → 2 * v ≤ words → 3 * v ≤ offsets → vertexRow v words offsets ≡ Passes
-    vertices-pass v words offsets p q = rw (le-leb (2 * v) words p, le-leb (3 * v) offsets q)
-
-    quads-pass : (q quads : ℕ) → 4 * q ≤ quads → quadRow q quads ≡ Passes
-    quads-pass q quads p = rw (le-leb (4 * q) quads p)
-
     rows-pass : (words offsets quads : ℕ) → Reserved e words offsets quads → meshVerdict nx ny nz s cut words offsets quads ≡ Passes
     rows-pass words offsets quads room =
         let n = sizeOf nx ny nz in
         orders-pass (axisRow nx ny nz ∷ blockRows n s cut) (bufferRows (countsOf n s cut) words offsets quads) passed
-        ∙ order-passes (vertexRow (vertexCount n s cut) words offsets) (quadRow (quadCount n s cut) quads ∷ [])
-        (vertices-pass (vertexCount n s cut) words offsets (omega (arith, few-vertices, room .words-long)) (omega (arith, few-vertices, room .offsets-long)))
-        ∙ order-last (quadRow (quadCount n s cut) quads)
-        ∙ quads-pass (quadCount n s cut) quads (omega (arith, few-quads, room .quads-long))
+        ∙ roomy (vertexCount n s cut) (quadCount n s cut) words offsets quads
+        (omega (arith, few-vertices, room .words-long)) (omega (arith, few-vertices, room .offsets-long)) (omega (arith, few-quads, room .quads-long))
 
     pub room-never-short : (w : List ℕ) (o : List Float) (q : List ℕ) (m : Counted) (w′ : List ℕ) (o′ : List Float) (q′ : List ℕ) → Reserved e (length w) (length o) (length q)
         → Meshed nx ny nz s cut w o q m w′ o′ q′ → saidCounts m ≡ accepted (countsOf (sizeOf nx ny nz) s cut)
     room-never-short w o q m w′ o′ q′ room p = mesh-accepts nx ny nz s cut w o q m w′ o′ q′ p (countsOf (sizeOf nx ny nz) s cut) .1 (rows-pass (length w) (length o) (length q) room, refl)
+
+    -- ---- and so much is enough for what is asked of that mesh afterwards: the words of the closed question, the vertices of pieces, the bytes of the file
+
+    few-digits : (n : ℕ) → n ≤ 4 * e / 3 → length (decimal n) ≤ 8
+    few-digits n h = length-most 8 n (omega arith) (omega (arith, h, crossed-at-most))
+
+    pub room-after : (a : MeshCall nx ny nz s cut)
+        → (wordsNeeded (quadsWritten a) ≤ 4 * e / 3 + 4 * e) × (a .counts .vertices ≤ 4 * e / 3) × (fileLength (a .counts .vertices) (a .counts .quads) ≤ 186 + 24 * (4 * e / 3) + 17 * e)
+    room-after a =
+        let b = room-enough-mesh a in
+        let v : a .counts .vertices ≤ 4 * e / 3 = omega (arith, b .0) in
+        let q : a .counts .quads ≤ 4 * e / 3 = omega (arith, b .1) in
+        (omega (arith, b, enough-after a), v, omega (arith, v, b .1, few-digits (a .counts .vertices) v, few-digits (a .counts .quads) q))
 
 -- ---- a C caller
 

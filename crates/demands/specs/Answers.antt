@@ -1,5 +1,5 @@
--- Words for what an entry point answered, and for what its lent buffers hold of a mesh.
-use Prim.Native.Nat.{ℕ, _*_, _<_}
+-- Words for what an entry point answered, for what its lent buffers hold of a mesh, and for buffers that are reserved before there is one.
+use Prim.Native.Nat.{ℕ, _*_, _/_, _<_, _≤_}
 use mathlib.Core.Path.{_≡_}
 use mathlib.Core.List.{List}
 use lib.Ieee.{Float}
@@ -31,6 +31,13 @@ pub record MeshCall (nx ny nz : ℕ) (s : List ℕ) (cut : Cut) : Type 0 where
 -- the quads that it wrote
 abbrev pub quadsWritten : {nx ny nz : ℕ} {s : List ℕ} {cut : Cut} → MeshCall nx ny nz s cut → List ℕ
 quadsWritten a = take (4 * a .counts .quads) (a .quads-after)
+
+-- buffers as a caller reserves them for e crossed edges, by their lengths: two words and three offsets for each of 4·e/3 vertices, four words for each of
+-- e quads
+pub record Reserved (e words offsets quads : ℕ) : Type 0 where
+  pub words-long : 2 * (4 * e / 3) ≤ words
+  pub offsets-long : 3 * (4 * e / 3) ≤ offsets
+  pub quads-long : 4 * e ≤ quads
 
 -- two meshes as the buffers hold them: the same cube for every vertex, and the same quads
 pub record SameMesh {nx ny nz : ℕ} {s s′ : List ℕ} {cut cut′ : Cut} (a : MeshCall nx ny nz s cut) (b : MeshCall nx ny nz s′ cut′) : Type 0 where
