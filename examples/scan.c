@@ -20,7 +20,7 @@
      ply BYTES                            how long the PLY file is, where one is asked for
      refused NUMBER value VALUE           there is no mesh, and no line of values or counts
      note SENTENCE                        what the answer does not mean, or what to do
-   With --room there is no mesh either. In place of the lines from vertices to ply it has:
+   With --room no mesh is made. In place of the lines from vertices to ply the record has:
      crossed COUNT                        how many edges of the block are crossed, those on the sides of the box too
      vertices-at-most COUNT               the mesh has no more: a vertex joins at least three crossed edges, and an edge
                                           is in at most four cubes
