@@ -1,3 +1,4 @@
+pub mod Three
 pub mod Along
 pub mod Planes
 pub mod Tallies

@@ -13,9 +13,9 @@ use Rattle.block.specs.Numbering.{X, Y, Z}
 use Rattle.block.specs.Size.{Limits}
 use Rattle.signs.specs.Signs.{Plane}
 use Rattle.room.specs.Crossed.{crossedCount}
-use Rattle.room.specs.Steps.{planeX, planeY, planeZ}
+use Rattle.room.specs.Steps.{planeEdges}
 use Rattle.room.proofs.Along.{fromPlane, along-boxed}
-use Rattle.room.proofs.Planes.{x-plane, y-plane, z-plane}
+use Rattle.room.proofs.Planes.{first-plane, next-plane}
 
 module _ (n : Size) (s : List ℕ) (cut : Cut) where
   -- within the planes before k, and from these to the next
@@ -30,24 +30,23 @@ module _ (n : Size) (s : List ℕ) (cut : Cut) where
   tally k = within (k + 1) + upward k
 
   module _ (l : Limits n) where
-    in-plane : {a : List ℕ} (k r nx ny : ℕ) → nx ≡ n .nx → ny ≡ n .ny → Plane n s cut k a → r ≡ planeX a nx ny + planeY a ny → r ≡ fromPlane n s cut X k + fromPlane n s cut Y k
-    in-plane {a} k r nx ny ex ey p e =
-        e
-        ∙ ap₂ (λ (x y : ℕ). planeX a x y + planeY a y) ex ey
-        ∙ ap₂ (λ (x y : ℕ). x + y) (x-plane n s cut (l .x-high) k p) (y-plane n s cut (l .x-high) k p (omega (arith, l .y-low)))
+    pub tally-first : {a : List ℕ} (r nx ny : ℕ) → nx ≡ n .nx → ny ≡ n .ny → Plane n s cut 0 a → r ≡ planeEdges a a nx ny → r ≡ tally 0
+    tally-first {a} r nx ny ex ey p e =
+        omega (
+          arith,
+          e ∙ ap₂ (planeEdges a a) ex ey ∙ first-plane n s cut (l .x-high) 0 p,
+          total-one (λ (z : ℕ). fromPlane n s cut X z + fromPlane n s cut Y z) 0,
+          total-none (λ (z : ℕ). fromPlane n s cut X z + fromPlane n s cut Y z),
+          total-none (fromPlane n s cut Z),
+        )
 
-    pub tally-first : {a : List ℕ} (r nx ny : ℕ) → nx ≡ n .nx → ny ≡ n .ny → Plane n s cut 0 a → r ≡ planeX a nx ny + planeY a ny → r ≡ tally 0
-    tally-first r nx ny ex ey p e =
-        omega (arith, in-plane 0 r nx ny ex ey p e, total-one (λ (z : ℕ). fromPlane n s cut X z + fromPlane n s cut Y z) 0, total-none (λ (z : ℕ). fromPlane n s cut X z + fromPlane n s cut Y z), total-none (fromPlane n s cut Z))
-
-    pub tally-next : {a b : List ℕ} (k m r d nx ny : ℕ) → nx ≡ n .nx → ny ≡ n .ny → k + 1 < n .nz → Plane n s cut k a → Plane n s cut (k + 1) b → m ≡ tally k
-        → r ≡ planeX b nx ny + planeY b ny → d ≡ planeZ a b ny → m + (r + d) ≡ tally (k + 1)
-    tally-next {a} {b} k m r d nx ny ex ey h p q e er ed =
+    pub tally-next : {a b : List ℕ} (k m r nx ny : ℕ) → nx ≡ n .nx → ny ≡ n .ny → k + 1 < n .nz → Plane n s cut k a → Plane n s cut (k + 1) b → m ≡ tally k
+        → r ≡ planeEdges a b nx ny → m + r ≡ tally (k + 1)
+    tally-next {a} {b} k m r nx ny ex ey h p q e er =
         omega (
           arith,
           e,
-          in-plane (k + 1) r nx ny ex ey q er,
-          ed ∙ ap (planeZ a b) ey ∙ z-plane n s cut (l .x-high) k p q h,
+          er ∙ ap₂ (planeEdges a b) ex ey ∙ next-plane n s cut (l .x-high) k p q h,
           total-one (λ (z : ℕ). fromPlane n s cut X z + fromPlane n s cut Y z) (k + 1),
           total-one (fromPlane n s cut Z) k,
         )

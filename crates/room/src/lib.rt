@@ -13,7 +13,8 @@ ghost use Rattle.block.specs.Size.{Limits};
 ghost use Rattle.block.specs.Steps.{Sampled};
 ghost use Rattle.room.specs.Crossed.{crossedCount};
 ghost use Rattle.room.specs.Answer.{saidCrossed, CrossedAnswered};
-ghost use Rattle.room.specs.Steps.{differingBits, rowX, planeX, planeY, planeZ};
+ghost use Rattle.room.specs.Steps.{wordY, rowEdges, planeEdges};
+ghost use lib.Count.{ones};
 
 // What the question for room answers: how many edges of the block are crossed, or a refusal.
 pub enum Edged {
@@ -21,42 +22,54 @@ pub enum Edged {
     Refused(Refusal),
 }
 
-// In how many bits two lists of words differ.
-fn differing(a: &[u64], b: &[u64]) -> usize
-    requires { ⌜ (length (now a) ≤ 1280) × (length (now b) ≡ length (now a)) ⌝ }
-    ensures { λ r. ⌜ r ≡ differingBits (now (a .entry)) (now (b .entry)) (length (now (a .entry))) ⌝ }
-    ensures { λ r. ⌜ r ≤ 81920 ⌝ }
+// The ones of three words together. The words are added bit by bit, to a word of sums and a word of carries, so the ones of two words are taken and not of
+// three.
+fn three_ones(x: u64, y: u64, z: u64) -> usize
+    ensures { λ r. ⌜ r ≡ ones x + ones y + ones z ⌝ }
+    ensures { λ r. ⌜ r ≤ 192 ⌝ }
 {
-    let n = a.len();
-    let mut m: usize = 0;
-    let mut q: usize = 0;
-    while q < n {
-        m += planes::ones_of(a[q] ^ b[q]);
-        q += 1;
-    }
-    m
+    let d = x ^ y;
+    let sums = planes::ones_of(d ^ z);
+    let carries = planes::ones_of((x & y) ^ (d & z));
+    sums + 2 * carries
 }
 
-// The crossed edges along x from row j of a plane; `limits` has the places of its words that have a next sample.
-fn row_edges(a: &[u64], limits: &[u64], j: usize) -> usize
-    requires { ⌜ (j < 256) × (length (now a) ≡ 1280) × (length (now limits) ≡ 4) ⌝ }
-    ensures { λ r. ⌜ r ≡ rowX (now (a .entry)) (now (limits .entry)) j ⌝ }
-    ensures { λ r. ⌜ r ≤ 256 ⌝ }
+// Bit i is set if the edge along y from sample i of word w of row j is crossed; none runs from the last row.
+fn word_y(b: &[u64], ny: usize, j: usize, w: usize) -> u64
+    requires { ⌜ (j < ny) × (ny ≤ 256) × (w < 4) × (length (now b) ≡ 1280) ⌝ }
+    ensures { λ r. ⌜ r ≡ wordY (now (b .entry)) ny j w ⌝ }
+{
+    if j + 1 < ny {
+        return planes::along_y(b, 5 * j + w);
+    }
+    0
+}
+
+// The crossed edges that belong to row j of the plane b: those along x and y from its samples, and those along z that come to them from the plane a below.
+// `limits` has the places of a row's words that have a next sample.
+fn row_edges(a: &[u64], b: &[u64], limits: &[u64], ny: usize, j: usize) -> usize
+    requires { ⌜ (j < ny) × (ny ≤ 256) × (length (now a) ≡ 1280) × (length (now b) ≡ 1280) × (length (now limits) ≡ 4) ⌝ }
+    ensures { λ r. ⌜ r ≡ rowEdges (now (a .entry)) (now (b .entry)) (now (limits .entry)) ny j ⌝ }
+    ensures { λ r. ⌜ r ≤ 768 ⌝ }
 {
     let mut m: usize = 0;
     let mut w: usize = 0;
     while w < 4 {
-        m += planes::ones_of(planes::along_x(a, 5 * j + w) & limits[w]);
+        let q = 5 * j + w;
+        let x = planes::along_x(b, q) & limits[w];
+        let y = word_y(b, ny, j, w);
+        let z = planes::along_z(a, b, q);
+        m += three_ones(x, y, z);
         w += 1;
     }
     m
 }
 
-// The crossed edges along x and y from the samples of a plane. From its last row none runs along y.
-fn plane_edges(a: &[u64], nx: usize, ny: usize) -> usize
-    requires { ⌜ (0 < nx) × (0 < ny) × (ny ≤ 256) × (length (now a) ≡ 1280) ⌝ }
-    ensures { λ r. ⌜ r ≡ planeX (now (a .entry)) nx ny + planeY (now (a .entry)) ny ⌝ }
-    ensures { λ r. ⌜ r ≤ 147456 ⌝ }
+// The crossed edges that belong to the plane b, above the plane a. Where b is the first plane it stands for a, too.
+fn plane_edges(a: &[u64], b: &[u64], nx: usize, ny: usize) -> usize
+    requires { ⌜ (0 < nx) × (ny ≤ 256) × (length (now a) ≡ 1280) × (length (now b) ≡ 1280) ⌝ }
+    ensures { λ r. ⌜ r ≡ planeEdges (now (a .entry)) (now (b .entry)) nx ny ⌝ }
+    ensures { λ r. ⌜ r ≤ 196608 ⌝ }
 {
     let limits = [
         planes::limit(nx - 1, 0),
@@ -67,22 +80,13 @@ fn plane_edges(a: &[u64], nx: usize, ny: usize) -> usize
     let mut m: usize = 0;
     let mut j: usize = 0;
     while j < ny {
-        m += row_edges(a, &limits, j);
+        m += row_edges(a, b, &limits, ny, j);
         j += 1;
     }
-    m + differing(&a[0..5 * (ny - 1)], &a[5..5 * ny])
+    m
 }
 
-// The crossed edges along z from the samples of the plane a to those of the plane b above it.
-fn next_edges(a: &[u64], b: &[u64], ny: usize) -> usize
-    requires { ⌜ (ny ≤ 256) × (length (now a) ≡ 1280) × (length (now b) ≡ 1280) ⌝ }
-    ensures { λ r. ⌜ r ≡ planeZ (now (a .entry)) (now (b .entry)) ny ⌝ }
-    ensures { λ r. ⌜ r ≤ 81920 ⌝ }
-{
-    differing(&a[0..5 * ny], &b[0..5 * ny])
-}
-
-// The crossed edges of a block: those within each plane, and those from each plane to the next.
+// The crossed edges of a block: those within each plane, and those that come to it from the plane below.
 fn block_edges(size: Size, samples: &[u16], cut: Cut) -> usize
     requires { ⌜ Sampled size (now samples) ⌝ }
     ensures { λ r. ⌜ r ≡ crossedCount size (now (samples .entry)) cut ⌝ }
@@ -93,11 +97,11 @@ fn block_edges(size: Size, samples: &[u16], cut: Cut) -> usize
     let mut a = [0u64; 1280];
     let mut b = [0u64; 1280];
     signs::plane_signs(size, samples, cut, 0, &mut a);
-    let mut m = plane_edges(&a, nx, ny);
+    let mut m = plane_edges(&a, &a, nx, ny);
     let mut k: usize = 0;
     while k + 1 < nz {
         signs::plane_signs(size, samples, cut, k + 1, &mut b);
-        m += plane_edges(&b, nx, ny) + next_edges(&a, &b, ny);
+        m += plane_edges(&a, &b, nx, ny);
         a = b;
         k += 1;
     }

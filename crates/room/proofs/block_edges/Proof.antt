@@ -12,14 +12,14 @@ use Rattle.room.proofs.block_edges.Statement.{statement}
 use Rattle.room.proofs.block_edges.Tie as tie
 
 abbrev Inv-loop : tie.InvT-loop
-Inv-loop size samples cut nx ny nz a₀ b₀ m₀ k₀ a b m k = (k + 1 ≤ nz) × Plane size samples cut k a × (length b ≡ 1280) × (m ≤ 229376 * (k + 1)) × (m ≡ tally size samples cut k)
+Inv-loop size samples cut nx ny nz a₀ b₀ m₀ k₀ a b m k = (k + 1 ≤ nz) × Plane size samples cut k a × (length b ≡ 1280) × (m ≤ 196608 * (k + 1)) × (m ≡ tally size samples cut k)
 
 abbrev μ-loop : tie.MeasureT-loop
 μ-loop size samples cut nx ny nz a₀ b₀ m₀ k₀ a b m k = nz - k
 
 -- the places that the proof names: the size read, the entry
 abbrev sized : tie.At-loop Inv-loop μ-loop → tie.After-nz Inv-loop μ-loop
-sized l = l .before .before .before .before .before .before
+sized l = l .before .before .before .before .before .before .before
 
 abbrev start : tie.At-loop Inv-loop μ-loop → tie.Start Inv-loop μ-loop
 start l = sized l .before .before .before .before
@@ -32,30 +32,9 @@ upper-of p =
     let a = start l in
     plane-of (a .args .size) (a .args .samples .now) (a .args .cut) (l .loop .k + 1) _ _ (a .pre .limits) (l .loop .inv .2) (p .plane-signs2 .ensures)
 
-nx-requires : tie.Need-nx-requires Inv-loop μ-loop
-nx-requires c κs = search needs
-
-ny-requires : tie.Need-ny-requires Inv-loop μ-loop
-ny-requires c κs = search needs
-
-nz-requires : tie.Need-nz-requires Inv-loop μ-loop
-nz-requires c κs = search needs
-
-slice-aggregate-plane-signs : tie.Need-slice-aggregate-plane-signs Inv-loop μ-loop
-slice-aggregate-plane-signs c = search needs
-
-plane-signs-requires : tie.Need-plane-signs-requires Inv-loop μ-loop
-plane-signs-requires c κs = search needs
-
-slice-aggregate-plane-edges : tie.Need-slice-aggregate-plane-edges Inv-loop μ-loop
-slice-aggregate-plane-edges c = search needs
-
-plane-edges-requires : tie.Need-plane-edges-requires Inv-loop μ-loop
-plane-edges-requires c κs = search needs
-
 loop-holds : tie.Need-loop-holds Inv-loop μ-loop
 loop-holds c =
-    let p = c .before .before .before in
+    let p = c .before .before .before .before in
     let z = p .before .before in
     let n = z .before in
     let a = n .before .before .before in
@@ -67,57 +46,18 @@ loop-holds c =
       tally-first (a .args .size) (a .args .samples .now) (a .args .cut) (a .pre .limits) _ _ _ (n .before .nx .ensures) (n .ny .ensures) plane (c .plane-edges .ensures .0),
     )
 
-add-loop : tie.Need-add-loop Inv-loop μ-loop
-add-loop c = search needs
-
-add-plane-signs : tie.Need-add-plane-signs Inv-loop μ-loop
-add-plane-signs c = search needs
-
-slice-aggregate-plane-signs-2 : tie.Need-slice-aggregate-plane-signs-2 Inv-loop μ-loop
-slice-aggregate-plane-signs-2 c = search needs
-
-plane-signs-requires-2 : tie.Need-plane-signs-requires-2 Inv-loop μ-loop
-plane-signs-requires-2 c κs = search needs
-
-slice-aggregate-plane-edges-2 : tie.Need-slice-aggregate-plane-edges-2 Inv-loop μ-loop
-slice-aggregate-plane-edges-2 c = search needs
-
-plane-edges-requires-2 : tie.Need-plane-edges-requires-2 Inv-loop μ-loop
-plane-edges-requires-2 c κs = search needs
-
-slice-aggregate-next-edges : tie.Need-slice-aggregate-next-edges Inv-loop μ-loop
-slice-aggregate-next-edges c = search needs
-
-slice-aggregate-next-edges-2 : tie.Need-slice-aggregate-next-edges-2 Inv-loop μ-loop
-slice-aggregate-next-edges-2 c = search needs
-
-next-edges-requires : tie.Need-next-edges-requires Inv-loop μ-loop
-next-edges-requires c κs = search needs
-
-add-m : tie.Need-add-m Inv-loop μ-loop
-add-m c = search needs
-
-add-m-2 : tie.Need-add-m-2 Inv-loop μ-loop
-add-m-2 c = search needs
-
-add-k : tie.Need-add-k Inv-loop μ-loop
-add-k c = search needs
-
-loop-less : tie.Need-loop-less Inv-loop μ-loop
-loop-less c = search needs
-
 loop-again : tie.Need-loop-again Inv-loop μ-loop
 loop-again c =
-    let p = c .before .before .before .before .before .before in
+    let p = c .before .before .before .before in
     let l = p .before .before .before in
     let ys = sized l .before in
     let a = start l in (
       omega arith,
       upper-of p,
       upper-of p .room,
-      omega arith,
-      tally-next (a .args .size) (a .args .samples .now) (a .args .cut) (a .pre .limits) (l .loop .k) (l .loop .m) _ _ _ _ (ys .before .nx .ensures) (ys .ny .ensures)
-          (omega (arith, sized l .nz .ensures, p .before .before .loop-test .taken)) (l .loop .inv .1) (upper-of p) (l .loop .inv .4) (c .before .before .before .plane-edges2 .ensures .0) (c .next-edges .ensures .0),
+      omega (arith, l .loop .inv .3, c .plane-edges2 .ensures .1),
+      tally-next (a .args .size) (a .args .samples .now) (a .args .cut) (a .pre .limits) (l .loop .k) (l .loop .m) _ _ _ (ys .before .nx .ensures) (ys .ny .ensures)
+          (omega (arith, sized l .nz .ensures, p .before .before .loop-test .taken)) (l .loop .inv .1) (upper-of p) (l .loop .inv .4) (c .plane-edges2 .ensures .0),
     )
 
 returns : tie.Need-returns Inv-loop μ-loop
@@ -132,26 +72,24 @@ block-edges-spec =
     (tie.spec
     Inv-loop
     μ-loop
-    nx-requires
-    ny-requires
-    nz-requires
-    slice-aggregate-plane-signs
-    plane-signs-requires
-    slice-aggregate-plane-edges
-    plane-edges-requires
+    (λ c κs. search needs)
+    (λ c κs. search needs)
+    (λ c κs. search needs)
+    (λ c. search needs)
+    (λ c κs. search needs)
+    (λ c. search needs)
+    (λ c. search needs)
+    (λ c κs. search needs)
     loop-holds
-    add-loop
-    add-plane-signs
-    slice-aggregate-plane-signs-2
-    plane-signs-requires-2
-    slice-aggregate-plane-edges-2
-    plane-edges-requires-2
-    slice-aggregate-next-edges
-    slice-aggregate-next-edges-2
-    next-edges-requires
-    add-m
-    add-m-2
-    add-k
-    loop-less
+    (λ c. search needs)
+    (λ c. search needs)
+    (λ c. search needs)
+    (λ c κs. search needs)
+    (λ c. search needs)
+    (λ c. search needs)
+    (λ c κs. search needs)
+    (λ c. search needs)
+    (λ c. search needs)
+    (λ c. search needs)
     loop-again
     returns)
