@@ -53,7 +53,7 @@ ahead f Z i j k = f i j (k + 1)
 abbrev pub EdgeIn : Size → Axis → ℕ → ℕ → ℕ → Type 0
 EdgeIn n a i j k = InBox n i j k × ahead (InBox n) a i j k
 
--- that is so of an edge from a sample of the block if it does not leave the block
+-- the edge from (i,j,k) does not leave the block; from a sample of the block, just then it is an edge of the block (`stays-in`, `in-stays`)
 abbrev pub stays : Size → Axis → ℕ → ℕ → ℕ → Bool
 stays n X i j k = ltb (i + 1) (n .nx)
 stays n Y i j k = ltb (j + 1) (n .ny)
