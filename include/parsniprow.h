@@ -17,9 +17,9 @@
      the function says. If the place is shorter, as many are written as it has room for. What lies behind is kept.
 
    IN WHICH ORDER
-   parsniprow_counts says how long the buffers of a mesh must be. Or ask parsniprow_crossed, which takes less time: the
-   lengths that are reserved by its answer are enough for the same block and threshold. parsniprow_mesh fills the
-   buffers. Then parsniprow_closed_with, parsniprow_pieces and parsniprow_ply may be asked about the mesh. The other
+   parsniprow_counts says how long the buffers of a mesh must be. Or ask parsniprow_crossed, which takes less time on a
+   scan: the lengths that are reserved by its answer are enough for the same block and threshold. parsniprow_mesh fills
+   the buffers. Then parsniprow_closed_with, parsniprow_pieces and parsniprow_ply may be asked about the mesh. The other
    questions stand by themselves: parsniprow_ceilings, parsniprow_edge, parsniprow_cube and parsniprow_closed.
 
    REFUSALS
@@ -105,10 +105,10 @@ void parsniprow_cube(uint16_t c0, uint16_t c1, uint16_t c2, uint16_t c3, uint16_
                      uint16_t c7, uint16_t t, uint32_t *words, size_t words_len, double *offsets, size_t offsets_len,
                      uint32_t *answer, size_t answer_len);
 
-/* How many edges of a block are crossed, those on the faces of the box too. There are at most 50135040. The answer is
-   found in less time than the counts. Let E be this number, and let v be 4 * E / 3, rounded down. The mesh of the same
-   block and threshold has at most v vertices and at most E quads. So parsniprow_mesh never refuses buffers of these
-   lengths with 5 or 6:
+/* How many edges of a block are crossed, those on the faces of the box too. There are at most 50135040. On a scan the
+   answer takes less time than the counts, for 256 samples an axis about half of it. Let E be this number, and let v be
+   4 * E / 3, rounded down. The mesh of the same block and threshold has at most v vertices and at most E quads. So
+   parsniprow_mesh never refuses buffers of these lengths with 5 or 6:
      words        2 * v items
      offsets      3 * v items
      quads        4 * E items
