@@ -126,7 +126,7 @@ pub fn check_block(size: Size, samples: &[u16], cut: Cut) -> Checked
 }
 
 // Row 2: the sample count is not nx·ny·nz.
-fn check_count(size: Size, count: usize) -> Checked
+pub fn check_count(size: Size, count: usize) -> Checked
     requires { ⌜ Limits size ⌝ }
     ensures { λ r. ⌜ r ≡ countRow size count ⌝ }
 {

@@ -39,7 +39,7 @@ use Rattle.mesh.specs.declared.Totals.{Totals}
 use Rattle.mesh.specs.declared.Counted.{Counted}
 use Rattle.mesh.specs.declared.Counted.the-variants as counted
 use Rattle.block.specs.Block.{blockVerdict}
-use Rattle.mesh.specs.Answer.{countsOf, saidCounts, CountsAnswered, meshVerdict, Meshed}
+use Rattle.mesh.specs.Answer.{countsOf, saidCounts, CountsAnswered, toldCounts, meshVerdict, Meshed}
 use Rattle.closed.specs.declared.Closure.{Closure}
 use Rattle.closed.specs.declared.Closure.the-variants as closure-is
 use Rattle.closed.specs.Closed.{Finding, allSound, openAt, findingOf, saidClosure, ClosedAnswered}
@@ -55,7 +55,7 @@ use Rattle.ply.proofs.Written.{file-refused, file-fits}
 use Rattle.lines.specs.Output.{outputOf, Ran}
 use Rattle.lines.proofs.Outputs.{output-fits}
 use Rattle.parsniprow_c.specs.Told.{tellOver, CeilingsTold, EdgeTold, CubeTold, CountsTold, MeshTold, ClosedTold, ClosedWithTold, PlyTold}
-use Rattle.told.specs.Numbers.{toldCeilings, toldEdge, toldFraction, toldCube, toldCounts, toldClosed, toldLength, toldFile}
+use Rattle.told.specs.Numbers.{toldCeilings, toldEdge, toldFraction, toldCube, toldClosed, toldLength, toldFile}
 use Rattle.demands.specs.Answers.{MeshCall}
 
 -- ---- the size: a refusal is row 1's, so it has the number that is told

@@ -1,20 +1,23 @@
 -- No entry point gives number 4, and no C caller finds it: the table of refusals has no such row any more.
-use Prim.Native.Nat.{ℕ, _≤_}
-use mathlib.Core.Path.{_≡_, refl}
+use Prim.Native.Nat.{ℕ, _*_, _≤_, _<_}
+use mathlib.Core.Path.{_≡_, refl, ap, sym, _∙_}
 use mathlib.Core.Logic.{_⊎_, inl, inr}
 use mathlib.Core.List.{List, [], _∷_}
+use native.Mathlib.Nat.{add-zero}
 use native.Mathlib.Omega.{arith}
 use lib.Ieee.{Float}
-use lib.ListN.{length}
+use lib.ListN.{length, getD}
+use Rattle.laws.specs.Filled.{filled}
 use Rattle.block.specs.declared.CeilingCount.{CeilingCount}
-use Rattle.block.specs.Answer.{accepted}
+use Rattle.block.specs.Answer.{Answer, accepted, refused}
 use Rattle.block.specs.Ceilings.{ceilingsIn}
 use Rattle.block.specs.Grey.{cutOf}
 use Rattle.block.proofs.Order.{refused-exactly}
 use Rattle.place.specs.declared.Crossing.{Crossing}
 use Rattle.place.specs.Crossing.{saidEdge, edgeAnswer, EdgeAnswered}
 use Rattle.cell.specs.Answer.{saidCube}
-use Rattle.mesh.specs.Answer.{saidCounts}
+use Rattle.mesh.specs.declared.Totals.{Totals}
+use Rattle.mesh.specs.Answer.{saidCounts, toldCounts}
 use Rattle.closed.specs.declared.Closure.{Closure}
 use Rattle.closed.specs.Closed.{saidClosure}
 use Rattle.closed.specs.Chains.{ClosedWith}
@@ -24,14 +27,18 @@ use Rattle.ply.specs.declared.Spacing.{Spacing}
 use Rattle.ply.specs.declared.Filed.{Filed}
 use Rattle.ply.specs.Answer.{saidFile, PlyWritten}
 use Rattle.room.specs.Answer.{saidCrossed}
+use Rattle.thresholds.specs.declared.RowAnswer.{RowAnswer}
+use Rattle.thresholds.specs.Answer.{saidRow, RowAnswered}
 use Rattle.reading.proofs.Verdicts.{run-numbers}
 use Rattle.demands.specs.Marks.{NotFour, FourNever}
+use Rattle.demands.proofs.Allowed.{counts-allows}
 use Rattle.demands.proofs.Files.{PlyNumber, ply-numbers}
 use Rattle.demands.proofs.Numbers.{size-numbers, edge-numbers, cube-numbers, counts-numbers, mesh-numbers, closed-numbers, closed-with-numbers}
 use Rattle.demands.proofs.Pieces.{PiecesNumber, pieces-numbers}
 use Rattle.demands.proofs.Places.{four-untold}
 use Rattle.demands.proofs.Refusals.{run-refuses}
 use Rattle.demands.proofs.Room.{crossed-numbers}
+use Rattle.demands.proofs.Thresholds.{RowNumber, row-numbers, row-is-one-by-one}
 
 edge-other : (p q t : ℕ) (r : Crossing) → EdgeAnswered p q t r → NotFour (saidEdge r)
 unfolding edgeAnswer
@@ -67,6 +74,26 @@ of-pieces n (inr (inr h)) e = omega (arith, h, e)
 pieces-other : (n : ℕ) (quads piece size : List ℕ) (r : Pieced) (piece′ size′ : List ℕ) → PiecesFound n quads piece size r piece′ size′ → NotFour (saidPieces r)
 pieces-other n quads piece size r piece′ size′ m x e = of-pieces (x .number) (pieces-numbers n quads (length piece) (length size) x (refused-exactly _ _ _ (m .answer) x .0 e))
 
+of-row : (n : ℕ) → RowNumber n → n ≡ 4 → ⊥
+of-row n (inl h) e = omega (arith, h .1, e)
+of-row n (inr h) e = omega (arith, h .0, e)
+
+row-other : (nx ny nz : ℕ) (s ts b : List ℕ) (r : RowAnswer) (b′ : List ℕ) → RowAnswered nx ny nz s ts b r b′ → NotFour (saidRow r)
+row-other nx ny nz s ts b r b′ m x e = of-row (x .number) (row-numbers nx ny nz s ts (length b) x (refused-exactly _ _ _ (m .answer) x .0 e))
+
+-- the first number of counts that are told
+first-other : (a : Answer Totals) → NotFour a → getD (toldCounts a) 0 0 ≡ 4 → ⊥
+unfolding filled
+first-other (accepted c) h e = omega (arith, e)
+first-other (refused x) h e = h x refl e
+
+row-each : (nx ny nz : ℕ) (s ts b : List ℕ) (r : RowAnswer) (b′ : List ℕ) → RowAnswered nx ny nz s ts b r b′ → saidRow r ≡ accepted tt → (i : ℕ) → i < length ts → getD b′ (3 * i) 0 ≡ 4 → ⊥
+row-each nx ny nz s ts b r b′ m answered i h e =
+    let cut = cutOf (getD ts i 0) in
+    let c = counts-allows nx ny nz s cut in
+    first-other (saidCounts (c .0)) (λ x f g. omega (arith, g, counts-numbers nx ny nz s cut x (refused-exactly _ _ _ (c .1) x .0 f) .1))
+    (sym (row-is-one-by-one nx ny nz s ts b r b′ m answered i h (c .0) (c .1) 0 (omega arith)) ∙ ap (λ (k : ℕ). getD b′ k 0) (add-zero (3 * i)) ∙ e)
+
 ply-other : (nx ny nz : ℕ) (words : List ℕ) (offsets : List Float) (quads : List ℕ) (s : Spacing) (file : List ℕ) (r : Filed) (file′ : List ℕ)
     → PlyWritten nx ny nz words offsets quads s file r file′ → NotFour (saidFile r)
 ply-other nx ny nz words offsets quads s file r file′ m x e = of-ply (x .number) (ply-numbers nx ny nz words offsets quads s (length file) x (refused-exactly _ _ _ (m .answer) x .0 e))
@@ -78,6 +105,7 @@ four-never = record {
   cube = λ corners cut r m x e f. omega (arith, f, cube-numbers cut x (refused-exactly _ _ _ (m .found) x .0 e));
   crossed = λ nx ny nz s cut r m x e f. omega (arith, f, crossed-numbers nx ny nz s cut r m x e .1);
   counts = λ nx ny nz s cut r m x e f. omega (arith, f, counts-numbers nx ny nz s cut x (refused-exactly _ _ _ m x .0 e) .1);
+  row = λ nx ny nz s ts b r b′ m. (row-other nx ny nz s ts b r b′ m, row-each nx ny nz s ts b r b′ m);
   mesh = λ nx ny nz s cut w o q r w′ o′ q′ m x e. of-mesh (x .number) (mesh-numbers nx ny nz s cut (length w) (length o) (length q) x (refused-exactly _ _ _ (m .answer) x .0 e));
   closed = λ quads r m x e f. omega (arith, f, closed-numbers quads x (refused-exactly _ _ _ m x .0 e));
   closed-with = closed-with-other;
@@ -89,6 +117,7 @@ four-never = record {
   cube-told = λ corners t w o place w′ o′ place′ m. four-untold 3 _ (saidCube (m .answer .found)) place place′ (m .is-told) (λ x e f. omega (arith, f, cube-numbers (cutOf t) x (refused-exactly _ _ _ (m .answered .found) x .0 e)));
   crossed-told = λ nx ny nz s t place place′ m. four-untold 3 _ (saidCrossed (m .answer)) place place′ (m .is-told) (λ x e f. omega (arith, f, crossed-numbers nx ny nz s (cutOf t) (m .answer) (m .answered) x e .1));
   counts-told = λ nx ny nz s t place place′ m. four-untold 3 _ (saidCounts (m .answer)) place place′ (m .is-told) (λ x e f. omega (arith, f, counts-numbers nx ny nz s (cutOf t) x (refused-exactly _ _ _ (m .answered) x .0 e) .1));
+  row-told = λ nx ny nz s ts b place b′ place′ m. four-untold 3 _ (saidRow (m .answer)) place place′ (m .is-told) (row-other nx ny nz s ts b (m .answer) b′ (m .answered));
   mesh-told = λ nx ny nz s t w o q place w′ o′ q′ place′ m. four-untold 3 _ (saidCounts (m .answer)) place place′ (m .is-told) (λ x e. of-mesh (x .number) (mesh-numbers nx ny nz s (cutOf t) (length w) (length o) (length q) x (refused-exactly _ _ _ (m .meshed .answer) x .0 e)));
   closed-told = λ quads place place′ m. four-untold 4 _ (saidClosure (m .answer)) place place′ (m .is-told) (λ x e f. omega (arith, f, closed-numbers quads x (refused-exactly _ _ _ (m .answered) x .0 e)));
   closed-with-told = λ quads work place work′ place′ m. four-untold 4 _ (saidClosure (m .answer)) place place′ (m .is-told) (closed-with-other quads work (m .answer) work′ (m .answered));

@@ -12,6 +12,7 @@ pub mod Files
 pub mod Pieces
 pub mod Told
 pub mod Room
+pub mod Thresholds
 pub mod Closing
 pub mod Four
 pub mod StandIn

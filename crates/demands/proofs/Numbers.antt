@@ -48,7 +48,7 @@ search-number number good n x e = ap (λ (r : Refusal). r .number) (search-exact
 pub axis-number : (nx ny nz : ℕ) (x : Refusal) → axisRow nx ny nz ≡ Refuses x → x .number ≡ 1
 axis-number nx ny nz = lowest-number 1 outOfLimits (nx ∷ ny ∷ nz ∷ [])
 
-count-number : (n : Size) (c : ℕ) (x : Refusal) → countRow n c ≡ Refuses x → x .number ≡ 2
+pub count-number : (n : Size) (c : ℕ) (x : Refusal) → countRow n c ≡ Refuses x → x .number ≡ 2
 count-number n c = unless-number (eqb c (sampleCount n)) 2 (sampleCount n)
 
 threshold-number : (cut : Cut) (x : Refusal) → thresholdRow cut ≡ Refuses x → x .number ≡ 3

@@ -1,5 +1,5 @@
 -- Demand 1, of an entry point from its promise: a refusal is given exactly when it is that of the first row that holds, and anything else exactly when none
--- does. (Of `crossed` see Room.antt, of `pieces` Pieces.antt, of `write` Files.antt.) After a refusal of `mesh` or `closed_with` every buffer is as it was.
+-- does. (Of `crossed` see Room.antt, of `counts_row` Thresholds.antt, of `pieces` Pieces.antt, of `write` Files.antt.) After a refusal of `mesh` or `closed_with` every buffer is as it was.
 use Prim.Native.Nat.{ℕ, _≤_, _<_}
 use mathlib.Core.Path.{_≡_, refl, sym, ap, _∙_}
 use mathlib.Core.Logic.{_↔_, _⊎_, inl, inr}

@@ -22,7 +22,7 @@ use Rattle.cube_rule.specs.Decider.{joined, loopsOf}
 use Rattle.cube_rule.proofs.Laws.{cube-laws}
 use Rattle.mesh.specs.declared.Counted.{Counted}
 use Rattle.mesh.specs.declared.Totals.{Totals}
-use Rattle.mesh.specs.Answer.{vertexCount, quadCount, countsOf, saidCounts, CountsAnswered, bufferRows, meshVerdict, Meshed}
+use Rattle.mesh.specs.Answer.{vertexCount, quadCount, countsOf, saidCounts, CountsAnswered, toldCounts, bufferRows, meshVerdict, Meshed}
 use Rattle.mesh.proofs.BufferRows.{roomy}
 use Rattle.room.specs.declared.Edged.{Edged}
 use Rattle.room.specs.declared.Edged.the-variants as edged
@@ -35,7 +35,7 @@ use Rattle.file_bytes.specs.Bytes.{decimal}
 use Rattle.file_bytes.proofs.Decimal.{length-most}
 use Rattle.ply.specs.Words.{fileLength}
 use Rattle.parsniprow_c.specs.Told.{tellOver, CrossedTold, MeshTold}
-use Rattle.told.specs.Numbers.{toldCrossed, toldCounts}
+use Rattle.told.specs.Numbers.{toldCrossed}
 use Rattle.demands.specs.Answers.{NotRefused, MeshCall, quadsWritten, Reserved}
 use Rattle.demands.proofs.Closing.{enough-after}
 use Rattle.demands.proofs.Numbers.{counts-numbers}

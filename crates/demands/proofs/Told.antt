@@ -24,9 +24,9 @@ use Rattle.mesh_rule.specs.Grid.{sampleAt, cornersOf, ahead, crossedFrom, EdgeI
 use Rattle.mesh.specs.declared.Counted.{Counted}
 use Rattle.mesh.specs.declared.Counted.the-variants as counted
 use Rattle.mesh.specs.declared.Totals.{Totals}
-use Rattle.mesh.specs.Answer.{saidCounts}
+use Rattle.mesh.specs.Answer.{saidCounts, toldCounts}
 use Rattle.parsniprow_c.specs.Told.{tellOver, CeilingsTold, CubeTold, MeshTold}
-use Rattle.told.specs.Numbers.{toldCeilings, toldCube, toldCounts}
+use Rattle.told.specs.Numbers.{toldCeilings, toldCube}
 use Rattle.demands.specs.Answers.{NotRefused, MeshCall}
 use Rattle.demands.specs.Marks.{hasMark, BothSigns}
 use Rattle.demands.proofs.Numbers.{cube-numbers, mesh-numbers}

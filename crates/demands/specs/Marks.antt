@@ -4,12 +4,12 @@ use mathlib.Core.Path.{_≡_}
 use mathlib.Core.Bool.{Bool, true, false}
 use mathlib.Core.List.{List}
 use lib.Ieee.{Float}
-use lib.ListN.{getD}
+use lib.ListN.{length, getD}
 use Rattle.laws.specs.Bits.{holds}
 use Rattle.block.specs.declared.Cut.{Cut}
 use Rattle.block.specs.declared.Refusal.{Refusal}
 use Rattle.block.specs.declared.Sized.{Sized}
-use Rattle.block.specs.Answer.{Answer, refused}
+use Rattle.block.specs.Answer.{Answer, accepted, refused}
 use Rattle.block.specs.Grey.{apart}
 use Rattle.block.specs.Size.{sizeOf, saidSize, SizeMade}
 use Rattle.cube_rule.specs.Edges.{cornerSample}
@@ -30,8 +30,10 @@ use Rattle.ply.specs.declared.Filed.{Filed}
 use Rattle.ply.specs.Answer.{saidFile, PlyWritten}
 use Rattle.room.specs.declared.Edged.{Edged}
 use Rattle.room.specs.Answer.{saidCrossed, CrossedAnswered}
+use Rattle.thresholds.specs.declared.RowAnswer.{RowAnswer}
+use Rattle.thresholds.specs.Answer.{saidRow, RowAnswered}
 use Rattle.lines.specs.Output.{refusalLine, Prints, Ran}
-use Rattle.parsniprow_c.specs.Told.{CeilingsTold, EdgeTold, CubeTold, CrossedTold, CountsTold, MeshTold, ClosedTold, ClosedWithTold, PiecesTold, PlyTold}
+use Rattle.parsniprow_c.specs.Told.{CeilingsTold, EdgeTold, CubeTold, CrossedTold, CountsTold, RowTold, MeshTold, ClosedTold, ClosedWithTold, PiecesTold, PlyTold}
 use Rattle.demands.specs.Answers.{MeshCall}
 
 -- the mark of a vertex is bit 12 of its word
@@ -72,6 +74,8 @@ pub record FourNever : Type 0 where
   pub cube : (corners : List ℕ) (cut : Cut) (r : CubeAnswer) → CubeAnswered corners cut r → NotFour (saidCube (r .found))
   pub crossed : (nx ny nz : ℕ) (s : List ℕ) (cut : Cut) (r : Edged) → CrossedAnswered nx ny nz s cut r → NotFour (saidCrossed r)
   pub counts : (nx ny nz : ℕ) (s : List ℕ) (cut : Cut) (r : Counted) → CountsAnswered nx ny nz s cut r → NotFour (saidCounts r)
+  pub row : (nx ny nz : ℕ) (s ts b : List ℕ) (r : RowAnswer) (b′ : List ℕ) → RowAnswered nx ny nz s ts b r b′
+      → NotFour (saidRow r) × (saidRow r ≡ accepted tt → (i : ℕ) → i < length ts → getD b′ (3 * i) 0 ≡ 4 → ⊥)
   pub mesh : (nx ny nz : ℕ) (s : List ℕ) (cut : Cut) (w : List ℕ) (o : List Float) (q : List ℕ) (r : Counted) (w′ : List ℕ) (o′ : List Float) (q′ : List ℕ)
       → Meshed nx ny nz s cut w o q r w′ o′ q′ → NotFour (saidCounts r)
   pub closed : (quads : List ℕ) (r : Closure) → ClosedAnswered quads r → NotFour (saidClosure r)
@@ -86,6 +90,7 @@ pub record FourNever : Type 0 where
       → CubeTold corners t w o place w′ o′ place′ → getD place′ 0 0 ≡ 4 → ⊥
   pub crossed-told : (nx ny nz : ℕ) (s : List ℕ) (t : ℕ) (place place′ : List ℕ) → CrossedTold nx ny nz s t place place′ → getD place′ 0 0 ≡ 4 → ⊥
   pub counts-told : (nx ny nz : ℕ) (s : List ℕ) (t : ℕ) (place place′ : List ℕ) → CountsTold nx ny nz s t place place′ → getD place′ 0 0 ≡ 4 → ⊥
+  pub row-told : (nx ny nz : ℕ) (s ts b place b′ place′ : List ℕ) → RowTold nx ny nz s ts b place b′ place′ → getD place′ 0 0 ≡ 4 → ⊥
   pub mesh-told : (nx ny nz : ℕ) (s : List ℕ) (t : ℕ) (w : List ℕ) (o : List Float) (q place w′ : List ℕ) (o′ : List Float) (q′ place′ : List ℕ)
       → MeshTold nx ny nz s t w o q place w′ o′ q′ place′ → getD place′ 0 0 ≡ 4 → ⊥
   pub closed-told : (quads place place′ : List ℕ) → ClosedTold quads place place′ → getD place′ 0 0 ≡ 4 → ⊥

@@ -11,7 +11,7 @@ use Rattle.block.specs.declared.Cut.{Cut}
 use Rattle.block.specs.declared.Size.{Size}
 use Rattle.block.specs.declared.Checked.{Checked}
 use Rattle.block.specs.declared.Checked.the-variants.{Passes}
-use Rattle.block.specs.Answer.{Answer, accepted, refused, refuses, inOrder, judged, written}
+use Rattle.block.specs.Answer.{Answer, accepted, refused, refuses, inOrder, judged, written, told}
 use Rattle.block.specs.Block.{blockRows, blockVerdict}
 use Rattle.block.specs.Rows.{axisRow}
 use Rattle.block.specs.Size.{sizeOf}
@@ -37,9 +37,17 @@ abbrev pub saidCounts : Counted → Answer Totals
 saidCounts (counted.Counts c) = accepted c
 saidCounts (counted.Refused r) = refused r
 
--- the promise of `counts`: counting a mesh gives 1 to 3 only
+-- counting a mesh gives 1 to 3 only
+abbrev pub countsAnswer : ℕ → ℕ → ℕ → List ℕ → Cut → Answer Totals
+countsAnswer nx ny nz s cut = judged (blockVerdict nx ny nz s cut) (countsOf (sizeOf nx ny nz) s cut)
+
+-- the promise of `counts`
 abbrev pub CountsAnswered : ℕ → ℕ → ℕ → List ℕ → Cut → Counted → Type 0
-CountsAnswered nx ny nz s cut r = saidCounts r ≡ judged (blockVerdict nx ny nz s cut) (countsOf (sizeOf nx ny nz) s cut)
+CountsAnswered nx ny nz s cut r = saidCounts r ≡ countsAnswer nx ny nz s cut
+
+-- counts in three numbers: 0, vertices, quads; or number, value, 0
+abbrev pub toldCounts : Answer Totals → List ℕ
+toldCounts = told 3 (λ c. c .vertices ∷ c .quads ∷ [])
 
 -- 5: either vertex buffer is short; vertices needed
 abbrev pub vertexRow : ℕ → ℕ → ℕ → Checked

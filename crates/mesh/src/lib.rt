@@ -61,7 +61,7 @@ fn check_buffers(vertices: u32, quads: u32, words: usize, offsets: usize, lent: 
 }
 
 // The counts of a block whose marks are moved to its end.
-fn total(m: Marks) -> Totals
+pub fn total(m: Marks) -> Totals
     requires { ⌜ (m .v ≤ 66325500) × (m .x + m .y + m .z ≤ 197418960) ⌝ }
     ensures { λ r. ⌜ (r .vertices ≡ m .v) × (r .quads ≡ (m .x + m .y + m .z) / 4) ⌝ }
 {
@@ -124,29 +124,38 @@ fn with_layer(
     w
 }
 
+// The marks moved by the layers from `from` up to `to`, which itself is not counted.
+pub fn with_layers(m: Marks, size: Size, samples: &[u16], cut: Cut, from: usize, to: usize) -> Marks
+    requires { ⌜ Sampled size (now samples) × (from ≤ to) × (to + 1 ≤ size .nz) × Counting loopsOf size (now samples) cut 0 from m ⌝ }
+    ensures { λ r. ⌜ Counting loopsOf size (now (samples .entry)) cut 0 to r ⌝ }
+{
+    let mut a = [0u64; 1280];
+    let mut b = [0u64; 1280];
+    signs::plane_signs(size, samples, cut, from, &mut a);
+    let mut w = m;
+    let mut k = from;
+    while k < to {
+        signs::plane_signs(size, samples, cut, k + 1, &mut b);
+        w = with_layer(w, size, samples, cut, &a, &b, k);
+        a = b;
+        k += 1;
+    }
+    w
+}
+
 // How many vertices the mesh of a block has, and how many words its quads along each axis take.
 fn tally_block(size: Size, samples: &[u16], cut: Cut) -> Marks
     requires { ⌜ Sampled size (now samples) ⌝ }
     ensures { λ r. ⌜ Tallied loopsOf size (now (samples .entry)) cut r ⌝ }
 {
-    let nz = size.nz();
-    let mut a = [0u64; 1280];
-    let mut b = [0u64; 1280];
-    signs::plane_signs(size, samples, cut, 0, &mut a);
-    let mut m = Marks {
+    let none = Marks {
         v: 0,
         x: 0,
         y: 0,
         z: 0,
     };
-    let mut k: usize = 0;
-    while k + 1 < nz {
-        signs::plane_signs(size, samples, cut, k + 1, &mut b);
-        m = with_layer(m, size, samples, cut, &a, &b, k);
-        a = b;
-        k += 1;
-    }
-    m
+    let last = size.nz() - 1;
+    with_layers(none, size, samples, cut, 0, last)
 }
 
 // The counts of a block whose size is made.

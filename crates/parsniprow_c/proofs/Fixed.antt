@@ -16,7 +16,7 @@ use Rattle.cell.specs.Answer.{saidCube}
 use Rattle.cell.proofs.Answers.{cube-fixed}
 use Rattle.mesh_rule.specs.Buffers.{triples}
 use Rattle.mesh.specs.declared.Counted.{Counted}
-use Rattle.mesh.specs.Answer.{saidCounts}
+use Rattle.mesh.specs.Answer.{saidCounts, toldCounts}
 use Rattle.mesh.proofs.Verdicts.{counts-fixed, mesh-fixed}
 use Rattle.closed.specs.declared.Closure.{Closure}
 use Rattle.closed.specs.Closed.{saidClosure}
@@ -31,8 +31,11 @@ use Rattle.ply.proofs.Fixed.{ply-fixed}
 use Rattle.room.specs.declared.Edged.{Edged}
 use Rattle.room.specs.Answer.{saidCrossed}
 use Rattle.room.proofs.Fixed.{crossed-fixed}
-use Rattle.parsniprow_c.specs.Told.{tellOver, CeilingsTold, EdgeTold, CubeTold, CrossedTold, CountsTold, MeshTold, ClosedTold, ClosedWithTold, PiecesTold, PlyTold}
-use Rattle.told.specs.Numbers.{toldCeilings, toldEdge, toldFraction, toldCube, toldCrossed, toldCounts, toldClosed, toldPieces, toldLength, toldFile}
+use Rattle.thresholds.specs.declared.RowAnswer.{RowAnswer}
+use Rattle.thresholds.specs.Answer.{saidRow}
+use Rattle.thresholds.proofs.Fixed.{row-fixed}
+use Rattle.parsniprow_c.specs.Told.{tellOver, CeilingsTold, EdgeTold, CubeTold, CrossedTold, CountsTold, RowTold, MeshTold, ClosedTold, ClosedWithTold, PiecesTold, PlyTold}
+use Rattle.told.specs.Numbers.{toldCeilings, toldEdge, toldFraction, toldCube, toldCrossed, toldRow, toldClosed, toldPieces, toldLength, toldFile}
 
 pub ceilings-told-fixed : (samples place : List ℕ) → Fixes (CeilingsTold samples place)
 ceilings-told-fixed samples place = equation-fixes (tellOver (toldCeilings (accepted (ceilingsIn samples))) place)
@@ -72,6 +75,13 @@ counts-told-fixed nx ny nz s t place a b p q =
     p .is-told
     ∙ ap (λ (x : Counted). tellOver (toldCounts (saidCounts x)) place) (counts-fixed nx ny nz s (cutOf t) (p .answer) (q .answer) (p .answered) (q .answered))
     ∙ sym (q .is-told)
+
+-- the buffer and the answer
+pub row-told-fixed : (nx ny nz : ℕ) (s ts b place : List ℕ) → Fixes (λ (f : List ℕ × List ℕ). RowTold nx ny nz s ts b place (f .0) (f .1))
+row-told-fixed nx ny nz s ts b place x y p q =
+    ap (λ (u : List ℕ). (x .0, u)) (p .is-told)
+    ∙ ap (λ (r : RowAnswer × List ℕ). (r .1, tellOver (toldRow (saidRow (r .0))) place)) (row-fixed nx ny nz s ts b (p .answer, x .0) (q .answer, y .0) (p .answered) (q .answered))
+    ∙ ap (λ (u : List ℕ). (y .0, u)) (sym (q .is-told))
 
 -- the three buffers and the answer
 pub mesh-told-fixed : (nx ny nz : ℕ) (s : List ℕ) (t : ℕ) (w : List ℕ) (o : List Float) (q place : List ℕ)

@@ -14,7 +14,7 @@ use Rattle.cell.specs.declared.CubeAnswer.{CubeAnswer}
 use Rattle.cell.specs.Answer.{saidCube, CubeAnswered}
 use Rattle.mesh_rule.specs.Buffers.{triples}
 use Rattle.mesh.specs.declared.Counted.{Counted}
-use Rattle.mesh.specs.Answer.{saidCounts, CountsAnswered, Meshed}
+use Rattle.mesh.specs.Answer.{saidCounts, CountsAnswered, toldCounts, Meshed}
 use Rattle.closed.specs.declared.Closure.{Closure}
 use Rattle.closed.specs.Closed.{saidClosure, ClosedAnswered}
 use Rattle.closed.specs.Chains.{ClosedWith}
@@ -25,7 +25,9 @@ use Rattle.ply.specs.declared.Filed.{Filed}
 use Rattle.ply.specs.Answer.{saidFile, PlyWritten}
 use Rattle.room.specs.declared.Edged.{Edged}
 use Rattle.room.specs.Answer.{saidCrossed, CrossedAnswered}
-use Rattle.told.specs.Numbers.{toldCeilings, toldEdge, toldFraction, toldCube, toldCrossed, toldCounts, toldClosed, toldPieces, toldLength, toldFile}
+use Rattle.thresholds.specs.declared.RowAnswer.{RowAnswer}
+use Rattle.thresholds.specs.Answer.{saidRow, RowAnswered}
+use Rattle.told.specs.Numbers.{toldCeilings, toldEdge, toldFraction, toldCube, toldCrossed, toldRow, toldClosed, toldPieces, toldLength, toldFile}
 
 -- as many of these values as a place has room for; what is behind is kept
 abbrev pub tellOver : {A : Type 0} → List A → List A → List A
@@ -57,6 +59,12 @@ pub record CountsTold (nx ny nz : ℕ) (s : List ℕ) (t : ℕ) (place place′ 
   pub answer : Counted
   pub answered : CountsAnswered nx ny nz s (cutOf t) answer
   pub is-told : place′ ≡ tellOver (toldCounts (saidCounts answer)) place
+
+-- the buffer is that of `counts_row`
+pub record RowTold (nx ny nz : ℕ) (s ts b place b′ place′ : List ℕ) : Type 0 where
+  pub answer : RowAnswer
+  pub answered : RowAnswered nx ny nz s ts b answer b′
+  pub is-told : place′ ≡ tellOver (toldRow (saidRow answer)) place
 
 -- the three buffers are those of `mesh`
 pub record MeshTold (nx ny nz : ℕ) (s : List ℕ) (t : ℕ) (w : List ℕ) (o : List Float) (q place w′ : List ℕ) (o′ : List Float) (q′ place′ : List ℕ) : Type 0 where

@@ -4,7 +4,7 @@ use block::Cut;
 use ply::Spacing;
 ghost use mathlib.Core.Path.{_≡_};
 ghost use mathlib.Core.List.{[], _∷_};
-ghost use Rattle.parsniprow_c.specs.Told.{tellOver, CeilingsTold, EdgeTold, CubeTold, CrossedTold, CountsTold, MeshTold, ClosedTold, ClosedWithTold, PiecesTold, PlyTold};
+ghost use Rattle.parsniprow_c.specs.Told.{tellOver, CeilingsTold, EdgeTold, CubeTold, CrossedTold, CountsTold, RowTold, MeshTold, ClosedTold, ClosedWithTold, PiecesTold, PlyTold};
 
 // How many samples are at the detector's ceiling, and the lowest index of one.
 #[no_mangle]
@@ -88,6 +88,24 @@ pub extern "C" fn parsniprow_counts(
 {
     let counted = mesh::counts(nx, ny, nz, samples, Cut { t: t });
     let told = told::tell_counts(counted);
+    put(answer, &told);
+}
+
+// The counts of a block by each threshold of a row, in a lent buffer.
+#[no_mangle]
+pub extern "C" fn parsniprow_thresholds(
+    nx: u32,
+    ny: u32,
+    nz: u32,
+    samples: &[u16],
+    thresholds: &[u16],
+    answers: &mut [u32],
+    answer: &mut [u32],
+)
+    ensures { λ _. ⌜ RowTold nx ny nz (now (samples .entry)) (now (thresholds .entry)) (now (answers .entry)) (now (answer .entry)) (now (answers .exit)) (now (answer .exit)) ⌝ }
+{
+    let row = thresholds::counts_row(nx, ny, nz, samples, thresholds, answers);
+    let told = told::tell_row(row);
     put(answer, &told);
 }
 

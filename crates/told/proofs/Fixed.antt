@@ -11,9 +11,10 @@ use Rattle.block.specs.Answer.{Answer, accepted}
 use Rattle.place.specs.declared.Offset.{Offset}
 use Rattle.mesh_rule.specs.Buffers.{triples}
 use Rattle.mesh.specs.declared.Totals.{Totals}
+use Rattle.mesh.specs.Answer.{toldCounts}
 use Rattle.closed.specs.Closed.{Finding}
 use Rattle.pieces.specs.declared.Parts.{Parts}
-use Rattle.told.specs.Numbers.{toldCeilings, toldEdge, toldFraction, toldCube, toldCrossed, toldCounts, toldClosed, toldPieces, toldLength, toldFile}
+use Rattle.told.specs.Numbers.{toldCeilings, toldEdge, toldFraction, toldCube, toldCrossed, toldRow, toldClosed, toldPieces, toldLength, toldFile}
 
 pub tell-ceilings-fixed : (x : CeilingCount) → Fixes (λ (r : List ℕ). r ≡ toldCeilings (accepted x))
 tell-ceilings-fixed x = equation-fixes (toldCeilings (accepted x))
@@ -35,6 +36,9 @@ tell-crossed-fixed x = equation-fixes (toldCrossed x)
 
 pub tell-counts-fixed : (x : Answer Totals) → Fixes (λ (r : List ℕ). r ≡ toldCounts x)
 tell-counts-fixed x = equation-fixes (toldCounts x)
+
+pub tell-row-fixed : (x : Answer Unit) → Fixes (λ (r : List ℕ). r ≡ toldRow x)
+tell-row-fixed x = equation-fixes (toldRow x)
 
 pub tell-closed-fixed : (x : Answer Finding) → Fixes (λ (r : List ℕ). r ≡ toldClosed x)
 tell-closed-fixed x = equation-fixes (toldClosed x)

@@ -1,4 +1,4 @@
--- What a C caller is told of each answer: 01's number, then values, zeros where they are not used.
+-- What a C caller is told of each answer: 01's number, then values, zeros where they are not used. Counts are told as mesh/specs/Answer.antt says.
 use Prim.Native.Nat.{ℕ}
 use mathlib.Core.List.{List, [], _∷_}
 use lib.ListN.{length}
@@ -7,7 +7,6 @@ use Rattle.laws.specs.Filled.{filled}
 use Rattle.block.specs.declared.CeilingCount.{CeilingCount}
 use Rattle.block.specs.Answer.{Answer, accepted, refused, given, told}
 use Rattle.place.specs.Place.{plusZero}
-use Rattle.mesh.specs.declared.Totals.{Totals}
 use Rattle.closed.specs.Closed.{Finding, allSound, openAt}
 use Rattle.pieces.specs.declared.Parts.{Parts}
 
@@ -32,9 +31,9 @@ toldCube = told 3 (λ n. n ∷ [])
 abbrev pub toldCrossed : Answer ℕ → List ℕ
 toldCrossed = told 3 (λ n. n ∷ [])
 
--- vertices, quads
-abbrev pub toldCounts : Answer Totals → List ℕ
-toldCounts = told 3 (λ c. c .vertices ∷ c .quads ∷ [])
+-- nothing is told of a row of thresholds: its answers stand in its buffer
+abbrev pub toldRow : Answer Unit → List ℕ
+toldRow = told 3 (λ _. [])
 
 -- 1 if closed; 0, quad, side if open
 abbrev pub findingNumbers : Finding → List ℕ

@@ -8,17 +8,19 @@ use place::Crossing;
 use place::Offset;
 use ply::Filed;
 use room::Edged;
+use thresholds::RowAnswer;
 ghost use mathlib.Core.Path.{_≡_};
 ghost use Rattle.block.specs.Answer.{accepted};
 ghost use Rattle.place.specs.Crossing.{saidEdge};
 ghost use Rattle.cell.specs.Answer.{saidCube};
 ghost use Rattle.mesh_rule.specs.Buffers.{triples};
-ghost use Rattle.mesh.specs.Answer.{saidCounts};
+ghost use Rattle.mesh.specs.Answer.{saidCounts, toldCounts};
+ghost use Rattle.thresholds.specs.Answer.{saidRow};
 ghost use Rattle.closed.specs.Closed.{saidClosure};
 ghost use Rattle.pieces.specs.Answer.{saidPieces};
 ghost use Rattle.ply.specs.Answer.{saidFile};
 ghost use Rattle.room.specs.Answer.{saidCrossed};
-ghost use Rattle.told.specs.Numbers.{toldCeilings, toldEdge, toldFraction, toldCube, toldCrossed, toldCounts, toldClosed, toldPieces, toldLength, toldFile};
+ghost use Rattle.told.specs.Numbers.{toldCeilings, toldEdge, toldFraction, toldCube, toldCrossed, toldRow, toldClosed, toldPieces, toldLength, toldFile};
 
 // How many samples are at the ceiling, and the lowest index of one.
 pub fn tell_ceilings(seen: CeilingCount) -> [u32; 3]
@@ -96,6 +98,16 @@ pub fn tell_counts(counted: Counted) -> [u32; 3]
     match counted {
         Counted::Counts(c) => [0, c.vertices, c.quads],
         Counted::Refused(r) => [r.number, r.value, 0],
+    }
+}
+
+// Nothing is told of a row of thresholds: its answers stand in its buffer.
+pub fn tell_row(row: RowAnswer) -> [u32; 3]
+    ensures { λ r. ⌜ r ≡ toldRow (saidRow row) ⌝ }
+{
+    match row {
+        RowAnswer::Answered => [0, 0, 0],
+        RowAnswer::Refused(r) => [r.number, r.value, 0],
     }
 }
 

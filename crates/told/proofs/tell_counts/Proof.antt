@@ -3,8 +3,7 @@
 use mathlib.Core.Path.{sym, ap}
 use Rattle.laws.specs.Filled.{filled}
 use Rattle.mesh.specs.declared.Counted.{Counted}
-use Rattle.mesh.specs.Answer.{saidCounts}
-use Rattle.told.specs.Numbers.{toldCounts}
+use Rattle.mesh.specs.Answer.{saidCounts, toldCounts}
 use borrow.Author.Needs.{needs}
 use Rattle.told.proofs.tell_counts.Statement.{statement}
 use Rattle.told.proofs.tell_counts.Tie as tie

@@ -1,0 +1,48 @@
+-- What the steps of a row of thresholds hand to one another: the marks of each threshold, how far they go, and what they say.
+-- Assumes nothing.
+use Prim.Native.Nat.{ℕ, _+_, _/_, _<_, _≤_}
+use mathlib.Core.List.{List}
+use lib.ListN.{length, getD}
+use Rattle.laws.specs.Below.{below}
+use Rattle.block.specs.declared.Cut.{Cut}
+use Rattle.block.specs.declared.Size.{Size}
+use Rattle.block.specs.Answer.{judged}
+use Rattle.block.specs.Grey.{cutOf}
+use Rattle.block.specs.Rows.{thresholdRow}
+use Rattle.cube_rule.specs.Decider.{loopsOf}
+use Rattle.layers.specs.declared.Marks.{Marks}
+use Rattle.mesh.specs.Answer.{countsOf, toldCounts}
+use Rattle.mesh.specs.Steps.{Counting, Tallied}
+
+-- the threshold of place i, and its marks
+abbrev pub cutAt : List ℕ → ℕ → Cut
+cutAt ts i = cutOf (getD ts i 0)
+
+abbrev pub noMarks : Marks
+noMarks = record { v = 0; x = 0; y = 0; z = 0 }
+
+abbrev pub marksAt : List Marks → ℕ → Marks
+marksAt ms i = getD ms i noMarks
+
+-- for the thresholds of the places from i up to j the layers before k are counted
+abbrev pub CountedFrom : Size → List ℕ → List ℕ → List Marks → ℕ → ℕ → ℕ → Type 0
+CountedFrom n s ts ms i j k = (p : ℕ) → i ≤ p → p < j → Counting loopsOf n s (cutAt ts p) 0 k (marksAt ms p)
+
+-- for each threshold the whole block is
+abbrev pub EachTallied : Size → List ℕ → List ℕ → List Marks → Type 0
+EachTallied n s ts ms = (p : ℕ) → p < length ts → Tallied loopsOf n s (cutAt ts p) (marksAt ms p)
+
+-- the marks of a whole block are few enough to be told
+abbrev pub Few : Marks → Type 0
+Few m = (m .v ≤ 66325500) × (m .x + m .y + m .z ≤ 197418960)
+
+-- what a threshold is told by its marks
+abbrev pub threeBy : Cut → Marks → List ℕ
+threeBy cut m = toldCounts (judged (thresholdRow cut) (record { vertices = m .v; quads = (m .x + m .y + m .z) / 4 }))
+
+abbrev pub threesBy : List ℕ → List Marks → ℕ → List ℕ
+threesBy ts ms = below (λ (i : ℕ). threeBy (cutAt ts i) (marksAt ms i))
+
+-- what each threshold is told of a block whose size is made
+abbrev pub answersIn : Size → List ℕ → List ℕ → List ℕ
+answersIn n s ts = below (λ (i : ℕ). toldCounts (judged (thresholdRow (cutAt ts i)) (countsOf n s (cutAt ts i)))) (length ts)
