@@ -1,9 +1,9 @@
 /* Times the library and the plain implementation on one block. Usage: bench file nx ny nz t mesh.ply sealed.ply, the
-   file raw little-endian 16-bit numbers, x fastest; or bench room file nx ny nz t, see room_... below; or bench worst,
-   see worst_... below. Writes the mesh to mesh.ply, with a spacing of 0.1 millimetres along each axis. Where a sample
-   on the six faces of the box is metal, the block is then sealed: all samples there become 0. The mesh of the sealed
-   block is written to sealed.ply; of a block that needs no sealing there is no such file. Prints a line for each
-   figure, its name and its value:
+   file raw little-endian 16-bit numbers, x fastest; or bench room file nx ny nz t, see room_... below; or bench
+   thresholds file nx ny nz t, see row_... below; or bench worst, see worst_... below. Writes the mesh to mesh.ply, with
+   a spacing of 0.1 millimetres along each axis. Where a sample on the six faces of the box is metal, the block is then
+   sealed: all samples there become 0. The mesh of the sealed block is written to sealed.ply; of a block that needs no
+   sealing there is no such file. Prints a line for each figure, its name and its value:
      crossed, rim, doubtful  crossed edges, steps out of the block from metal samples, faces with four crossed edges
      vertices, quads         of the mesh
      counts, mesh            seconds of the library's two calls; mesh writes into memory that was written to before
@@ -27,6 +27,14 @@
                              same memory
      room_ratio              the first divided by the second, of one run; there is a line for each run
      room_plain              seconds of the plain implementation's call that counts the crossed edges
+     row_one                 seconds of one call of the library's thresholds with 12 of them, from t - 5500 to t + 5500
+                             in steps of 1000; bench thresholds prints this and the next five, and nothing else
+     row_each                seconds of 12 calls of the library's counts, one for each of these thresholds; a run is the
+                             one call and then the 12, on the same memory
+     row_ratio               the first divided by the second, of one run; there is a line for each run
+     cold_...                one, each and ratio, as those that begin with row_; but before each call, before the one
+                             and before each of the 12, the block is flushed from the caches, which is not timed. Only
+                             where the processor has clflush
      worst_...               vertices, quads, pieces, piece_count and longest of a list of quads that makes the longest
                              search as long as it can be; bench worst prints these alone. They are of no block, so
                              bench/run asks once
@@ -36,7 +44,8 @@
    closed if no sample on the six faces of the box is metal, and a side that is given as at fault must be so. No quad
    may join two pieces, and the pieces' numbers, sizes and count must fit together. The crossed edges must be as many as
    are counted here from the samples alone, and as plain says. Three times the vertices may not be more than four times
-   the crossed edges, nor the quads more than they are. */
+   the crossed edges, nor the quads more than they are. In each run the one call for the thresholds and the 12 calls
+   must give the same counts. */
 #define _POSIX_C_SOURCE 199309L
 
 #include "../include/parsniprow.h"
@@ -48,6 +57,11 @@
 #include <string.h>
 #include <time.h>
 
+#if defined __x86_64__ && defined __SSE2__
+#include <emmintrin.h>
+#define HAS_FLUSH
+#endif
+
 #ifdef SELF
 #define parsniprow_counts plain_counts
 #define parsniprow_mesh plain_mesh
@@ -58,6 +72,8 @@ enum { MOST_RUNS = 15, LEAST_RUNS = 2, ANSWER = 3, CLOSED_ANSWER = 4, SHORT_FILE
 /* The links of the longest search of the worst list, which has 2 to this power vertices and as many quads. With 24 it
    takes a second and 450 MB in all; noise of 128 samples an axis takes 620 MB. Each link more would double both. */
 enum { WORST_LINKS = 24 };
+/* The thresholds of a row lie around that of the block. A cache line has 64 bytes wherever there is clflush. */
+enum { ROW = 12, ROW_STEP = 1000, ROW_BELOW = 5500, CACHE_LINE = 64 };
 static const double long_enough = 0.5, spacing = 0.1;
 
 typedef void counts_function(uint32_t, uint32_t, uint32_t, const uint16_t *, size_t, uint16_t, uint32_t *, size_t);
@@ -462,6 +478,99 @@ static void print_room(size_t crossed)
         printf("room_ratio %.6f\n", ratios[run]);
 }
 
+/* The thresholds of the row, the answers of both ways to ask, and whether the block is flushed before each call. */
+struct row {
+    uint16_t thresholds[ROW];
+    uint32_t at_once[ANSWER * ROW], one_by_one[ANSWER * ROW];
+    int is_cold;
+};
+
+static struct row row_around(uint16_t t, int is_cold)
+{
+    struct row row;
+    if (t <= ROW_BELOW || t >= UINT16_MAX - ROW_BELOW)
+        stop("the thresholds around that of the block are not all from 1 to 65534");
+    for (int i = 0; i < ROW; i++)
+        row.thresholds[i] = (uint16_t)(t - ROW_BELOW + ROW_STEP * i);
+    row.is_cold = is_cold;
+    return row;
+}
+
+/* Afterwards no sample is in a cache; where there is no way to do that, nothing. */
+static void flush_block(void)
+{
+#ifdef HAS_FLUSH
+    const char *bytes = (const char *)block.samples;
+    size_t end = block.sample_count * sizeof *block.samples;
+    for (size_t at = 0; at < end; at += CACHE_LINE)
+        _mm_clflush(bytes + at);
+    _mm_clflush(bytes + end - 1);
+    _mm_mfence();
+#endif
+}
+
+static double at_once_seconds(struct row *row)
+{
+    uint32_t answer[ANSWER];
+    double from;
+    if (row->is_cold)
+        flush_block();
+    from = now();
+    parsniprow_thresholds(block.length[0], block.length[1], block.length[2], block.samples, block.sample_count,
+                          row->thresholds, ROW, row->at_once, ANSWER * ROW, answer, ANSWER);
+    from = now() - from;
+    if (answer[0] != 0)
+        stop("the thresholds were refused");
+    return from;
+}
+
+/* Only the calls are timed. */
+static double one_by_one_seconds(struct row *row)
+{
+    double spent = 0.0;
+    for (int i = 0; i < ROW; i++) {
+        double from;
+        if (row->is_cold)
+            flush_block();
+        from = now();
+        parsniprow_counts(block.length[0], block.length[1], block.length[2], block.samples, block.sample_count,
+                          row->thresholds[i], row->one_by_one + ANSWER * i, ANSWER);
+        spent += now() - from;
+    }
+    return spent;
+}
+
+/* Both ways are asked by turns, as the two calls of print_room are. The names of the figures begin with that word. */
+static void print_row(const char *word, int is_cold)
+{
+    struct row row = row_around(block.t, is_cold);
+    double ratios[MOST_RUNS], one_time = 1e9, each_time = 1e9, spent = 0.0;
+    int runs = 0;
+    for (; runs_again(runs, spent); runs++) {
+        double one_took, each_took;
+        memset(row.at_once, 0xA5, sizeof row.at_once);
+        one_took = at_once_seconds(&row);
+        each_took = one_by_one_seconds(&row);
+        if (memcmp(row.at_once, row.one_by_one, sizeof row.at_once) != 0)
+            stop("the counts of a row of thresholds differ from those of one threshold after the other");
+        spent += one_took + each_took;
+        ratios[runs] = one_took / each_took;
+        one_time = one_took < one_time ? one_took : one_time;
+        each_time = each_took < each_time ? each_took : each_time;
+    }
+    printf("%s_one %.9f\n%s_each %.9f\n", word, one_time, word, each_time);
+    for (int run = 0; run < runs; run++)
+        printf("%s_ratio %.6f\n", word, ratios[run]);
+}
+
+static void print_rows(void)
+{
+    print_row("row", 0);
+#ifdef HAS_FLUSH
+    print_row("cold", 1);
+#endif
+}
+
 /* Puts a quad of one vertex and, three times, another. */
 static void put_pair(struct mesh *list, uint32_t first, uint32_t other)
 {
@@ -563,9 +672,16 @@ int main(int argc, char **argv)
         free(block.samples);
         return 0;
     }
+    if (argc == 7 && strcmp(argv[1], "thresholds") == 0) {
+        block = read_block(argv + 2);
+        print_rows();
+        free(block.samples);
+        return 0;
+    }
 #endif
     if (argc != 8)
-        stop("usage: bench file nx ny nz t mesh.ply sealed.ply, or bench room file nx ny nz t, or bench worst");
+        stop("usage: bench file nx ny nz t mesh.ply sealed.ply, or bench room file nx ny nz t, "
+             "or bench thresholds file nx ny nz t, or bench worst");
     block = read_block(argv + 1);
     shape = shape_of_block();
     printf("crossed %zu\nrim %zu\ndoubtful %zu\n", shape.crossed, shape.rim, shape.doubtful);

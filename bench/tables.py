@@ -1,12 +1,12 @@
 #!/usr/bin/python3
 """Prints the results of one run of the benchmark as Markdown. Usage: tables.py results part, the file that bench/run
-writes, and all or room, which is what it has timed.
+writes, and all, room or thresholds, which is what it has timed.
 
 Its lines, with tabs between the words: processor, compiler, library (the machine that its module was compiled for, or
 none); peer, key, name, package, version, and block or mesh, which is what it works on; figure, kind, size, name, value;
 made, kind, size, key, points, polygons, seconds; the name, which begins with worst_, and the value of a figure of the
 worst list for the pieces, if there is a library. Of a figure or a time that stands there twice the least counts; but
-room_ratio stands there for each run, and all of them are kept.
+a figure whose name ends with _ratio stands there for each run, and all of them are kept.
 Ends with status 1 if a peer's mesh is not of the size to be expected from the block's crossed edges, or if VTK finds a
 boundary edge in a closed mesh, for then the times are of different work."""
 import math
@@ -23,9 +23,9 @@ def read_results(name):
             if head == "peer":
                 peers[rest[0]] = {"name": rest[1], "package": rest[2], "version": rest[3], "given": rest[4]}
             elif head == "figure":
-                block = blocks.setdefault((rest[0], int(rest[1])), {"made": {}, "room_ratios": []})
-                if rest[2] == "room_ratio":
-                    block["room_ratios"].append(float(rest[3]))
+                block = blocks.setdefault((rest[0], int(rest[1])), {"made": {}})
+                if rest[2].endswith("_ratio"):
+                    block.setdefault(rest[2] + "s", []).append(float(rest[3]))
                 else:
                     block[rest[2]] = min(float(rest[3]), block.get(rest[2], math.inf))
             elif head == "made":
@@ -67,7 +67,7 @@ def with_ratio(block, seconds, time="whole", unit=1.0):
     return f"{shown} ({block[time] / seconds:.2f})" if time in block else shown
 
 
-# ---- the eight tables ----
+# ---- the nine tables ----
 
 def module_mark(words):
     """What the head of a column says of a library that is not the one that ships."""
@@ -254,6 +254,25 @@ def print_room_sizes(blocks):
                  "bytes of the mesh", "mesh / reserved"], rows)
 
 
+def row_cells(block, word):
+    """Both times, the ratio of these, and the lowest, the middle and the highest ratio of a run."""
+    one, each, ratios = block[f"{word}_one"], block[f"{word}_each"], block[f"{word}_ratios"]
+    spread = " / ".join(f"{ratio:.2f}" for ratio in (min(ratios), statistics.median(ratios), max(ratios)))
+    return [f"**{three_digits(1e3 * one)}**", three_digits(1e3 * each), f"{one / each:.2f}", spread]
+
+
+def print_row_times(words, blocks):
+    """Where the processor cannot flush the block from its caches, there are no columns for that."""
+    mark = module_mark(words)
+    is_cold = all("cold_one" in block for block in blocks.values())
+    heads = [f"one call{mark}, ms", f"12 counts{mark}, ms", "one call / 12 counts",
+             "of the runs: lowest / middle / highest"]
+    rows = []
+    for (kind, size), block in blocks.items():
+        rows.append([f"{kind} {size}"] + row_cells(block, "row") + (row_cells(block, "cold") if is_cold else []))
+    print_table(["block"] + heads + ([f"block not in the cache, {head}" for head in heads] if is_cold else []), rows)
+
+
 # ---- what the meshes must have in common ----
 
 def faults(peers, blocks):
@@ -398,6 +417,26 @@ Q quads. So room for 4 E / 3 vertices, rounded down, and for E quads is enough. 
   hold.
 """
 
+THRESHOLDS_TEXT = """
+A row of thresholds. All times here are milliseconds. `one call` is the library's call `parsniprow_thresholds` with 12
+thresholds, which gives the counts by each of them. `12 counts` is the call `parsniprow_counts` 12 times, once for each
+of the same thresholds. These are t - 5500, t - 4500, .. t + 5500, where t is the block's own threshold: for the
+housings 17500 to 28500, for noise 27268 to 38268.
+
+- Both ways are asked by turns in one process, on the same samples in the same memory, as `crossed` and `counts` are.
+- A run is the one call and then the 12. A round is 15 runs, or as many as begin within half a second, at least 2. Each
+  round is a process of its own. A time is the best of two rounds.
+- `one call / 12 counts` is the best time of the one divided by the best time of the other. Each run has a ratio of its
+  own too: the lowest, the middle and the highest are those of all runs of both rounds.
+- `block not in the cache`: before each call the block is flushed from all caches, and that is not timed. So each of the
+  12 calls reads the block from memory. The one call counts a run of 16 layers by all thresholds before the next run, so
+  it reads the block from memory once where the cache holds the samples of a run: 2.2 MB for 256 samples an axis. On a
+  computer whose last-level cache is smaller than the block, 33 MB for 256 samples an axis, each call reads the block
+  from memory, or most of it, without being flushed. These columns are left out on processors other than x86-64.
+- Checked: in each run both ways give the same counts.
+- No time makes the benchmark fail.
+"""
+
 SIZES_TEXT = """
 What each program made. A doubtful face is one with four crossed edges. Checked: Flying Edges has a point for each
 crossed edge, OpenVDB a quad for each crossed edge and for each step out of the block from metal, Marching Cubes 99 to
@@ -416,14 +455,19 @@ def print_room(words, blocks):
     print_room_sizes(blocks)
 
 
+def print_thresholds(words, blocks):
+    print_text(THRESHOLDS_TEXT)
+    print_row_times(words, blocks)
+
+
 def main():
-    if len(sys.argv) != 3 or sys.argv[2] not in ("all", "room"):
-        sys.exit("usage: tables.py results all, or tables.py results room")
+    if len(sys.argv) != 3 or sys.argv[2] not in ("all", "room", "thresholds"):
+        sys.exit("usage: tables.py results all, or tables.py results room, or tables.py results thresholds")
     words, every_peer, blocks = read_results(sys.argv[1])
     peers = {key: peer for key, peer in every_peer.items() if peer["version"] != "-"}
     print_heading(words, peers, [peer for key, peer in every_peer.items() if key not in peers])
-    if sys.argv[2] == "room":
-        print_room(words, blocks)
+    if sys.argv[2] != "all":
+        {"room": print_room, "thresholds": print_thresholds}[sys.argv[2]](words, blocks)
         return
     makers = {key: peer for key, peer in peers.items() if peer["given"] == "block"}
     print_text(TIMES_TEXT)
@@ -440,6 +484,7 @@ def main():
     if words["library"] != "none":
         print_worst(words)
         print_room(words, blocks)
+        print_thresholds(words, blocks)
     print_text(SIZES_TEXT)
     print_sizes(makers, blocks)
     wrong = faults(peers, blocks) + closed_faults(blocks)

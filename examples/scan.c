@@ -1,9 +1,10 @@
 /* The scan tool: reads a raw block of 16-bit grey values, has the library draw the surface between metal and hollow,
    and writes how many vertices and quads it has, whether it is closed, and in how many pieces it comes; on request also
-   the vertices and quads themselves, as plain text or as a PLY file for a viewer, and a table of the pieces. Or it
-   makes no mesh, and writes how much room one takes at most.
+   the vertices and quads themselves, as plain text or as a PLY file for a viewer, a table of the pieces, and how many
+   vertices and quads there are at other thresholds. Or it makes no mesh, and writes how much room one takes at most.
    Usage: scan FILE NX NY NZ THRESHOLD BYTE-ORDER [--mesh OUT] [--ply OUT --spacing X Y Z [--piece NUMBER]]
-   [--pieces OUT], or scan FILE NX NY NZ THRESHOLD BYTE-ORDER --room; "scan --help" says what each of them is.
+   [--pieces OUT] [--thresholds LIST], or scan FILE NX NY NZ THRESHOLD BYTE-ORDER --room; "scan --help" says what each
+   of them is.
    Assumes a POSIX system, and the library linked in (include/parsniprow.h).
 
    Standard output is the record, in lines of a word and what it says: what was asked, and the library's answer.
@@ -20,6 +21,11 @@
      ply BYTES                            how long the PLY file is, where one is asked for
      refused NUMBER value VALUE           there is no mesh, and no line of values or counts
      note SENTENCE                        what the answer does not mean, or what to do
+   With --thresholds a line for each threshold T of LIST, in the order of LIST, stands before the first note. It says
+   what a run with T in place of THRESHOLD says, and all other lines are at THRESHOLD:
+     at T vertices COUNT quads COUNT      the mesh at T
+     at T refused NUMBER value VALUE      there is no mesh at T, and the other lines hold all the same
+   LIST is 1 to 16 numbers with a comma between each two. Where THRESHOLD is refused, no threshold of LIST is told.
    With --room no mesh is made. In place of the lines from vertices to ply the record has:
      crossed COUNT                        how many edges of the block are crossed, those on the sides of the box too
      vertices-at-most COUNT               the mesh has no more: a vertex joins at least three crossed edges, and an edge
@@ -29,10 +35,10 @@
    Standard error has progress, a line each second, and a sentence where there is no answer; standard output then has
    nothing.
    Exit status: 0 a mesh, or its room; 1 a file or memory failed, or the mesh does not have the piece asked for; 2 bad
-   arguments; 3 refused by the library.
+   arguments; 3 refused by the library. A threshold of LIST that is refused does not change it.
 
-   The OUT of --mesh is plain text: four lines that begin with # and say what follows, the record's lines without notes,
-   a line for each vertex by rising number from 0,
+   The OUT of --mesh is plain text: four lines that begin with # and say what follows, the record's lines without notes
+   and without those of --thresholds, a line for each vertex by rising number from 0,
      v NUMBER I J K X Y Z MASK            its cube, its place in the cube, its mask: four digits in hexadecimal, the
                                           first 1 where the vertex is marked, the others its edges
    and a line for each quad, the numbers of its vertices: q A B C D. The vertex is at (I + X, J + Y, K + Z) in grid
@@ -70,16 +76,18 @@ enum { BYTES_A_SAMPLE = 2, WORDS_A_VERTEX = 2, OFFSETS_A_VERTEX = 3, VERTICES_A_
 enum { LEAST_EDGES_A_VERTEX = 3, MOST_CUBES_AN_EDGE = 4 };
 enum { NO_REFUSAL, BAD_AXIS, BAD_COUNT, BAD_THRESHOLD, BAD_SPACING = 13, NO_ROOM = 15 };
 enum { STATUS_MESH, STATUS_FAILED, STATUS_ARGUMENTS, STATUS_REFUSED };
-enum { ARGUMENTS = 6, LENGTH = 1, MOST_AT_ONCE = 1 << 20, MEGABYTE = 1000000 };
+enum { ARGUMENTS = 6, MOST_THRESHOLDS = 16, LENGTH = 1, MOST_AT_ONCE = 1 << 20, MEGABYTE = 1000000 };
 enum { MARK = 1 << 12 }; /* in the word of a vertex */
 
 /* What was asked. Names as shown are one line, whatever the file is called. The spacing is that of the PLY file, if one
-   is asked for, and the piece is the one that it is to have; as text they are null where they are not given. Where it
-   is for room, no mesh is made. */
+   is asked for, and the piece is the one that it is to have; as text they are null where they are not given. The mesh
+   is at the threshold; listed are the thresholds of --thresholds, of which there are so many. Where it is for room, no
+   mesh is made. */
 struct request {
     const char *file, *file_shown, *byte_order, *spacing_text[AXES], *piece_text;
     uint32_t length[AXES], piece;
-    uint16_t threshold;
+    uint16_t threshold, listed[MOST_THRESHOLDS];
+    size_t listed_count;
     double spacing[AXES];
     int is_for_room;
 };
@@ -294,7 +302,7 @@ static const char *shown(const char *text)
 static void help(void)
 {
     puts("target/scan FILE NX NY NZ THRESHOLD BYTE-ORDER [--mesh OUT] [--ply OUT --spacing X Y Z [--piece NUMBER]]\n"
-         "            [--pieces OUT]\n"
+         "            [--pieces OUT] [--thresholds LIST]\n"
          "target/scan FILE NX NY NZ THRESHOLD BYTE-ORDER --room\n"
          "\n"
          "Draws the surface between metal and hollow in a scan as a mesh of quads, and writes how many vertices and\n"
@@ -314,6 +322,9 @@ static void help(void)
          "              the file of --ply then has this piece alone. The table of --pieces has the number of each\n"
          "  --pieces OUT\n"
          "              also writes a table of the pieces to the file OUT, with commas, as spreadsheets read it\n"
+         "  --thresholds LIST\n"
+         "              also says how many vertices and quads there are at each threshold of LIST, to choose one by.\n"
+         "              LIST is 1 to 16 numbers with commas between them and no spaces\n"
          "  --room      makes no mesh, and says how much room it takes at most. Goes with no other option\n"
          "\n"
          "OUT must not be there yet. More than one file can be asked for, each under a name of its own.");
@@ -323,6 +334,7 @@ static void help(void)
          "  target/scan housing.raw 256 256 200 23000 little --mesh housing-mesh.txt\n"
          "  target/scan housing.raw 256 256 200 23000 little --ply housing.ply --spacing 0.125 0.125 0.2\n"
          "  target/scan housing.raw 256 256 200 23000 little --pieces housing-pieces.csv\n"
+         "  target/scan housing.raw 256 256 200 23000 little --thresholds 21000,22000,23000,24000,25000\n"
          "  target/scan housing.raw 256 256 200 23000 little --room\n"
          "\n"
          "Standard output has what was asked, then the lines \"values\", \"ceiling\", \"vertices\", \"quads\",\n"
@@ -349,6 +361,16 @@ static void help(void)
          "cube is at the ceiling. The line \"marked\" says how many vertices are. The MASK of a marked vertex begins\n"
          "with 1, that of any other with 0. A PLY file does not show which vertices are marked.\n"
          "\n"
+         "With --thresholds the record also has a line for each threshold T of LIST, in the order of LIST:\n"
+         "\n"
+         "  at T vertices COUNT quads COUNT\n"
+         "  at T refused NUMBER value VALUE\n"
+         "\n"
+         "The line says what a run with T in place of THRESHOLD says. It is the second one where T is 0 or 65535.\n"
+         "That changes neither the other lines nor the exit status. All other lines and all files are at THRESHOLD.\n"
+         "The lines that begin with \"at\" are for choosing a threshold. Run the tool with the one that you choose,\n"
+         "and enter that record beside the claim. Compare two housings only at the same threshold.");
+    puts("\n"
          "With --room four other lines follow the line \"ceiling\". The line \"crossed\" says how many edges are\n"
          "crossed. An edge joins two values that are neighbours along x, y or z. It is crossed if one is metal and\n"
          "the other hollow. The mesh has no more vertices and quads than the lines \"vertices-at-most\" and\n"
@@ -396,6 +418,28 @@ static void read_spacing(struct request *request, char **words)
     }
 }
 
+/* Each number of the list is read as THRESHOLD is. Those that the library refuses, 0 and 65535, are left to it. */
+static void read_thresholds(struct request *request, const char *list)
+{
+    size_t length = strlen(list), count = 1;
+    char *item = strcpy(room(length + 1, length + 1, "A list"), list);
+    if (length == 0 || list[0] == ',' || list[length - 1] == ',' || strstr(list, ",,"))
+        fail(STATUS_ARGUMENTS, "LIST of --thresholds is \"%s\", and it must be numbers with one comma between each "
+             "two, as in 21000,22000,23000: none is left out, and no comma stands at the end.", shown(list));
+    for (size_t at = 0; at < length; at++)
+        count += list[at] == ',';
+    if (count > MOST_THRESHOLDS)
+        fail(STATUS_ARGUMENTS, "LIST of --thresholds has %zu numbers, and it must have from 1 to %d. Ask for the "
+             "others in another run.", count, MOST_THRESHOLDS);
+    for (size_t which = 0; which < count; which++) {
+        size_t end = strcspn(item, ",");
+        item[end] = 0;
+        request->listed[which] = (uint16_t)number("A number of --thresholds", item, UINT16_MAX, "1 to 65534");
+        item += end + 1;
+    }
+    request->listed_count = count;
+}
+
 static void read_out(struct out *out, const char *name)
 {
     if (name[0] == 0 || name[0] == '-')
@@ -433,9 +477,14 @@ static int read_option(struct request *request, char **words, int left)
         request->piece_text = words[1];
         return 1;
     }
+    if (strcmp(words[0], "--thresholds") == 0) {
+        check_option(words[0], request->listed_count > 0, left >= 1, "the LIST of thresholds");
+        read_thresholds(request, words[1]);
+        return 1;
+    }
     if (strcmp(words[0], "--spacing") != 0)
-        fail(STATUS_ARGUMENTS, "\"%s\" stands where only --mesh, --ply, --pieces, --spacing, --piece and --room can.",
-             shown(words[0]));
+        fail(STATUS_ARGUMENTS, "\"%s\" stands where only --mesh, --ply, --pieces, --spacing, --piece, --thresholds and "
+             "--room can.", shown(words[0]));
     check_option(words[0], request->spacing_text[0] != NULL, left >= AXES, "X, Y and Z");
     read_spacing(request, words + 1);
     return AXES;
@@ -523,6 +572,19 @@ static void put_counts(FILE *to, const struct block *block, const struct mesh *m
         fprintf(to, "ply %" PRIu64 "\n", mesh->ply_len);
 }
 
+/* A row has an answer for each threshold of the list. */
+static void put_row(const struct request *request, const uint32_t *row)
+{
+    for (size_t which = 0; which < request->listed_count; which++) {
+        const uint32_t *answer = row + ANSWER * which;
+        printf("at %" PRIu16, request->listed[which]);
+        if (answer[0] == NO_REFUSAL)
+            printf(" vertices %" PRIu32 " quads %" PRIu32 "\n", answer[1], answer[2]);
+        else
+            printf(" refused %" PRIu32 " value %" PRIu32 "\n", answer[0], answer[1]);
+    }
+}
+
 static void advise_on_axis(const struct request *request, uint32_t axis)
 {
     printf("note Axis %c is %" PRIu32 " values long, and it must be 2 to 256. Check that the numbers stand in the "
@@ -578,10 +640,31 @@ static void note_ceilings(const struct request *request, const struct block *blo
            "there. Scan the part again with less exposure. Do not change the value in the file.\n");
 }
 
-static void report(const struct request *request, const struct block *block, const struct mesh *mesh)
+/* What the thresholds of the list are for, and what their answers do not mean. */
+static void note_row(const struct request *request, const uint32_t *row)
+{
+    int is_one_refused = 0, is_one_without_quads = 0;
+    for (size_t which = 0; which < request->listed_count; which++) {
+        const uint32_t *answer = row + ANSWER * which;
+        is_one_refused |= answer[0] != NO_REFUSAL;
+        is_one_without_quads |= answer[0] == NO_REFUSAL && answer[2] == 0;
+    }
+    printf("note The lines that begin with \"at\" are for choosing a threshold. All other lines are at threshold "
+           "%" PRIu16 ". Run the scan tool with the threshold that you choose, and enter that record beside the claim. "
+           "Compare two housings only at the same threshold.\n", request->threshold);
+    if (is_one_refused)
+        printf("note A threshold that is refused has no counts, since it must be from 1 to 65534. The other lines hold "
+               "all the same. Choose thresholds between the greys of hollow and of metal.\n");
+    if (is_one_without_quads)
+        printf("note No quads at a threshold does not mean no pore. Compare that threshold with the values.\n");
+}
+
+static void report(const struct request *request, const struct block *block, const struct mesh *mesh,
+                   const uint32_t *row)
 {
     put_request(stdout, request);
     put_counts(stdout, block, mesh);
+    put_row(request, row);
     if (block->ceiling_count > 0)
         note_ceilings(request, block, mesh);
     if (!mesh->is_closed)
@@ -595,6 +678,8 @@ static void report(const struct request *request, const struct block *block, con
     if (outs[PIECES_FILE].name)
         printf("note A piece is not yet a pore: the outside is a piece too, and so is a bore that does not open to it; "
                "a pore that a side of the box cuts may be several. docs/FOR-ASSESSORS.md says how to read them.\n");
+    if (request->listed_count > 0)
+        note_row(request, row);
     finish(STATUS_MESH);
 }
 
@@ -606,8 +691,8 @@ static void report_room(const struct request *request, const struct block *block
     printf("vertices-at-most %" PRIu64 "\n", bounds->vertex_count);
     printf("quads-at-most %" PRIu64 "\n", bounds->quad_count);
     printf("bytes-at-most %" PRIu64 "\n", bounds->bytes);
-    printf("note No mesh was made. The four numbers above say how much room it takes at most, and they are no counts of "
-           "it: enter none of them beside a claim.\n");
+    printf("note No mesh was made. The four numbers above say how much room it takes at most, and they are no counts "
+           "of it: enter none of them beside a claim.\n");
     if (block->ceiling_count > 0)
         note_first_ceiling(request, block);
     if (bounds->edge_count == 0)
@@ -758,6 +843,17 @@ static struct mesh count_mesh(const struct request *request, const struct block 
     mesh.vertex_count = answer[1];
     mesh.quad_count = answer[2];
     return mesh;
+}
+
+/* Asks for the counts at all thresholds of the list in one call. */
+static void count_row(const struct request *request, const struct block *block, uint32_t *row)
+{
+    const uint32_t *length = request->length;
+    uint32_t answer[ANSWER];
+    parsniprow_thresholds(length[0], length[1], length[2], block->samples, block->count, request->listed,
+                          request->listed_count, row, ANSWER * request->listed_count, answer, ANSWER);
+    if (answer[0] != NO_REFUSAL)
+        refuse(request, answer);
 }
 
 static struct bounds bound_mesh(const struct request *request, const struct block *block)
@@ -1137,6 +1233,9 @@ static void tell_room(const struct request *request, struct block *block)
 static void tell_mesh(const struct request *request, struct block *block)
 {
     struct mesh mesh = count_mesh(request, block);
+    uint32_t row[ANSWER * MOST_THRESHOLDS] = {0};
+    if (request->listed_count > 0)
+        count_row(request, block, row);
     count_ceilings(block);
     make_mesh(request, block, &mesh);
     check_closed(request, &mesh);
@@ -1145,7 +1244,7 @@ static void tell_mesh(const struct request *request, struct block *block)
     if (outs[PLY_FILE].name)
         make_ply(request, &mesh);
     write_files(request, block, &mesh);
-    report(request, block, &mesh);
+    report(request, block, &mesh, row);
 }
 
 int main(int argc, char **argv)

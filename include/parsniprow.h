@@ -17,10 +17,12 @@
      the function says. If the place is shorter, as many are written as it has room for. What lies behind is kept.
 
    IN WHICH ORDER
-   parsniprow_counts says how long the buffers of a mesh must be. Or ask parsniprow_crossed, which takes less time on a
-   scan: the lengths that are reserved by its answer are enough for the same block and threshold. parsniprow_mesh fills
-   the buffers. Then parsniprow_closed_with, parsniprow_pieces and parsniprow_ply may be asked about the mesh. The other
-   questions stand by themselves: parsniprow_ceilings, parsniprow_edge, parsniprow_cube and parsniprow_closed.
+   To try thresholds on one scan ask parsniprow_thresholds, which counts the mesh by up to 16 of them. Then with one
+   threshold: parsniprow_counts says how long the buffers of a mesh must be. Or ask parsniprow_crossed, which takes less
+   time on a scan: the lengths that are reserved by its answer are enough for the same block and threshold.
+   parsniprow_mesh fills the buffers. Then parsniprow_closed_with, parsniprow_pieces and parsniprow_ply may be asked
+   about the mesh. The other questions stand by themselves: parsniprow_ceilings, parsniprow_edge, parsniprow_cube and
+   parsniprow_closed.
 
    REFUSALS
    What cannot be answered is refused by number. Each function says which numbers it tries, and in which order; the
@@ -29,7 +31,7 @@
      number  given exactly when                value
      1       an axis is under 2 or over 256    lowest such axis, 0 to 2
      2       samples_len is not nx * ny * nz   nx * ny * nz
-     3       t is 0 or 65535                   t
+     3       t or a threshold is 0 or 65535    that threshold
      5       words_len is under 2 a vertex,    vertices needed
              or offsets_len is under 3 a
              vertex; piece_len or size_len is
@@ -40,10 +42,13 @@
              is above 1000
      14      a quad names a vertex that is     lowest such quad
              not there
-     15      file_len is under the bytes of    bytes or items needed
-             the file, or work_len under the
-             items that the closed question
-             needs
+     15      file_len is under the bytes of    bytes or items needed;
+             the file, work_len under the      for answers_len how
+             items that the closed question    many thresholds there
+             needs, or answers_len under 3     are
+             a threshold
+     16      there are more than 16            how many there are
+             thresholds
      22      words_len and offsets_len are     words_len
              not twice and three times one
              count of at most 66325500
@@ -53,7 +58,8 @@
              from 0 to 1
 
    A value above 4294967295 is given as that. Numbers 8 to 12 are of the small program and not of the library. Number 4
-   is given by nothing any more.
+   is given by nothing any more. A number stands first in the answer place of the call. Only number 3 of
+   parsniprow_thresholds does not: there it is the answer for one threshold, and the call is not refused.
 
    GREY VALUES
    A sample is metal if it is at least the threshold t, else hollow. Samples stand x fastest: sample (i, j, k) has index
@@ -131,6 +137,23 @@ void parsniprow_crossed(uint32_t nx, uint32_t ny, uint32_t nz, const uint16_t *s
      answer      answer place, 3 items: 0, vertices, quads; or refusal (1, 2 or 3, tried in this order), its value, 0 */
 void parsniprow_counts(uint32_t nx, uint32_t ny, uint32_t nz, const uint16_t *samples, size_t samples_len, uint16_t t,
                        uint32_t *answer, size_t answer_len);
+
+/* How many vertices and quads the mesh of a block has by each of several thresholds, for trying thresholds on one scan.
+   For each threshold the numbers are those that parsniprow_counts answers for it alone. The call takes the time of as
+   many calls of parsniprow_counts, or less.
+     nx, ny, nz, samples  as of parsniprow_counts
+     thresholds  0 to 16 thresholds, any numbers in any order; one may stand there twice
+     answers     room for 3 items a threshold. At 3 * i stand those of thresholds[i]: 0, vertices, quads; or, where it
+                 is 0 or 65535, refusal 3, its value, 0. More room is allowed
+     answer      answer place, 3 items: 0, 0, 0; or refusal of the whole call (16, 15, 1 or 2, tried in this order), its
+                 value, 0
+   A threshold of 0 or 65535 does not refuse the call: number 3 stands among the answers and never in answer, and the
+   other thresholds are counted. So look at answer first, and then at the first item of each three in answers.
+   Without a threshold a good block is accepted, and nothing is written to answers. The buffer keeps its contents on
+   refusal, and always behind 3 * thresholds_len items. */
+void parsniprow_thresholds(uint32_t nx, uint32_t ny, uint32_t nz, const uint16_t *samples, size_t samples_len,
+                           const uint16_t *thresholds, size_t thresholds_len, uint32_t *answers, size_t answers_len,
+                           uint32_t *answer, size_t answer_len);
 
 /* The mesh of a block. Its time grows with the number of samples and with the size of the mesh. Ask parsniprow_counts
    first, which says the exact lengths: words takes 2 * vertices items, offsets 3 * vertices, quads 4 * quads. More room

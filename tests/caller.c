@@ -1,4 +1,4 @@
-/* A caller of the installed library, in the words that C and C++ share: the paper's samples through each of the ten
+/* A caller of the installed library, in the words that C and C++ share: the paper's samples through each of the eleven
    functions, in a thread with a stack of 64 KiB, which the header says is enough. Prints what is wrong and ends with
    status 1, or ends with status 0.
    Assumes the installed header and archive, and POSIX threads. */
@@ -12,6 +12,7 @@
 
 enum { STACK = 65536, SAMPLES = 27, VERTICES = 8, MARKED_VERTICES = 9, QUADS = 6, MARK = 4096 };
 enum { EDGES = 6, MARKED_EDGES = 9, RESERVED = 4 * MARKED_EDGES / 3 };
+enum { THRESHOLDS = 7, MOST_THRESHOLDS = 16 };
 enum { WORK = VERTICES + 4 * QUADS, FILE_BYTES = 466, HEAD_BYTES = 172 };
 
 static int faults;
@@ -107,6 +108,36 @@ static void ask_crossed(void)
     expect("crossed edges at a threshold that is none", answers(answer, 3, 65535, 0));
 }
 
+/* The paper's block by seven thresholds: 0 and 65535 have number 3 of their own, by 401 there is no metal, and by any
+   other the middle sample is metal. */
+static void ask_thresholds(void)
+{
+    static const uint16_t thresholds[MOST_THRESHOLDS + 1] = {100, 0, 65535, 400, 401, 1, 100};
+    uint16_t samples[SAMPLES] = {0};
+    uint32_t row[3 * THRESHOLDS + 1], answer[3] = {9, 9, 9};
+    for (size_t at = 0; at <= 3 * THRESHOLDS; at++)
+        row[at] = 99;
+    samples[13] = 400;
+    parsniprow_thresholds(3, 1, 3, samples, SAMPLES, thresholds, MOST_THRESHOLDS + 1, row, 0, answer, 3);
+    expect("more than 16 thresholds", answers(answer, 16, MOST_THRESHOLDS + 1, 0));
+    parsniprow_thresholds(3, 1, 3, samples, SAMPLES, thresholds, THRESHOLDS, row, 3 * THRESHOLDS - 1, answer, 3);
+    expect("too little room for seven thresholds", answers(answer, 15, THRESHOLDS, 0));
+    parsniprow_thresholds(3, 1, 3, samples, SAMPLES, thresholds, THRESHOLDS, row, 3 * THRESHOLDS, answer, 3);
+    expect("thresholds with an axis that is none", answers(answer, 1, 1, 0));
+    parsniprow_thresholds(3, 3, 3, samples, SAMPLES - 1, thresholds, 0, row, 0, answer, 3);
+    expect("no threshold and a sample less", answers(answer, 2, SAMPLES, 0));
+    parsniprow_thresholds(3, 3, 3, samples, SAMPLES, thresholds, 0, row, 3 * THRESHOLDS, answer, 3);
+    expect("no threshold", answers(answer, 0, 0, 0));
+    for (size_t at = 0; at <= 3 * THRESHOLDS; at++)
+        expect("a row that is kept", row[at] == 99);
+    parsniprow_thresholds(3, 3, 3, samples, SAMPLES, thresholds, THRESHOLDS, row, 3 * THRESHOLDS + 1, answer, 3);
+    expect("thresholds", answers(answer, 0, 0, 0) && row[3 * THRESHOLDS] == 99);
+    expect("thresholds that are none", answers(row + 3, 3, 0, 0) && answers(row + 6, 3, 65535, 0));
+    expect("their counts", answers(row, 0, VERTICES, QUADS) && answers(row + 9, 0, VERTICES, QUADS) &&
+                               answers(row + 12, 0, 0, 0) && answers(row + 15, 0, VERTICES, QUADS) &&
+                               answers(row + 18, 0, VERTICES, QUADS));
+}
+
 static void ask_closed(const uint32_t *quads)
 {
     static const uint32_t alone[4] = {0, 1, 2, 3};
@@ -184,11 +215,13 @@ static void ask_ply(void)
     expect("a spacing of 0", answers(answer, 13, 1, 0) && length[0] == 0);
 }
 
-/* A block of 256 samples an axis: the mesh, which counts first, has the deepest stack. */
+/* A block of 256 samples an axis: the mesh, which counts first, has the deepest stack. Sixteen thresholds are the
+   most. */
 static void ask_large(void)
 {
+    static const uint16_t thresholds[MOST_THRESHOLDS] = {400, 401};
     static uint16_t samples[256 * 256 * 256];
-    uint32_t answer[3] = {9, 9, 9};
+    uint32_t row[3 * MOST_THRESHOLDS], answer[3] = {9, 9, 9};
     uint32_t none[1];
     double nothing[1];
     size_t count = sizeof samples / sizeof *samples;
@@ -198,6 +231,10 @@ static void ask_large(void)
     expect("a large block without room", answers(answer, 5, 8, 0));
     parsniprow_crossed(256, 256, 256, samples, count, 100, answer, 3);
     expect("crossed edges of a large block", answers(answer, 0, EDGES, 0));
+    parsniprow_thresholds(256, 256, 256, samples, count, thresholds, MOST_THRESHOLDS, row, 3 * MOST_THRESHOLDS, answer,
+                          3);
+    expect("16 thresholds of a large block", answers(answer, 0, 0, 0) && answers(row, 0, VERTICES, QUADS) &&
+                                                 answers(row + 3, 0, 0, 0) && answers(row + 45, 3, 0, 0));
 }
 
 static void *ask(void *unused)
@@ -207,6 +244,7 @@ static void *ask(void *unused)
     ask_cube();
     ask_block(quads);
     ask_crossed();
+    ask_thresholds();
     ask_closed(quads);
     ask_closed_with(quads);
     ask_pieces(quads);

@@ -1,6 +1,7 @@
-/* Compares the library with the plain implementation on many random blocks and their crossed edges, on edges, cubes,
-   lists of quads and their pieces, lists of samples and meshes that become files: the answers, and every byte of every
-   lent buffer, with what is beside it. Of blocks that have a margin of one sign the mesh must be closed.
+/* Compares the library with the plain implementation on many random blocks, their crossed edges and rows of thresholds,
+   on edges, cubes, lists of quads and their pieces, lists of samples and meshes that become files: the answers, and
+   every byte of every lent buffer, with what is beside it. Of blocks that have a margin of one sign the mesh must be
+   closed.
    Usage: compare [blocks [seed [first block]]].
    From 20,000 blocks on it also tries what takes seconds, and fails if something that it should try never occurred. The
    last line is a summary, and the exit status is 0 only if nothing differed and nothing was missing.
@@ -17,8 +18,9 @@
 enum { DEFAULT_BLOCKS = 20000, DEFAULT_SEED = 1, ENOUGH_BLOCKS = 20000, LINE = 118, MOST_MISSING = 64 };
 
 static const char *const function_names[FUNCTIONS] = {
-    "parsniprow_edge",   "parsniprow_cube",        "parsniprow_crossed", "parsniprow_counts",   "parsniprow_mesh",
-    "parsniprow_closed", "parsniprow_closed_with", "parsniprow_pieces",  "parsniprow_ceilings", "parsniprow_ply",
+    "parsniprow_edge",       "parsniprow_cube",     "parsniprow_crossed", "parsniprow_counts",
+    "parsniprow_thresholds", "parsniprow_mesh",     "parsniprow_closed",  "parsniprow_closed_with",
+    "parsniprow_pieces",     "parsniprow_ceilings", "parsniprow_ply",
 };
 
 static uint64_t asked[FUNCTIONS][BESIDES], differences;
@@ -153,6 +155,8 @@ static void try_fixed(void)
     try_fixed_pieces();
     working_on(strcpy(occasion, "among the blocks for room that are asked once"));
     try_fixed_rooms();
+    working_on(strcpy(occasion, "among the rows of thresholds that are asked once"));
+    try_fixed_rows();
 }
 
 static void try_with_block(uint64_t seed, uint64_t block)
@@ -173,6 +177,7 @@ static void try_with_block(uint64_t seed, uint64_t block)
         try_margin(&trial);
     try_pieces(&trial);
     try_room(&trial);
+    try_rows(&trial);
 }
 
 static void print_missing(void)
@@ -183,7 +188,7 @@ static void print_missing(void)
 
 static int report(uint64_t blocks)
 {
-    uint64_t edges, cubes, lists, ceilings, files, margins, pieces, rooms;
+    uint64_t edges, cubes, lists, ceilings, files, margins, pieces, rooms, rows;
     char of_missing[40] = "";
     int enough = blocks >= ENOUGH_BLOCKS;
     tally_blocks();
@@ -195,6 +200,7 @@ static int report(uint64_t blocks)
     margins = tally_margins();
     pieces = tally_pieces();
     rooms = tally_rooms();
+    rows = tally_rows();
     tally_asked();
     printf("\n");
     if (enough) {
@@ -202,10 +208,12 @@ static int report(uint64_t blocks)
         snprintf(of_missing, sizeof of_missing, "%zu cases missing, ", missing_count);
     }
     printf("compare: %llu blocks, %llu edges, %llu cubes, %llu lists of quads, %llu of samples, %llu files, "
-           "%llu blocks with a margin, %llu lists for pieces, %llu blocks for room, %s%llu differences\n",
+           "%llu blocks with a margin, %llu lists for pieces, %llu blocks for room, %llu rows of thresholds, "
+           "%s%llu differences\n",
            (unsigned long long)blocks, (unsigned long long)edges, (unsigned long long)cubes, (unsigned long long)lists,
            (unsigned long long)ceilings, (unsigned long long)files, (unsigned long long)margins,
-           (unsigned long long)pieces, (unsigned long long)rooms, of_missing, (unsigned long long)differences);
+           (unsigned long long)pieces, (unsigned long long)rooms, (unsigned long long)rows, of_missing,
+           (unsigned long long)differences);
     return differences > 0 || (enough && missing_count > 0);
 }
 
@@ -243,6 +251,8 @@ int main(int argc, char **argv)
         try_longest_file();
         working_on(strcpy(occasion, "with the largest blocks"));
         try_largest_blocks();
+        working_on(strcpy(occasion, "with rows of thresholds for the largest block"));
+        try_largest_rows();
     }
     for (uint64_t block = first; block - first < blocks; block++)
         try_with_block(seed, block);

@@ -13,6 +13,7 @@
 #define parsniprow_cube plain_cube
 #define parsniprow_crossed plain_crossed
 #define parsniprow_counts plain_counts
+#define parsniprow_thresholds plain_thresholds
 #define parsniprow_mesh plain_mesh
 #define parsniprow_closed plain_closed
 #define parsniprow_closed_with plain_closed_with
@@ -26,7 +27,20 @@ enum { ANSWER = 3, CLOSED_ANSWER = 4, LOOPS = 4, COORDINATES = 12, MOST_SHIFT = 
 /* The mark of a vertex whose cube has a corner at the ceiling, a bit of its word. */
 enum { MARK = 4096 };
 
-enum function { EDGE, CUBE, CROSSED, COUNTS, MESH, CLOSED, CLOSED_WITH, PIECES, CEILINGS, PLY, FUNCTIONS };
+enum function {
+    EDGE,
+    CUBE,
+    CROSSED,
+    COUNTS,
+    THRESHOLDS,
+    MESH,
+    CLOSED,
+    CLOSED_WITH,
+    PIECES,
+    CEILINGS,
+    PLY,
+    FUNCTIONS
+};
 
 /* ---- judging a call ---- */
 
@@ -76,8 +90,8 @@ struct trial {
 
 /* Asks the counts and the mesh of a block and fills in the trial but for its chance; then what goes with the block:
    some edges, some of its cubes, some lists of quads, its samples at the ceiling, some files, another block, whose
-   samples on the faces of the box are all of one sign, the pieces of some lists, and its crossed edges with those of
-   some other blocks. */
+   samples on the faces of the box are all of one sign, the pieces of some lists, its crossed edges with those of some
+   other blocks, and its counts by rows of thresholds with those of some other blocks. */
 void try_block(struct trial *trial);
 void try_edges(struct trial *trial);
 void try_cubes(struct trial *trial);
@@ -87,6 +101,7 @@ void try_files(struct trial *trial);
 void try_margin(struct trial *trial);
 void try_pieces(struct trial *trial);
 void try_room(struct trial *trial);
+void try_rows(struct trial *trial);
 
 /* The closed question takes the square of a list without work, so it is asked so only up to this many quads. */
 enum { SQUARE_QUADS = 352 };
@@ -112,10 +127,12 @@ void try_fixed_files(void);
 void try_fixed_margins(void);
 void try_fixed_pieces(void);
 void try_fixed_rooms(void);
+void try_fixed_rows(void);
 
 /* What takes seconds, and is asked only with enough blocks. */
 void try_longest_file(void);
 void try_largest_blocks(void);
+void try_largest_rows(void);
 
 /* Print what has occurred, and give the number of calls. */
 void tally_blocks(void);
@@ -127,5 +144,6 @@ uint64_t tally_files(void);
 uint64_t tally_margins(void);
 uint64_t tally_pieces(void);
 uint64_t tally_rooms(void);
+uint64_t tally_rows(void);
 
 #endif

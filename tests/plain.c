@@ -12,6 +12,7 @@
 
 enum { AXES = 3, CORNERS = 8, EDGES = 12, FACES = 6, MOST_LOOPS = 4, CEILING = 65535, MARK = 4096 };
 enum { SHORTEST_AXIS = 2, LONGEST_AXIS = 256, WORDS = 2, SIDES = 4, ANSWER = 3, CLOSED_ANSWER = 4 };
+enum { MOST_THRESHOLDS = 16 };
 enum { MOST_VERTICES = 66325500, WIDEST_SPACING = 1000, MOST_HEAD = 256, DOUBLE_BYTES = 8, INT_BYTES = 4 };
 
 /* Corner pairs of the edges, the lower one first. */
@@ -394,15 +395,19 @@ static struct refusal check_axes(uint32_t nx, uint32_t ny, uint32_t nz)
     return accepted;
 }
 
-static struct refusal check_block(uint32_t nx, uint32_t ny, uint32_t nz, size_t samples_len, uint16_t t)
+static struct refusal check_samples(uint32_t nx, uint32_t ny, uint32_t nz, size_t samples_len)
 {
     struct refusal refusal = check_axes(nx, ny, nz);
     uint32_t wanted = nx * ny * nz;
-    if (refusal.number)
-        return refusal;
-    if (samples_len != wanted)
-        return refuse(2, wanted);
-    return check_threshold(t);
+    if (!refusal.number && samples_len != wanted)
+        refusal = refuse(2, wanted);
+    return refusal;
+}
+
+static struct refusal check_block(uint32_t nx, uint32_t ny, uint32_t nz, size_t samples_len, uint16_t t)
+{
+    struct refusal refusal = check_samples(nx, ny, nz, samples_len);
+    return refusal.number ? refusal : check_threshold(t);
 }
 
 static struct refusal check_rest(size_t quads_len)
@@ -876,6 +881,22 @@ void plain_counts(uint32_t nx, uint32_t ny, uint32_t nz, const uint16_t *samples
         return;
     }
     say(answer, answer_len, 0, number_vertices(&block, NULL), number_quads(&block, NULL, NULL, NULL));
+}
+
+void plain_thresholds(uint32_t nx, uint32_t ny, uint32_t nz, const uint16_t *samples, size_t samples_len,
+                      const uint16_t *thresholds, size_t thresholds_len, uint32_t *answers, size_t answers_len,
+                      uint32_t *answer, size_t answer_len)
+{
+    struct refusal refusal;
+    if (thresholds_len > MOST_THRESHOLDS)
+        refusal = refuse(16, cut_to_u32(thresholds_len));
+    else if (answers_len < ANSWER * thresholds_len)
+        refusal = refuse(15, cut_to_u32(thresholds_len));
+    else
+        refusal = check_samples(nx, ny, nz, samples_len);
+    for (size_t i = 0; !refusal.number && i < thresholds_len; i++)
+        plain_counts(nx, ny, nz, samples, samples_len, thresholds[i], answers + ANSWER * i, ANSWER);
+    say_refused(answer, answer_len, refusal);
 }
 
 void plain_mesh(uint32_t nx, uint32_t ny, uint32_t nz, const uint16_t *samples, size_t samples_len, uint16_t t,

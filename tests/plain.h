@@ -31,6 +31,13 @@ void plain_crossed(uint32_t nx, uint32_t ny, uint32_t nz, const uint16_t *sample
 void plain_counts(uint32_t nx, uint32_t ny, uint32_t nz, const uint16_t *samples, size_t samples_len, uint16_t t,
                   uint32_t *answer, size_t answer_len);
 
+/* The counts of a mesh by each of up to 16 thresholds. Three words a threshold, as plain_counts answers it alone: 0,
+   vertices, quads; or 3, the threshold, 0. Answer: 0, 0, 0. Refusals of the whole call 16, 15, 1, 2, tried in this
+   order. The answers are kept on refusal, and behind three words a threshold always. */
+void plain_thresholds(uint32_t nx, uint32_t ny, uint32_t nz, const uint16_t *samples, size_t samples_len,
+                      const uint16_t *thresholds, size_t thresholds_len, uint32_t *answers, size_t answers_len,
+                      uint32_t *answer, size_t answer_len);
+
 /* The mesh into lent buffers, its words as of the cube question. Answer: 0, vertices, quads. Refusals 1, 2, 3, 5, 6. */
 void plain_mesh(uint32_t nx, uint32_t ny, uint32_t nz, const uint16_t *samples, size_t samples_len, uint16_t t,
                 uint32_t *words, size_t words_len, double *offsets, size_t offsets_len, uint32_t *quads,

@@ -1,9 +1,9 @@
 /* Runs the plain implementation on the paper's samples: the example block with its whole output, the nine cubes, the
    edges, the refusals, lists of quads and the table of faces; on samples at the ceiling, which are metal and leave a
-   mark; on blocks whose crossed edges were worked out by hand or come from a formula; on two samples that are joined
-   across a face, whose mesh is closed; on the work of the closed question; on the pieces of small lists that were
-   worked out by hand and of the example's mesh; and on files of that mesh and of the empty one. Prints each sample and
-   its verdict; exits with 1 if one differs.
+   mark; on rows of thresholds for the example block; on blocks whose crossed edges were worked out by hand or come from
+   a formula; on two samples that are joined across a face, whose mesh is closed; on the work of the closed question; on
+   the pieces of small lists that were worked out by hand and of the example's mesh; and on files of that mesh and of
+   the empty one. Prints each sample and its verdict; exits with 1 if one differs.
    Assumes nothing of the library. */
 #include "bench_cubes.h"
 #include "hand_blocks.h"
@@ -291,6 +291,57 @@ static void ceilings_of_blocks(void)
     plain_counts(3, 3, 3, samples, EXAMPLE_SAMPLES, 100, answer, ANSWER);
     verdict("a ceiling with metal all round: no vertex", says(answer, 0, 0, 0));
     ceilings("and still counted: 1, at 13", samples, EXAMPLE_SAMPLES, 1, EXAMPLE_SAMPLES / 2);
+}
+
+/* ---- rows of thresholds ---- */
+
+enum { MOST_ROW = 17, ROW = 7, UNTOUCHED = 99 };
+
+/* Thresholds of a row for the example block, and the three numbers of each. A longer row goes through them again. */
+static const uint16_t row_thresholds[ROW] = {100, 0, CEILING, 400, 401, 1, 100};
+static const uint32_t row_answers[ROW][ANSWER] = {{0, 8, 6}, {3, 0, 0}, {3, CEILING, 0}, {0, 8, 6},
+                                                  {0, 0, 0}, {0, 8, 6}, {0, 8, 6}};
+
+/* So many thresholds with room for so many items, in the example block as far as the axes and samples_len say so.
+   Behind the answers, and everywhere on refusal, the room must be kept. */
+static void row(const char *name, const uint32_t n[3], size_t samples_len, size_t thresholds_len, size_t answers_len,
+                uint32_t number, uint32_t value)
+{
+    uint16_t samples[EXAMPLE_SAMPLES], thresholds[MOST_ROW];
+    uint32_t answers[ANSWER * MOST_ROW], answer[ANSWER];
+    int is_good;
+    example_block(samples);
+    for (size_t i = 0; i < MOST_ROW; i++)
+        thresholds[i] = row_thresholds[i % ROW];
+    for (size_t i = 0; i < ANSWER * MOST_ROW; i++)
+        answers[i] = UNTOUCHED;
+    plain_thresholds(n[0], n[1], n[2], samples, samples_len, thresholds, thresholds_len, answers, answers_len, answer,
+                     ANSWER);
+    is_good = says(answer, number, value, 0);
+    for (size_t i = 0; i < MOST_ROW; i++) {
+        const uint32_t kept[ANSWER] = {UNTOUCHED, UNTOUCHED, UNTOUCHED};
+        const uint32_t *wanted = number == 0 && i < thresholds_len ? row_answers[i % ROW] : kept;
+        is_good = is_good && says(answers + ANSWER * i, wanted[0], wanted[1], wanted[2]);
+    }
+    verdict(name, is_good);
+}
+
+static void rows_of_thresholds(void)
+{
+    static const uint32_t good[3] = {3, 3, 3}, bad[3] = {3, 9, 1};
+    row("seven thresholds", good, EXAMPLE_SAMPLES, 7, 21, 0, 0);
+    row("with room for more", good, EXAMPLE_SAMPLES, 7, 51, 0, 0);
+    row("16 thresholds", good, EXAMPLE_SAMPLES, 16, 48, 0, 0);
+    row("17 thresholds: 16, value 17", good, EXAMPLE_SAMPLES, 17, 51, 16, 17);
+    row("room for 20 items: 15, value 7", good, EXAMPLE_SAMPLES, 7, 20, 15, 7);
+    row("an axis of 1: 1, value 2", bad, EXAMPLE_SAMPLES, 7, 21, 1, 2);
+    row("a sample less: 2, value 27", good, EXAMPLE_SAMPLES - 1, 7, 21, 2, EXAMPLE_SAMPLES);
+    row("no threshold", good, EXAMPLE_SAMPLES, 0, 0, 0, 0);
+    row("no threshold, an axis of 1: 1, value 2", bad, EXAMPLE_SAMPLES, 0, 0, 1, 2);
+    row("no threshold, a sample less: 2, value 27", good, EXAMPLE_SAMPLES - 1, 0, 0, 2, EXAMPLE_SAMPLES);
+    row("17, no room, an axis of 1: 16, value 17", bad, EXAMPLE_SAMPLES, 17, 0, 16, 17);
+    row("room for 20, an axis of 1: 15, value 7", bad, EXAMPLE_SAMPLES, 7, 20, 15, 7);
+    row("room for 20, a sample less: 15, value 7", good, EXAMPLE_SAMPLES - 1, 7, 20, 15, 7);
 }
 
 /* ---- crossed edges ---- */
@@ -644,6 +695,7 @@ int main(void)
     ceilings_of_cubes();
     refusals();
     ceilings_of_blocks();
+    rows_of_thresholds();
     crossed_of_hand_blocks();
     crossed_of_formulas();
     lists();
