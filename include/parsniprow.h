@@ -139,8 +139,8 @@ void parsniprow_counts(uint32_t nx, uint32_t ny, uint32_t nz, const uint16_t *sa
                        uint32_t *answer, size_t answer_len);
 
 /* How many vertices and quads the mesh of a block has by each of several thresholds, for trying thresholds on one scan.
-   For each threshold the numbers are those that parsniprow_counts answers for it alone. The call takes the time of as
-   many calls of parsniprow_counts, or less.
+   For each threshold the numbers are those that parsniprow_counts answers for it alone. The call takes about the time of
+   as many calls of parsniprow_counts, and less on a large scan.
      nx, ny, nz, samples  as of parsniprow_counts
      thresholds  0 to 16 thresholds, any numbers in any order; one may stand there twice
      answers     room for 3 items a threshold. At 3 * i stand those of thresholds[i]: 0, vertices, quads; or, where it

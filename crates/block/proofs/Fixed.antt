@@ -13,7 +13,7 @@ use Rattle.block.specs.declared.Size.{Size}
 use Rattle.block.specs.Answer.{given, inOrder}
 use Rattle.block.specs.Block.{blockRows}
 use Rattle.block.specs.Ceilings.{ceilingsIn}
-use Rattle.block.specs.Rows.{thresholdRow, roomRow}
+use Rattle.block.specs.Rows.{countRow, thresholdRow, roomRow}
 
 -- of `Size::nx`, `Size::ny` and `Size::nz`
 pub nx-fixed : (n : Size) → Fixes (λ (r : ℕ). r ≡ n .nx)
@@ -25,11 +25,12 @@ ny-fixed n = equation-fixes (n .ny)
 pub nz-fixed : (n : Size) → Fixes (λ (r : ℕ). r ≡ n .nz)
 nz-fixed n = equation-fixes (n .nz)
 
--- of `Size::samples`
-
--- of `check_block`, `check_threshold` and `check_room`
+-- of `check_block`, `check_count`, `check_threshold` and `check_room`
 pub check-block-fixed : (n : Size) (s : List ℕ) (cut : Cut) → Fixes (λ (r : Checked). r ≡ inOrder (blockRows n s cut))
 check-block-fixed n s cut = equation-fixes (inOrder (blockRows n s cut))
+
+pub check-count-fixed : (n : Size) (count : ℕ) → Fixes (λ (r : Checked). r ≡ countRow n count)
+check-count-fixed n count = equation-fixes (countRow n count)
 
 pub check-threshold-fixed : (cut : Cut) → Fixes (λ (r : Checked). r ≡ thresholdRow cut)
 check-threshold-fixed cut = equation-fixes (thresholdRow cut)

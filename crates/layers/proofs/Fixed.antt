@@ -15,7 +15,7 @@ use Rattle.layers.proofs.Halves.{halves-same}
 use Rattle.layers.proofs.Steps.{step-counts}
 
 -- the same four numbers
-same-marks : (r r′ : Marks) → r .v ≡ r′ .v → r .x ≡ r′ .x → r .y ≡ r′ .y → r .z ≡ r′ .z → r ≡ r′
+pub same-marks : (r r′ : Marks) → r .v ≡ r′ .v → r .x ≡ r′ .x → r .y ≡ r′ .y → r .z ≡ r′ .z → r ≡ r′
 same-marks r r′ e f g h =
     ap₂ (λ (v x : ℕ). record { v = v; x = x; y = r .y; z = r .z }) e f ∙ ap₂ (λ (y z : ℕ). record { v = r′ .v; x = r′ .x; y = y; z = z }) g h
 

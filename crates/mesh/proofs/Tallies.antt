@@ -20,9 +20,8 @@ use Rattle.mesh_rule.proofs.Counts.{most-vertices, most-quads}
 use Rattle.quads.specs.Writing.{rowQuads}
 use Rattle.layers.specs.declared.Marks.{Marks}
 use Rattle.layers.specs.Steps.{RowFew}
-use Rattle.mesh.specs.declared.Totals.{Totals}
 use Rattle.mesh.specs.Answer.{vertexCount, quadCount, countsOf}
-use Rattle.mesh.specs.Steps.{quadsUpTo, MarkedTo, Marking, Counting, Tallied, RowMoved}
+use Rattle.mesh.specs.Steps.{totalsOf, Few, quadsUpTo, MarkedTo, Marking, Counting, Tallied, RowMoved}
 use Rattle.mesh.proofs.Layers.{layers-all}
 use Rattle.mesh_rule.proofs.Quads.{flat-length}
 use Rattle.mesh.proofs.PlaneQuads.{mesh-quads, planes-quads-all}
@@ -124,12 +123,12 @@ module _ (n : Size) (s : List ℕ) (cut : Cut) where
   tallied-quads : (m : Marks) → Tallied loopsOf n s cut m → m .x + m .y + m .z ≡ 4 * quadCount n s cut
   tallied-quads m c = omega (arith, c .x-is, c .y-is, c .z-is, all-quads)
 
-  pub tallied-few : (m : Marks) → Limits n → Tallied loopsOf n s cut m → (m .v ≤ 66325500) × (m .x + m .y + m .z ≤ 197418960)
+  pub tallied-few : (m : Marks) → Limits n → Tallied loopsOf n s cut m → Few m
   tallied-few m l c =
       (omega (arith, c .v-is, vertices-are, most-vertices loopsOf n s cut (cube-laws joined) l), omega (arith, tallied-quads m c, most-quads loopsOf n s cut l))
 
-  pub tallied-counts : (m : Marks) (r : Totals) → Tallied loopsOf n s cut m → r .vertices ≡ m .v → r .quads ≡ (m .x + m .y + m .z) / 4 → r ≡ countsOf n s cut
-  tallied-counts m r c e f = ap₂ (λ (v q : ℕ). record { vertices = v; quads = q }) (e ∙ c .v-is ∙ vertices-are) (f ∙ quarter (tallied-quads m c))
+  pub tallied-counts : (m : Marks) → Tallied loopsOf n s cut m → totalsOf m ≡ countsOf n s cut
+  tallied-counts m c = ap₂ (λ (v q : ℕ). record { vertices = v; quads = q }) (c .v-is ∙ vertices-are) (quarter (tallied-quads m c))
     where
       quarter : {x q : ℕ} → x ≡ 4 * q → x / 4 ≡ q
       quarter h = omega arith

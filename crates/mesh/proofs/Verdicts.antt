@@ -7,7 +7,7 @@ use native.Mathlib.Omega.{arith}
 use lib.ListN.{length}
 use lib.Ieee.{Float}
 use Rattle.laws.specs.Fixed.{Fixes}
-use Rattle.laws.proofs.Fixed.{Injective, said-fixes}
+use Rattle.laws.proofs.Fixed.{Injective, equation-fixes, said-fixes}
 use Rattle.block.specs.declared.Cut.{Cut}
 use Rattle.block.specs.declared.Size.{Size}
 use Rattle.block.specs.declared.Refusal.{Refusal}
@@ -21,10 +21,14 @@ use Rattle.block.specs.Size.{sizeOf, SizeMade, Limits}
 use Rattle.block.proofs.Order.{order-refuses, order-passes, order-first, order-rest, judged-refused, written-refused}
 use Rattle.block.proofs.Blocks.{sampled-of}
 use Rattle.block.proofs.Sizes.{axis-refused, axis-passed, size-made}
+use Rattle.cube_rule.specs.Decider.{loopsOf}
+use Rattle.layers.specs.declared.Marks.{Marks}
+use Rattle.layers.proofs.Fixed.{same-marks}
+use Rattle.mesh.specs.declared.Totals.{Totals}
 use Rattle.mesh.specs.declared.Counted.{Counted}
 use Rattle.mesh.specs.declared.Counted.the-variants as counted
 use Rattle.mesh.specs.Answer.{countsOf, saidCounts, bufferRows, CountsAnswered, MeshedBy, Meshed}
-use Rattle.mesh.specs.Steps.{Meshable}
+use Rattle.mesh.specs.Steps.{Meshable, totalsOf, Counting}
 
 -- ---- a refused axis refuses the call, and leaves every buffer
 
@@ -71,6 +75,14 @@ pub mesh-fixed : (nx ny nz : ℕ) (s : List ℕ) (cut : Cut) (w : List ℕ) (o :
 mesh-fixed nx ny nz s cut w o q a b p r =
     ap₂ (λ (x : Counted) (y : List ℕ). (x, y, a .2, a .3)) (said-counts-injective (a .0) (b .0) (p .answer ∙ sym (r .answer))) (p .words ∙ sym (r .words))
     ∙ ap₂ (λ (x : List Float) (y : List ℕ). (b .0, b .1, x, y)) (p .offsets ∙ sym (r .offsets)) (p .quads ∙ sym (r .quads))
+
+-- of `total` and `with_layers`
+pub total-fixed : (m : Marks) → Fixes (λ (r : Totals). r ≡ totalsOf m)
+total-fixed m = equation-fixes (totalsOf m)
+
+pub with-layers-fixed : (n : Size) (s : List ℕ) (cut : Cut) (k : ℕ) → Fixes (Counting loopsOf n s cut 0 k)
+with-layers-fixed n s cut k r q p h =
+    same-marks r q (p .v-is ∙ sym (h .v-is)) (p .x-is ∙ sym (h .x-is)) (p .y-is ∙ sym (h .y-is)) (p .z-is ∙ sym (h .z-is))
 
 -- ---- what follows where rows 2 and 3 pass
 

@@ -1,6 +1,6 @@
 -- What the passes over the rows of a block keep: the marks that a row has, how far they go, and what a row moves them by.
 -- Assumes nothing.
-use Prim.Native.Nat.{ℕ, _+_, _-_}
+use Prim.Native.Nat.{ℕ, _+_, _-_, _/_, _≤_}
 use mathlib.Core.Path.{_≡_}
 use mathlib.Core.List.{List}
 use lib.Dec.{ltb}
@@ -17,12 +17,20 @@ use Rattle.mesh_rule.specs.Layers.{rowCube, rowSample, runMasks, quadsFrom}
 use Rattle.quads.specs.Writing.{rowQuads}
 use Rattle.layers.specs.declared.Marks.{Marks}
 use Rattle.rows.specs.declared.Row.{Row}
+use Rattle.mesh.specs.declared.Totals.{Totals}
 
 -- a block that rows 1 to 3 pass
 pub record Meshable (n : Size) (s : List ℕ) (cut : Cut) : Type 0 where
   pub limits : Limits n
   pub count : length s ≡ sampleCount n
   pub threshold : thresholdRow cut ≡ Passes
+
+-- the counts that the marks of a whole block say, and that such marks are few enough for them
+abbrev pub totalsOf : Marks → Totals
+totalsOf m = record { vertices = m .v; quads = (m .x + m .y + m .z) / 4 }
+
+abbrev pub Few : Marks → Type 0
+Few m = (m .v ≤ 66325500) × (m .x + m .y + m .z ≤ 197418960)
 
 -- the row j of the layer k
 abbrev pub rowOf : Size → Cut → ℕ → ℕ → Row

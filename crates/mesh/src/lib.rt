@@ -8,7 +8,7 @@ use layers::Marks;
 use rows::Row;
 ghost use mathlib.Core.Path.{_≡_};
 ghost use mathlib.Core.List.{_++_};
-ghost use Prim.Native.Nat.{_+_, _-_, _/_, _<_, _≤_};
+ghost use Prim.Native.Nat.{_+_, _-_, _<_, _≤_};
 ghost use Rattle.cube_rule.specs.Decider.{loopsOf};
 ghost use Rattle.block.specs.Answer.{inOrder, judged};
 ghost use Rattle.block.specs.Block.{blockRows};
@@ -18,7 +18,7 @@ ghost use Rattle.vertices.specs.Layers.{Ready};
 ghost use lib.ListN.{length};
 ghost use Rattle.mesh.specs.Answer.{bufferRows, countsOf, saidCounts, CountsAnswered, MeshedBy, Meshed};
 ghost use Rattle.mesh_rule.specs.Layers.{layerFirst};
-ghost use Rattle.mesh.specs.Steps.{Meshable, rowOf, Counting, Tallied};
+ghost use Rattle.mesh.specs.Steps.{Meshable, totalsOf, Few, rowOf, Counting, Tallied};
 ghost use Rattle.mesh.specs.Writes.{Roomy, BelowReady, BelowNoted, TablesReady, Underway, RowMore, LayerMore, BlockWritten};
 
 // How many vertices and quads a mesh has.
@@ -62,8 +62,8 @@ fn check_buffers(vertices: u32, quads: u32, words: usize, offsets: usize, lent: 
 
 // The counts of a block whose marks are moved to its end.
 pub fn total(m: Marks) -> Totals
-    requires { ⌜ (m .v ≤ 66325500) × (m .x + m .y + m .z ≤ 197418960) ⌝ }
-    ensures { λ r. ⌜ (r .vertices ≡ m .v) × (r .quads ≡ (m .x + m .y + m .z) / 4) ⌝ }
+    requires { ⌜ Few m ⌝ }
+    ensures { λ r. ⌜ r ≡ totalsOf m ⌝ }
 {
     Totals {
         vertices: m.v as u32,

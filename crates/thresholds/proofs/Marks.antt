@@ -1,7 +1,7 @@
 -- The marks of each threshold: one threshold after the other goes through a run of layers, and the marks of the whole block tell its counts.
 -- Assumes nothing.
 use Prim.Native.Nat.{ℕ, _+_, _≤_, _<_}
-use mathlib.Core.Path.{_≡_, refl, ap}
+use mathlib.Core.Path.{_≡_, ap}
 use mathlib.Core.Logic.{_⊎_, inl, inr}
 use mathlib.Core.List.{List}
 use native.Mathlib.Nat.{eq-or-lt-of-le}
@@ -17,9 +17,9 @@ use Rattle.cube_rule.specs.Decider.{loopsOf}
 use Rattle.layers.specs.declared.Marks.{Marks}
 use Rattle.mesh.specs.declared.Totals.{Totals}
 use Rattle.mesh.specs.Answer.{toldCounts}
-use Rattle.mesh.specs.Steps.{Counting}
+use Rattle.mesh.specs.Steps.{Few, Counting}
 use Rattle.mesh.proofs.Tallies.{marked-start, marked-all, tallied-few, tallied-counts}
-use Rattle.thresholds.specs.Steps.{cutAt, noMarks, marksAt, CountedFrom, EachTallied, Few, threesBy, answersIn}
+use Rattle.thresholds.specs.Steps.{cutAt, noMarks, marksAt, CountedFrom, EachTallied, threesBy, answersIn}
 
 module _ (n : Size) (s ts : List ℕ) where
   -- ---- one threshold more goes to the layer k
@@ -52,4 +52,4 @@ module _ (n : Size) (s ts : List ℕ) where
     pub answers-are : threesBy ts ms (length ts) ≡ answersIn n s ts
     answers-are =
         below-same _ _ (length ts)
-        (λ p h. ap (λ (c : Totals). toldCounts (judged (thresholdRow (cutAt ts p)) c)) (tallied-counts n s (cutAt ts p) (marksAt ms p) _ (tallied p h) refl refl))
+        (λ p h. ap (λ (c : Totals). toldCounts (judged (thresholdRow (cutAt ts p)) c)) (tallied-counts n s (cutAt ts p) (marksAt ms p) (tallied p h)))

@@ -1,6 +1,6 @@
 -- Three numbers for each threshold, one behind the other in a buffer.
 -- Assumes nothing.
-use Prim.Native.Nat.{ℕ, _+_, _*_, _/_, _≤_}
+use Prim.Native.Nat.{ℕ, _+_, _*_, _≤_}
 use mathlib.Core.Path.{_≡_, refl, ap, sym, _∙_}
 use mathlib.Core.List.{List, [], _∷_}
 use native.Mathlib.Omega.{arith}
@@ -19,6 +19,7 @@ use Rattle.block.specs.Answer.{Answer, accepted, refused, decided, judged}
 use Rattle.block.specs.Rows.{thresholdRow}
 use Rattle.mesh.specs.declared.Totals.{Totals}
 use Rattle.mesh.specs.Answer.{toldCounts}
+use Rattle.mesh.specs.Steps.{totalsOf}
 use Rattle.layers.specs.declared.Marks.{Marks}
 use Rattle.thresholds.specs.Steps.{cutAt, marksAt, threeBy, threesBy}
 
@@ -40,12 +41,12 @@ module _ (k : Checked) (c : Totals) where
   unfolding filled decided
   told-refused r e = rw e
 
-  pub told-counted : (v q : ℕ) → k ≡ Passes → v ≡ c .vertices → q ≡ c .quads → 0 ∷ v ∷ q ∷ [] ≡ toldCounts (judged k c)
+  pub told-counted : (d : Totals) → k ≡ Passes → d ≡ c → 0 ∷ d .vertices ∷ d .quads ∷ [] ≡ toldCounts (judged k c)
   unfolding filled decided
-  told-counted v q e f g = rw (e, f, g)
+  told-counted d e f = rw (e, f)
 
 three-long : (cut : Cut) (m : Marks) → length (threeBy cut m) ≡ 3
-three-long cut m = told-three (judged (thresholdRow cut) (record { vertices = m .v; quads = (m .x + m .y + m .z) / 4 }))
+three-long cut m = told-three (judged (thresholdRow cut) (totalsOf m))
 
 module _ (ts : List ℕ) (ms : List Marks) (b : List ℕ) where
   abbrev pub Told : ℕ → List ℕ → Type 0

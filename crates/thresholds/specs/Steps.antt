@@ -1,6 +1,6 @@
 -- What the steps of a row of thresholds hand to one another: the marks of each threshold, how far they go, and what they say.
 -- Assumes nothing.
-use Prim.Native.Nat.{ℕ, _+_, _/_, _<_, _≤_}
+use Prim.Native.Nat.{ℕ, _<_, _≤_}
 use mathlib.Core.List.{List}
 use lib.ListN.{length, getD}
 use Rattle.laws.specs.Below.{below}
@@ -12,7 +12,7 @@ use Rattle.block.specs.Rows.{thresholdRow}
 use Rattle.cube_rule.specs.Decider.{loopsOf}
 use Rattle.layers.specs.declared.Marks.{Marks}
 use Rattle.mesh.specs.Answer.{countsOf, toldCounts}
-use Rattle.mesh.specs.Steps.{Counting, Tallied}
+use Rattle.mesh.specs.Steps.{totalsOf, Counting, Tallied}
 
 -- the threshold of place i, and its marks
 abbrev pub cutAt : List ℕ → ℕ → Cut
@@ -32,13 +32,9 @@ CountedFrom n s ts ms i j k = (p : ℕ) → i ≤ p → p < j → Counting loops
 abbrev pub EachTallied : Size → List ℕ → List ℕ → List Marks → Type 0
 EachTallied n s ts ms = (p : ℕ) → p < length ts → Tallied loopsOf n s (cutAt ts p) (marksAt ms p)
 
--- the marks of a whole block are few enough to be told
-abbrev pub Few : Marks → Type 0
-Few m = (m .v ≤ 66325500) × (m .x + m .y + m .z ≤ 197418960)
-
 -- what a threshold is told by its marks
 abbrev pub threeBy : Cut → Marks → List ℕ
-threeBy cut m = toldCounts (judged (thresholdRow cut) (record { vertices = m .v; quads = (m .x + m .y + m .z) / 4 }))
+threeBy cut m = toldCounts (judged (thresholdRow cut) (totalsOf m))
 
 abbrev pub threesBy : List ℕ → List Marks → ℕ → List ℕ
 threesBy ts ms = below (λ (i : ℕ). threeBy (cutAt ts i) (marksAt ms i))

@@ -16,8 +16,9 @@ ghost use Rattle.block.specs.Grey.{cutOf};
 ghost use Rattle.block.specs.Rows.{countRow};
 ghost use Rattle.block.specs.Size.{Limits};
 ghost use Rattle.block.specs.Steps.{Sampled};
+ghost use Rattle.mesh.specs.Steps.{Few};
 ghost use Rattle.thresholds.specs.Answer.{manyRow, answersRow, RowBy, RowAnswered};
-ghost use Rattle.thresholds.specs.Steps.{CountedFrom, EachTallied, Few, marksAt, threeBy, threesBy, answersIn};
+ghost use Rattle.thresholds.specs.Steps.{CountedFrom, EachTallied, marksAt, threeBy, threesBy, answersIn};
 
 // What a row of thresholds answers: its answers stand in the lent buffer, or the whole call is refused.
 pub enum RowAnswer {

@@ -51,7 +51,7 @@ returns-2 : tie.Need-returns-2
 returns-2 c =
     let a = start (c .before .before) in
     judged-passed _ _ _ (passed (c .before .before))
-    (tallied-counts (a .args .size) (a .args .samples .now) (a .args .cut) (c .before .tally-block .result) (c .total .result) (c .before .tally-block .ensures) (c .total .ensures .0) (c .total .ensures .1))
+    (c .total .ensures ∙ tallied-counts (a .args .size) (a .args .samples .now) (a .args .cut) (c .before .tally-block .result) (c .before .tally-block .ensures))
 
 pub counts-of-spec : {M : Type 1} → statement M
 counts-of-spec =

@@ -1,10 +1,11 @@
 -- `mesh_of` meets its contract: rows 2 and 3 refuse, or rows 5 and 6 with the counts, or the whole mesh is written.
 -- Assumes nothing.
-use mathlib.Core.Path.{_≡_, sym, _∙_}
+use mathlib.Core.Path.{_≡_, ap, sym, _∙_}
 use native.Mathlib.Omega.{arith}
 use Rattle.block.specs.declared.Checked.the-variants.{Passes}
 use Rattle.block.specs.Answer.{inOrder}
 use Rattle.block.specs.Block.{blockRows}
+use Rattle.mesh.specs.declared.Totals.{Totals}
 use Rattle.mesh.specs.Answer.{countsOf}
 use Rattle.mesh.proofs.Tallies.{tallied-few, tallied-counts}
 use Rattle.mesh.proofs.Verdicts.{meshable-of}
@@ -67,13 +68,13 @@ counts-are : (c : tie.After-total) → let a = start (checked c) in
     c .total .result ≡ countsOf (a .args .size) (a .args .samples .now) (a .args .cut)
 counts-are c =
     let a = start (checked c) in
-    tallied-counts (a .args .size) (a .args .samples .now) (a .args .cut) (c .before .tally-block .result) (c .total .result) (c .before .tally-block .ensures) (c .total .ensures .0) (c .total .ensures .1)
+    c .total .ensures ∙ tallied-counts (a .args .size) (a .args .samples .now) (a .args .cut) (c .before .tally-block .result) (c .before .tally-block .ensures)
 
 check-buffers-requires : tie.Need-check-buffers-requires
 check-buffers-requires c κs =
     let a = start (checked c) in
     let few = tallied-few (a .args .size) (a .args .samples .now) (a .args .cut) (c .before .tally-block .result) (a .pre) (c .before .tally-block .ensures) in
-    (omega (arith, few .0, c .total .ensures .0), omega (arith, few .1, c .total .ensures .1))
+    (omega (arith, few .0, ap (λ (t : Totals). t .vertices) (c .total .ensures)), omega (arith, few .1, ap (λ (t : Totals). t .quads) (c .total .ensures)))
 
 enum-known-fits : tie.Need-enum-known-fits
 enum-known-fits c = search needs

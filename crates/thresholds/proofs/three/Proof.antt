@@ -28,7 +28,7 @@ total-requires c κs = search needs
 returns-2 : tie.Need-returns-2
 returns-2 c =
     let k = c .before in
-    told-counted _ _ _ _ (sym (k .before .before .check-threshold .ensures) ∙ k .enum-told .given .1) (c .total .ensures .0) (c .total .ensures .1)
+    told-counted _ _ _ (sym (k .before .before .check-threshold .ensures) ∙ k .enum-told .given .1) (c .total .ensures)
 
 pub three-spec : {M : Type 1} → statement M
 three-spec =
