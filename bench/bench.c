@@ -448,34 +448,69 @@ static double plain_crossed_seconds(void *answer)
     return asked_seconds(plain_crossed, answer);
 }
 
-/* The two calls are asked by turns, so that a machine that is slower for a while, or memory that lies worse in one
-   process than in another, is so for both. The ratios are printed when all runs are over. */
+/* The best times of two ways to ask, and the ratio of each run. */
+struct turns {
+    double one, other, ratios[MOST_RUNS];
+    int runs;
+};
+
+/* The two ways are asked by turns, so that a machine that is slower for a while, or memory that lies worse in one
+   process than in another, is so for both. */
+static struct turns by_turns(double (*one)(void *), double (*other)(void *), void *with)
+{
+    struct turns turns = {1e9, 1e9, {0.0}, 0};
+    double spent = 0.0;
+    for (; runs_again(turns.runs, spent); turns.runs++) {
+        double one_took = one(with), other_took = other(with);
+        spent += one_took + other_took;
+        turns.ratios[turns.runs] = one_took / other_took;
+        turns.one = one_took < turns.one ? one_took : turns.one;
+        turns.other = other_took < turns.other ? other_took : turns.other;
+    }
+    return turns;
+}
+
+/* The ratios are printed when all runs are over. */
+static void print_ratios(const char *word, const struct turns *turns)
+{
+    for (int run = 0; run < turns->runs; run++)
+        printf("%s_ratio %.6f\n", word, turns->ratios[run]);
+}
+
+struct room_answers {
+    uint32_t edges[ANSWER], counted[ANSWER];
+};
+
+static double room_crossed_seconds(void *with)
+{
+    struct room_answers *answers = with;
+    return asked_seconds(parsniprow_crossed, answers->edges);
+}
+
+static double room_counts_seconds(void *with)
+{
+    struct room_answers *answers = with;
+    return asked_seconds(parsniprow_counts, answers->counted);
+}
+
 static void print_room(size_t crossed)
 {
-    uint32_t edges[ANSWER], counted[ANSWER], plain[ANSWER];
-    double ratios[MOST_RUNS], crossed_time = 1e9, counts_time = 1e9, plain_time, spent = 0.0;
-    int runs = 0;
-    for (; runs_again(runs, spent); runs++) {
-        double crossed_took = asked_seconds(parsniprow_crossed, edges);
-        double counts_took = asked_seconds(parsniprow_counts, counted);
-        spent += crossed_took + counts_took;
-        ratios[runs] = crossed_took / counts_took;
-        crossed_time = crossed_took < crossed_time ? crossed_took : crossed_time;
-        counts_time = counts_took < counts_time ? counts_took : counts_time;
-    }
-    plain_time = best_of(plain_crossed_seconds, plain);
+    uint32_t plain[ANSWER];
+    struct room_answers answers;
+    struct turns turns = by_turns(room_crossed_seconds, room_counts_seconds, &answers);
+    const uint32_t *edges = answers.edges, *counted = answers.counted;
+    double plain_time = best_of(plain_crossed_seconds, plain);
     if (edges[1] != crossed || edges[2] != 0)
         stop("the crossed edges are not as many as in the samples");
-    if (memcmp(plain, edges, sizeof edges) != 0)
+    if (memcmp(plain, edges, sizeof plain) != 0)
         stop("the crossed edges differ from those of plain");
     if (3 * (uint64_t)counted[1] > 4 * (uint64_t)edges[1])
         stop("three times the vertices are more than four times the crossed edges");
     if (counted[2] > edges[1])
         stop("there are more quads than crossed edges");
     printf("crossed %zu\nvertices %u\nquads %u\n", crossed, (unsigned)counted[1], (unsigned)counted[2]);
-    printf("room_crossed %.9f\nroom_counts %.9f\nroom_plain %.9f\n", crossed_time, counts_time, plain_time);
-    for (int run = 0; run < runs; run++)
-        printf("room_ratio %.6f\n", ratios[run]);
+    printf("room_crossed %.9f\nroom_counts %.9f\nroom_plain %.9f\n", turns.one, turns.other, plain_time);
+    print_ratios("room", &turns);
 }
 
 /* The thresholds of the row, the answers of both ways to ask, and whether the block is flushed before each call. */
@@ -496,7 +531,7 @@ static struct row row_around(uint16_t t, int is_cold)
     return row;
 }
 
-/* Afterwards no sample is in a cache; where there is no way to do that, nothing. */
+/* Afterwards no sample is in a cache. Where the processor has no way to do that, nothing is done. */
 static void flush_block(void)
 {
 #ifdef HAS_FLUSH
@@ -509,24 +544,27 @@ static void flush_block(void)
 #endif
 }
 
-static double at_once_seconds(struct row *row)
+static double at_once_seconds(void *with)
 {
+    struct row *row = with;
     uint32_t answer[ANSWER];
-    double from;
+    double from, took;
+    memset(row->at_once, 0xA5, sizeof row->at_once);
     if (row->is_cold)
         flush_block();
     from = now();
     parsniprow_thresholds(block.length[0], block.length[1], block.length[2], block.samples, block.sample_count,
                           row->thresholds, ROW, row->at_once, ANSWER * ROW, answer, ANSWER);
-    from = now() - from;
+    took = now() - from;
     if (answer[0] != 0)
         stop("the thresholds were refused");
-    return from;
+    return took;
 }
 
-/* Only the calls are timed. */
-static double one_by_one_seconds(struct row *row)
+/* Only the calls are timed. What they answer is held against the call before. */
+static double one_by_one_seconds(void *with)
 {
+    struct row *row = with;
     double spent = 0.0;
     for (int i = 0; i < ROW; i++) {
         double from;
@@ -537,30 +575,18 @@ static double one_by_one_seconds(struct row *row)
                           row->thresholds[i], row->one_by_one + ANSWER * i, ANSWER);
         spent += now() - from;
     }
+    if (memcmp(row->at_once, row->one_by_one, sizeof row->at_once) != 0)
+        stop("the counts of a row of thresholds differ from those of one threshold after the other");
     return spent;
 }
 
-/* Both ways are asked by turns, as the two calls of print_room are. The names of the figures begin with that word. */
+/* The names of the figures begin with that word. */
 static void print_row(const char *word, int is_cold)
 {
     struct row row = row_around(block.t, is_cold);
-    double ratios[MOST_RUNS], one_time = 1e9, each_time = 1e9, spent = 0.0;
-    int runs = 0;
-    for (; runs_again(runs, spent); runs++) {
-        double one_took, each_took;
-        memset(row.at_once, 0xA5, sizeof row.at_once);
-        one_took = at_once_seconds(&row);
-        each_took = one_by_one_seconds(&row);
-        if (memcmp(row.at_once, row.one_by_one, sizeof row.at_once) != 0)
-            stop("the counts of a row of thresholds differ from those of one threshold after the other");
-        spent += one_took + each_took;
-        ratios[runs] = one_took / each_took;
-        one_time = one_took < one_time ? one_took : one_time;
-        each_time = each_took < each_time ? each_took : each_time;
-    }
-    printf("%s_one %.9f\n%s_each %.9f\n", word, one_time, word, each_time);
-    for (int run = 0; run < runs; run++)
-        printf("%s_ratio %.6f\n", word, ratios[run]);
+    struct turns turns = by_turns(at_once_seconds, one_by_one_seconds, &row);
+    printf("%s_one %.9f\n%s_each %.9f\n", word, turns.one, word, turns.other);
+    print_ratios(word, &turns);
 }
 
 static void print_rows(void)

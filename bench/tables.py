@@ -431,7 +431,7 @@ housings 17500 to 28500, for noise 27268 to 38268.
 - `block not in the cache`: before each call the block is flushed from all caches, and that is not timed. So each of the
   12 calls reads the block from memory. The one call counts a run of 16 layers by all thresholds before the next run, so
   it reads the block from memory once where the cache holds the samples of a run: 2.2 MB for 256 samples an axis. On a
-  computer whose last-level cache is smaller than the block, 33 MB for 256 samples an axis, each call reads the block
+  computer whose last-level cache is smaller than the block, 34 MB for 256 samples an axis, each call reads the block
   from memory, or most of it, without being flushed. These columns are left out on processors other than x86-64.
 - Checked: in each run both ways give the same counts.
 - No time makes the benchmark fail.

@@ -21,8 +21,8 @@
      ply BYTES                            how long the PLY file is, where one is asked for
      refused NUMBER value VALUE           there is no mesh, and no line of values or counts
      note SENTENCE                        what the answer does not mean, or what to do
-   With --thresholds a line for each threshold T of LIST, in the order of LIST, stands before the first note. It says
-   what a run with T in place of THRESHOLD says, and all other lines are at THRESHOLD:
+   With --thresholds a line for each threshold T of LIST, in the order of LIST, stands before the first note. It has the
+   vertices and quads of a run with T in place of THRESHOLD, or why there are none. All other lines are at THRESHOLD:
      at T vertices COUNT quads COUNT      the mesh at T
      at T refused NUMBER value VALUE      there is no mesh at T, and the other lines hold all the same
    LIST is 1 to 16 numbers with a comma between each two. Where THRESHOLD is refused, no threshold of LIST is told.
@@ -81,8 +81,7 @@ enum { MARK = 1 << 12 }; /* in the word of a vertex */
 
 /* What was asked. Names as shown are one line, whatever the file is called. The spacing is that of the PLY file, if one
    is asked for, and the piece is the one that it is to have; as text they are null where they are not given. The mesh
-   is at the threshold; listed are the thresholds of --thresholds, of which there are so many. Where it is for room, no
-   mesh is made. */
+   is at the threshold. The list has the thresholds of --thresholds. Where it is for room, no mesh is made. */
 struct request {
     const char *file, *file_shown, *byte_order, *spacing_text[AXES], *piece_text;
     uint32_t length[AXES], piece;
@@ -366,8 +365,9 @@ static void help(void)
          "  at T vertices COUNT quads COUNT\n"
          "  at T refused NUMBER value VALUE\n"
          "\n"
-         "The line says what a run with T in place of THRESHOLD says. It is the second one where T is 0 or 65535.\n"
-         "That changes neither the other lines nor the exit status. All other lines and all files are at THRESHOLD.\n"
+         "The line has the vertices and quads of a run with T in place of THRESHOLD. Where T is 0 or 65535, it is\n"
+         "the second of these lines. That changes neither the other lines nor the exit status. All other lines and\n"
+         "all files are at THRESHOLD.\n"
          "The lines that begin with \"at\" are for choosing a threshold. Run the tool with the one that you choose,\n"
          "and enter that record beside the claim. Compare two housings only at the same threshold.");
     puts("\n"
@@ -422,7 +422,7 @@ static void read_spacing(struct request *request, char **words)
 static void read_thresholds(struct request *request, const char *list)
 {
     size_t length = strlen(list), count = 1;
-    char *item = strcpy(room(length + 1, length + 1, "A list"), list);
+    char *copy, *item;
     if (length == 0 || list[0] == ',' || list[length - 1] == ',' || strstr(list, ",,"))
         fail(STATUS_ARGUMENTS, "LIST of --thresholds is \"%s\", and it must be numbers with one comma between each "
              "two, as in 21000,22000,23000: none is left out, and no comma stands at the end.", shown(list));
@@ -431,12 +431,15 @@ static void read_thresholds(struct request *request, const char *list)
     if (count > MOST_THRESHOLDS)
         fail(STATUS_ARGUMENTS, "LIST of --thresholds has %zu numbers, and it must have from 1 to %d. Ask for the "
              "others in another run.", count, MOST_THRESHOLDS);
+    copy = strcpy(room(length + 1, length + 1, "A list"), list);
+    item = copy;
     for (size_t which = 0; which < count; which++) {
         size_t end = strcspn(item, ",");
         item[end] = 0;
         request->listed[which] = (uint16_t)number("A number of --thresholds", item, UINT16_MAX, "1 to 65534");
         item += end + 1;
     }
+    free(copy);
     request->listed_count = count;
 }
 

@@ -17,12 +17,12 @@
      the function says. If the place is shorter, as many are written as it has room for. What lies behind is kept.
 
    IN WHICH ORDER
-   To try thresholds on one scan ask parsniprow_thresholds, which counts the mesh by up to 16 of them. Then with one
-   threshold: parsniprow_counts says how long the buffers of a mesh must be. Or ask parsniprow_crossed, which takes less
-   time on a scan: the lengths that are reserved by its answer are enough for the same block and threshold.
-   parsniprow_mesh fills the buffers. Then parsniprow_closed_with, parsniprow_pieces and parsniprow_ply may be asked
-   about the mesh. The other questions stand by themselves: parsniprow_ceilings, parsniprow_edge, parsniprow_cube and
-   parsniprow_closed.
+   To try several thresholds on one scan, ask parsniprow_thresholds. It says how many vertices and quads there are by
+   each of up to 16. For the one that you choose, parsniprow_counts says how long the buffers of a mesh must be. Or ask
+   parsniprow_crossed, which takes less time on a scan: the lengths that are reserved by its answer are enough for the
+   same block and threshold. parsniprow_mesh fills the buffers. Then parsniprow_closed_with, parsniprow_pieces and
+   parsniprow_ply may be asked about the mesh. The other questions stand by themselves: parsniprow_ceilings,
+   parsniprow_edge, parsniprow_cube and parsniprow_closed.
 
    REFUSALS
    What cannot be answered is refused by number. Each function says which numbers it tries, and in which order; the
@@ -139,8 +139,8 @@ void parsniprow_counts(uint32_t nx, uint32_t ny, uint32_t nz, const uint16_t *sa
                        uint32_t *answer, size_t answer_len);
 
 /* How many vertices and quads the mesh of a block has by each of several thresholds, for trying thresholds on one scan.
-   For each threshold the numbers are those that parsniprow_counts answers for it alone. The call takes about the time of
-   as many calls of parsniprow_counts, and less on a large scan.
+   For each threshold the numbers are those that parsniprow_counts answers for it alone. The call takes about the time
+   of as many calls of parsniprow_counts, and less on a large scan.
      nx, ny, nz, samples  as of parsniprow_counts
      thresholds  0 to 16 thresholds, any numbers in any order; one may stand there twice
      answers     room for 3 items a threshold. At 3 * i stand those of thresholds[i]: 0, vertices, quads; or, where it

@@ -72,6 +72,35 @@ void choose_size(struct chance *chance, int inner, uint32_t length[3])
             length[i] = between(chance, 10, 24);
 }
 
+uint64_t sample_product(const uint32_t length[3])
+{
+    uint64_t two = (uint64_t)length[0] * length[1];
+    return length[2] != 0 && two > UINT64_MAX / length[2] ? UINT64_MAX : two * length[2];
+}
+
+void choose_any_axes(struct chance *chance, int is_wrong, uint32_t length[3])
+{
+    static const uint32_t bad[] = {0, 1, 257, 258, 512, 65536, 65538, UINT32_C(1) << 31, UINT32_MAX};
+    for (unsigned axis = 0; axis < 3; axis++)
+        length[axis] = SHORTEST_AXIS + (uint32_t)chance_below(chance, 4);
+    for (; is_wrong; is_wrong = chance_in_100(chance, 40)) {
+        size_t choices = chance_in_100(chance, 50) ? 3 : sizeof bad / sizeof *bad;
+        length[chance_below(chance, 3)] = bad[chance_below(chance, choices)];
+    }
+}
+
+size_t choose_any_count(struct chance *chance, int is_wrong, uint64_t wanted)
+{
+    uint64_t how = chance_below(chance, 10);
+    if (wanted >= MOST_ANY_SAMPLES)
+        return (size_t)chance_below(chance, 100);
+    if (!is_wrong)
+        return (size_t)wanted;
+    if (how < 3 && wanted > 0)
+        return (size_t)wanted - 1;
+    return how < 6 ? (size_t)wanted + 1 : how < 7 ? 0 : (size_t)chance_below(chance, 2 * wanted + 2) % MOST_ANY_SAMPLES;
+}
+
 uint16_t choose_threshold(struct chance *chance)
 {
     switch (chance_below(chance, 8)) {

@@ -26,6 +26,17 @@ int chance_in_100(struct chance *chance, unsigned cases);
    Where inner is set each is at least 3, so that the block has inner edges. */
 void choose_size(struct chance *chance, int inner, uint32_t length[3]);
 
+/* nx * ny * nz, or the highest number where it is more than that. */
+uint64_t sample_product(const uint32_t length[3]);
+
+/* Two to five samples an axis. Where that is to be wrong, one axis or several get a length that no block has. */
+void choose_any_axes(struct chance *chance, int is_wrong, uint32_t length[3]);
+
+/* The number of samples that the axes ask for. Where that is to be wrong, or is too many to be lent, mostly another
+   number; at most MOST_ANY_SAMPLES. */
+enum { MOST_ANY_SAMPLES = 8192 };
+size_t choose_any_count(struct chance *chance, int is_wrong, uint64_t wanted);
+
 /* A threshold from 1 to 65534. */
 uint16_t choose_threshold(struct chance *chance);
 

@@ -51,14 +51,6 @@ static int due(const struct call *call, unsigned refusal)
     return call->faults >> refusal & 1;
 }
 
-static uint64_t product(const uint32_t length[3])
-{
-    uint64_t two = (uint64_t)length[0] * length[1];
-    if (length[2] != 0 && two > UINT64_MAX / length[2])
-        return UINT64_MAX;
-    return two * length[2];
-}
-
 /* ---- choosing a call ---- */
 
 static unsigned choose_faults(struct chance *chance)
@@ -96,13 +88,13 @@ static void spoil_axes(struct chance *chance, struct call *call)
         call->length[axis] = bad[chance_below(chance, choices)];
         axis = chance_below(chance, 3);
     } while (chance_in_100(chance, 30));
-    if (product(call->length) > MOST_SAMPLES)
+    if (sample_product(call->length) > MOST_SAMPLES)
         call->faults |= 1u << 2;
 }
 
 static void choose_sample_count(struct chance *chance, struct call *call, size_t good_count)
 {
-    uint64_t wanted = product(call->length), how = chance_below(chance, 10);
+    uint64_t wanted = sample_product(call->length), how = chance_below(chance, 10);
     if (!due(call, 2)) {
         call->samples_len = (size_t)wanted;
         return;
@@ -162,7 +154,7 @@ static struct call choose_call(struct trial *trial)
     memcpy(trial->length, call.length, sizeof trial->length);
     trial->t = call.t;
     trial->samples = good;
-    good_count = (size_t)product(call.length);
+    good_count = (size_t)sample_product(call.length);
     plain_counts(call.length[0], call.length[1], call.length[2], good, good_count, call.t, good_counted, ANSWER);
     if (good_counted[1] == 0)
         call.faults &= ~(1u << 5);
@@ -219,7 +211,7 @@ static void count_ceilings(const struct call *call, size_t vertices)
 /* The paper's cubes as they stand there, each as a block of its own or within a larger one. */
 static void count_bench_cubes(const uint32_t length[3], const uint16_t *samples)
 {
-    uint64_t *found = product(length) == 8 ? tally.bench_alone : tally.bench_within;
+    uint64_t *found = sample_product(length) == 8 ? tally.bench_alone : tally.bench_within;
     for (size_t k = 0; k + 1 < length[2]; k++)
         for (size_t j = 0; j + 1 < length[1]; j++)
             for (size_t i = 0; i + 1 < length[0]; i++) {

@@ -13,7 +13,6 @@
 
 enum { ALL_ROWS = (1 << ROWS) - 1, MOST_VERTICES = 66325500 };
 
-
 /* ---- the paper's mesh and the empty one ---- */
 
 enum { PAPER_SAMPLES = 27, PAPER_VERTICES = 8, PAPER_QUADS = 6, PAPER_FILE = 466, PAPER_HEAD = 172, EMPTY_FILE = 172 };
@@ -316,18 +315,6 @@ static void try_digits(void)
 
 /* ---- lengths that no memory has ---- */
 
-/* Address space that takes no memory: nobody may touch it, or where is_open is set it is all zeros and read only. */
-static void *space(size_t bytes, int is_open)
-{
-    int protection = is_open ? PROT_READ : PROT_NONE;
-    void *at = mmap(NULL, bytes, protection, MAP_PRIVATE | MAP_ANONYMOUS | MAP_NORESERVE, -1, 0);
-    if (at == MAP_FAILED) {
-        fprintf(stderr, "compare: no address space of %zu bytes\n", bytes);
-        exit(2);
-    }
-    return at;
-}
-
 /* Refused by its lengths alone, so nothing of the two buffers may be touched. */
 static void try_untouched(size_t words_len, size_t offsets_len, uint32_t value)
 {
@@ -341,8 +328,8 @@ static void try_untouched(size_t words_len, size_t offsets_len, uint32_t value)
     call.offsets = offsets;
     call.offsets_len = offsets_len;
     expect(&call, 22, value);
-    munmap(words, words_bytes);
-    munmap(offsets, offsets_bytes);
+    give_space_back(words, words_bytes);
+    give_space_back(offsets, offsets_bytes);
 }
 
 /* The most vertices that pass, of which the first is in no cube. */
@@ -363,8 +350,8 @@ static void try_most(void)
     }
     call.words[0] = UINT32_MAX;
     expect(&call, 23, 0);
-    munmap(call.words, words_bytes);
-    munmap(call.offsets, offsets_bytes);
+    give_space_back(call.words, words_bytes);
+    give_space_back(call.offsets, offsets_bytes);
 }
 
 static void try_large(void)
@@ -390,7 +377,7 @@ void try_longest_file(void)
     call.quads = space(quads_bytes, 1);
     call.quads_len = 4 * quad_count;
     expect_of_library(&call, 15, UINT32_MAX);
-    munmap(call.quads, quads_bytes);
+    give_space_back(call.quads, quads_bytes);
 }
 
 /* ---- all of it ---- */

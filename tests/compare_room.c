@@ -15,7 +15,7 @@
 #include <string.h>
 
 enum { REFUSALS = 3, ALL_DUE = 1 << 1 | 1 << 2 | 1 << 3, SAMPLE_EDGES = 6 };
-enum { MOST_BAD_SAMPLES = 8192, PRINTED_SAMPLES = 128, SHORT_BLOCK = 4000, MESHED_SAMPLES = 300000 };
+enum { PRINTED_SAMPLES = 128, SHORT_BLOCK = 4000, MESHED_SAMPLES = 300000 };
 
 /* A short mesh: plain takes the square of its quads. FILE_REST is what a file has besides vertices and quads. */
 enum { SHORT_EDGES = 2048, SHORT_VERTICES = 4 * SHORT_EDGES / 3, FILE_REST = 186, FILE_VERTEX = 24, FILE_QUAD = 17 };
@@ -47,13 +47,6 @@ static uint32_t answer[ANSWER], counted[ANSWER];
 static const uint32_t long_axes[] = {63, 64, 65, 127, 128, 129, 191, 192, 193, 255, 256};
 
 enum { LONG_AXES = sizeof long_axes / sizeof *long_axes };
-
-/* nx * ny * nz, or the highest number where it is more than that. */
-static uint64_t product(const uint32_t length[3])
-{
-    uint64_t two = (uint64_t)length[0] * length[1];
-    return length[2] != 0 && two > UINT64_MAX / length[2] ? UINT64_MAX : two * length[2];
-}
 
 /* ---- what occurred ---- */
 
@@ -99,7 +92,7 @@ static unsigned due(const struct question *question)
     for (unsigned axis = 0; axis < 3; axis++)
         if (question->length[axis] < SHORTEST_AXIS || question->length[axis] > LONGEST_AXIS)
             refusals |= 1u << 1;
-    if (question->samples_len != product(question->length))
+    if (question->samples_len != sample_product(question->length))
         refusals |= 1u << 2;
     if (question->t == 0 || question->t == CEILING)
         refusals |= 1u << 3;
@@ -283,7 +276,7 @@ static struct question next_question(const char *name, const uint32_t length[3],
     memcpy(question.length, length, sizeof question.length);
     question.t = 100;
     question.samples = samples;
-    question.samples_len = (size_t)product(length);
+    question.samples_len = (size_t)sample_product(length);
     question.answer_len = ANSWER;
     question.lying.beside = (enum beside)(turn % BESIDES);
     question.lying.shift = turn % MOST_SHIFT;
@@ -484,7 +477,7 @@ static void try_own_block(const struct trial *trial, struct chance *chance)
 {
     struct question question = {"the block", {0, 0, 0}, trial->t, trial->samples, 0, 0, {PATTERNS, 0}, 0};
     memcpy(question.length, trial->length, sizeof question.length);
-    question.samples_len = (size_t)product(trial->length);
+    question.samples_len = (size_t)sample_product(trial->length);
     choose_places(chance, &question);
     try_question(&question);
     count_question(&question);
@@ -500,7 +493,7 @@ static void try_long_block(struct chance *chance)
     for (unsigned axis = 0; axis < 3; axis++)
         question.length[axis] = SHORTEST_AXIS + (uint32_t)chance_below(chance, 2);
     question.length[chance_below(chance, 3)] = long_axes[chance_below(chance, LONG_AXES)];
-    question.samples_len = (size_t)product(question.length);
+    question.samples_len = (size_t)sample_product(question.length);
     fill_block(chance, kind, question.length, question.t, samples);
     if (chance_below(chance, 3) == 0)
         add_ceilings(chance, question.length, question.t, samples);
@@ -510,37 +503,12 @@ static void try_long_block(struct chance *chance)
     tally.long_blocks++;
 }
 
-/* Two to five samples an axis. Where that is to be wrong, one axis or several get a length that no block has. */
-static void choose_axes(struct chance *chance, int is_wrong, uint32_t length[3])
-{
-    static const uint32_t bad[] = {0, 1, 257, 258, 512, 65536, 65538, UINT32_C(1) << 31, UINT32_MAX};
-    for (unsigned axis = 0; axis < 3; axis++)
-        length[axis] = SHORTEST_AXIS + (uint32_t)chance_below(chance, 4);
-    for (; is_wrong; is_wrong = chance_in_100(chance, 40)) {
-        size_t choices = chance_in_100(chance, 50) ? 3 : sizeof bad / sizeof *bad;
-        length[chance_below(chance, 3)] = bad[chance_below(chance, choices)];
-    }
-}
-
-/* As many samples as the axes ask for. Where that is to be wrong, or is too many to be lent, mostly another number. */
-static size_t choose_count(struct chance *chance, int is_wrong, uint64_t wanted)
-{
-    uint64_t how = chance_below(chance, 10);
-    if (wanted >= MOST_BAD_SAMPLES)
-        return (size_t)chance_below(chance, 100);
-    if (!is_wrong)
-        return (size_t)wanted;
-    if (how < 3 && wanted > 0)
-        return (size_t)wanted - 1;
-    return how < 6 ? (size_t)wanted + 1 : how < 7 ? 0 : (size_t)chance_below(chance, 2 * wanted + 2) % MOST_BAD_SAMPLES;
-}
-
 static void try_bad_block(struct chance *chance)
 {
-    static uint16_t samples[MOST_BAD_SAMPLES];
+    static uint16_t samples[MOST_ANY_SAMPLES];
     struct question question = {"some block", {0, 0, 0}, choose_threshold(chance), samples, 0, 0, {PATTERNS, 0}, 0};
-    choose_axes(chance, chance_in_100(chance, 40), question.length);
-    question.samples_len = choose_count(chance, chance_in_100(chance, 40), product(question.length));
+    choose_any_axes(chance, chance_in_100(chance, 40), question.length);
+    question.samples_len = choose_any_count(chance, chance_in_100(chance, 40), sample_product(question.length));
     for (size_t index = 0; index < question.samples_len; index++)
         samples[index] = choose_grey(chance, question.t);
     if (chance_in_100(chance, 40))

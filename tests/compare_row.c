@@ -4,9 +4,7 @@
    16 layers at a time; and a row for a block about which one thing or several may be wrong, so that every refusal and
    every order of two refusals occurs. Where the row is accepted, what stands there for each threshold must also be what
    the library's counts answer for this threshold alone.
-   Assumes nothing more than compare.h, and POSIX with anonymous mappings. */
-#define _DEFAULT_SOURCE
-
+   Assumes nothing more than compare.h. */
 #include "compare.h"
 
 #include "crash.h"
@@ -15,10 +13,9 @@
 #include <stdio.h>
 #include <stdlib.h>
 #include <string.h>
-#include <sys/mman.h>
 
 enum { MOST_THRESHOLDS = 16, LONGEST_ROW = 20, LONGER_ROOM = 200, MOST_ROOM = ANSWER * LONGEST_ROW + LONGER_ROOM };
-enum { MOST_BAD_SAMPLES = 8192, PRINTED_SAMPLES = 128, SCANNED_SAMPLES = 200, SHORT_BLOCK = 4000 };
+enum { PRINTED_SAMPLES = 128, SCANNED_SAMPLES = 200, SHORT_BLOCK = 4000 };
 
 /* What plain is asked to count for one row: samples times thresholds. For a long block it is one threshold at least. */
 enum { COUNTED_SAMPLES = 1200 };
@@ -52,13 +49,6 @@ static uint32_t answer[ANSWER], answers[MOST_ROOM];
 static const uint32_t plane_counts[] = {17, 18, 33, 34, 40, LONGEST_AXIS};
 
 enum { PLANE_COUNTS = sizeof plane_counts / sizeof *plane_counts };
-
-/* nx * ny * nz, or the highest number where it is more than that. */
-static uint64_t product(const uint32_t length[3])
-{
-    uint64_t two = (uint64_t)length[0] * length[1];
-    return length[2] != 0 && two > UINT64_MAX / length[2] ? UINT64_MAX : two * length[2];
-}
 
 /* The three numbers of a threshold. */
 static const uint32_t *three(size_t i)
@@ -203,7 +193,7 @@ static unsigned due(const struct question *q)
     for (unsigned axis = 0; axis < 3; axis++)
         if (q->length[axis] < SHORTEST_AXIS || q->length[axis] > LONGEST_AXIS)
             found |= 1u << AXIS;
-    if (q->samples_len != product(q->length))
+    if (q->samples_len != sample_product(q->length))
         found |= 1u << COUNT;
     return found;
 }
@@ -362,9 +352,22 @@ static void try_question(const struct question *q)
 /* ---- what is asked once ---- */
 
 /* The most samples of a column, a bar or a board. */
-enum { FIXED_SAMPLES = 4 * 4 * LONGEST_AXIS };
+/* Planes of up to 4 by 4 samples, as many as there can be, or wide planes, of which there are some. */
+enum { WIDE_AXIS = 130, WIDE_PLANES = 34, FIXED_SAMPLES = WIDE_AXIS * 3 * WIDE_PLANES };
 
 static uint16_t fixed_samples[FIXED_SAMPLES];
+
+/* About a block of these axes; all else is open yet. */
+static struct question block_question(const char *name, const uint32_t length[3], const uint16_t *samples)
+{
+    struct question question;
+    memset(&question, 0, sizeof question);
+    question.name = name;
+    memcpy(question.length, length, sizeof question.length);
+    question.samples = samples;
+    question.samples_len = (size_t)sample_product(length);
+    return question;
+}
 
 /* A row for a block of these axes, with room just for its answers and an answer place of the right length. Patterns and
    pages beside them take turns. */
@@ -372,12 +375,7 @@ static struct question next_question(const char *name, const uint32_t length[3],
                                      const uint16_t *thresholds, size_t thresholds_len)
 {
     static unsigned turn;
-    struct question question;
-    memset(&question, 0, sizeof question);
-    question.name = name;
-    memcpy(question.length, length, sizeof question.length);
-    question.samples = samples;
-    question.samples_len = (size_t)product(length);
+    struct question question = block_question(name, length, samples);
     question.thresholds = thresholds;
     question.thresholds_len = thresholds_len;
     question.answers_len = ANSWER * thresholds_len;
@@ -518,9 +516,10 @@ static const uint32_t fixed_planes[] = {2, 3, 4, 16, 17, 18, 19, 32, 33, 34, 40,
 
 enum { FIXED_PLANES = sizeof fixed_planes / sizeof *fixed_planes };
 
-static size_t in_column(uint32_t k)
+/* The index of sample (x, 1, k) where the planes are nx by 3. */
+static size_t in_column(uint32_t nx, uint32_t x, uint32_t k)
 {
-    return 1 + 3 * (1 + 3 * (size_t)k);
+    return x + nx * (1 + 3 * (size_t)k);
 }
 
 /* One sample of metal in the middle of a plane of 3 by 3: eight vertices and six quads, or on the first plane and on
@@ -532,22 +531,22 @@ static void try_column(uint32_t nz, uint32_t k)
     uint32_t known[] = {0, v, q, 3, 0, 0, 0, v, q, 0, 0, 0, 3, CEILING, 0, 0, v, q};
     struct question question = next_question("a sample in a column", length, fixed_samples, thresholds, 6);
     memset(fixed_samples, 0, sizeof fixed_samples);
-    fixed_samples[in_column(k)] = 400;
+    fixed_samples[in_column(3, 1, k)] = 400;
     try_question(&question);
     expect_answers(&question, known);
     tally.columns++;
 }
 
-/* Samples that rise along the middle of a column, so that by each threshold a bar of metal begins at another plane and
-   runs to the last one. The planes where the bars of a row begin lie seven apart, or else the bar is empty. */
-static void try_bars(uint32_t nz, uint32_t shift)
+/* Samples that rise along z within planes of nx by 3, so that by each threshold a bar of metal begins at another plane
+   and runs to the last one. The planes where the bars of a row begin lie seven apart, or else the bar is empty. */
+static void try_bars(uint32_t nx, uint32_t x, uint32_t nz, uint32_t shift)
 {
     uint16_t thresholds[MOST_THRESHOLDS];
-    uint32_t length[3] = {3, 3, nz}, known[ANSWER * MOST_THRESHOLDS] = {0};
+    uint32_t length[3] = {nx, 3, nz}, known[ANSWER * MOST_THRESHOLDS] = {0};
     struct question question;
     memset(fixed_samples, 0, sizeof fixed_samples);
     for (uint32_t k = 0; k < nz; k++)
-        fixed_samples[in_column(k)] = (uint16_t)(200 * (k + 1));
+        fixed_samples[in_column(nx, x, k)] = (uint16_t)(200 * (k + 1));
     for (uint32_t i = 0; i < MOST_THRESHOLDS; i++) {
         uint32_t from = (7 * i + shift) % (nz + 1);
         thresholds[i] = (uint16_t)(200 * (from + 1) - i % 3);
@@ -573,7 +572,8 @@ static void try_board(uint32_t nx, uint32_t ny, uint32_t nz)
     tally.boards++;
 }
 
-/* In a long column the sample stands near a multiple of 16 planes, or at an end. */
+/* In a long column the sample stands near a multiple of 16 planes, or at an end. In wide planes the bars stand near a
+   multiple of 64 samples. */
 static void try_layers(void)
 {
     for (unsigned i = 0; i < FIXED_PLANES; i++) {
@@ -582,10 +582,12 @@ static void try_layers(void)
             if (nz <= 50 || (k + 1) % 16 < 3 || k + 2 >= nz)
                 try_column(nz, k);
         for (uint32_t shift = 0; shift < 7; shift++)
-            try_bars(nz, shift);
+            try_bars(3, 1, nz, shift);
         try_board(2, 2, nz);
         try_board(4, 3, nz);
     }
+    for (uint32_t x = 62; x < 66; x++)
+        try_bars(WIDE_AXIS, x, WIDE_PLANES, x % 7);
 }
 
 /* ---- what no memory has, and the largest block ---- */
@@ -596,21 +598,17 @@ static void try_no_memory(size_t thresholds_len, uint32_t value)
     static const uint32_t length[3] = {3, 3, 3};
     uint32_t known[ANSWER] = {16, value, 0};
     size_t bytes = thresholds_len * sizeof(uint16_t);
-    void *space = mmap(NULL, bytes, PROT_NONE, MAP_PRIVATE | MAP_ANONYMOUS | MAP_NORESERVE, -1, 0);
+    void *thresholds = space(bytes, 0);
     struct question question;
-    if (space == MAP_FAILED) {
-        fprintf(stderr, "compare: no address space of %zu bytes\n", bytes);
-        exit(2);
-    }
     memset(fixed_samples, 0, 27 * sizeof *fixed_samples);
-    question = next_question("thresholds that no memory has", length, fixed_samples, space, thresholds_len);
+    question = next_question("thresholds that no memory has", length, fixed_samples, thresholds, thresholds_len);
     question.answers_len = MOST_ROOM;
     question.is_no_memory = 1;
     try_question(&question);
     if (!holds(&answer_place, known, ANSWER) && first_to_fail("not the value for more thresholds than any memory has"))
         print_question(&question);
     tally.no_memory++;
-    munmap(space, bytes);
+    give_space_back(thresholds, bytes);
 }
 
 void try_fixed_rows(void)
@@ -632,7 +630,7 @@ void try_largest_rows(void)
     static const uint32_t length[3] = {LONGEST_AXIS, LONGEST_AXIS, LONGEST_AXIS};
     static const uint16_t thresholds[] = {111, 100, 0, 111};
     static const uint32_t known[] = {0, 0, 0, 0, 66325500, 49354740, 3, 0, 0, 0, 0, 0};
-    size_t count = (size_t)product(length);
+    size_t count = (size_t)sample_product(length);
     uint16_t *samples = malloc(count * sizeof *samples);
     struct question question;
     if (!samples) {
@@ -715,16 +713,6 @@ static void ask_row(struct chance *chance, struct question *q, uint16_t t, int i
     try_question(q);
 }
 
-static struct question block_question(const char *name, const uint32_t length[3], const uint16_t *samples)
-{
-    struct question question;
-    memset(&question, 0, sizeof question);
-    question.name = name;
-    memcpy(question.length, length, sizeof question.length);
-    question.samples = samples;
-    question.samples_len = (size_t)product(length);
-    return question;
-}
 
 static void try_own_block(const struct trial *trial, struct chance *chance)
 {
@@ -755,40 +743,15 @@ static void try_layered_block(struct chance *chance)
     tally.layered++;
 }
 
-/* Two to five samples an axis. Where that is to be wrong, one axis or several get a length that no block has. */
-static void choose_axes(struct chance *chance, int is_wrong, uint32_t length[3])
-{
-    static const uint32_t bad[] = {0, 1, 257, 258, 512, 65536, 65538, UINT32_C(1) << 31, UINT32_MAX};
-    for (unsigned axis = 0; axis < 3; axis++)
-        length[axis] = SHORTEST_AXIS + (uint32_t)chance_below(chance, 4);
-    for (; is_wrong; is_wrong = chance_in_100(chance, 40)) {
-        size_t choices = chance_in_100(chance, 50) ? 3 : sizeof bad / sizeof *bad;
-        length[chance_below(chance, 3)] = bad[chance_below(chance, choices)];
-    }
-}
-
-/* As many samples as the axes ask for. Where that is to be wrong, or is too many to be lent, mostly another number. */
-static size_t choose_count(struct chance *chance, int is_wrong, uint64_t wanted)
-{
-    uint64_t how = chance_below(chance, 10);
-    if (wanted >= MOST_BAD_SAMPLES)
-        return (size_t)chance_below(chance, 100);
-    if (!is_wrong)
-        return (size_t)wanted;
-    if (how < 3 && wanted > 0)
-        return (size_t)wanted - 1;
-    return how < 6 ? (size_t)wanted + 1 : how < 7 ? 0 : (size_t)chance_below(chance, 2 * wanted + 2) % MOST_BAD_SAMPLES;
-}
-
 static void try_bad_block(struct chance *chance)
 {
-    static uint16_t samples[MOST_BAD_SAMPLES];
+    static uint16_t samples[MOST_ANY_SAMPLES];
     uint16_t t = choose_threshold(chance);
     uint32_t length[3];
     struct question question;
-    choose_axes(chance, chance_in_100(chance, 40), length);
+    choose_any_axes(chance, chance_in_100(chance, 40), length);
     question = block_question("some block", length, samples);
-    question.samples_len = choose_count(chance, chance_in_100(chance, 40), product(length));
+    question.samples_len = choose_any_count(chance, chance_in_100(chance, 40), sample_product(length));
     for (size_t index = 0; index < question.samples_len; index++)
         samples[index] = choose_grey(chance, t);
     ask_row(chance, &question, t, chance_in_100(chance, 30), chance_in_100(chance, 30));

@@ -196,3 +196,17 @@ void print_wrong(const struct lent *lent, const void *items, size_t count)
         printf("%02X", wanted_byte(lent, at + byte, items, given));
     printf("\n");
 }
+
+void *space(size_t bytes, int is_open)
+{
+    int protection = is_open ? PROT_READ : PROT_NONE;
+    void *at = mmap(NULL, bytes, protection, MAP_PRIVATE | MAP_ANONYMOUS | MAP_NORESERVE, -1, 0);
+    if (at == MAP_FAILED)
+        stop("there is no such address space");
+    return at;
+}
+
+void give_space_back(void *at, size_t bytes)
+{
+    munmap(at, bytes);
+}

@@ -64,4 +64,8 @@ int holds(const struct lent *lent, const void *items, size_t count);
 /* Prints the first item that differs from what holds asks for, in hexadecimal, highest byte first. */
 void print_wrong(const struct lent *lent, const void *items, size_t count);
 
+/* Address space that takes no memory: nobody may touch it, or where is_open is set it is all zeros and read only. */
+void *space(size_t bytes, int is_open);
+void give_space_back(void *at, size_t bytes);
+
 #endif

@@ -38,7 +38,7 @@ use Rattle.demands.proofs.Pieces.{PiecesNumber, pieces-numbers}
 use Rattle.demands.proofs.Places.{four-untold}
 use Rattle.demands.proofs.Refusals.{run-refuses}
 use Rattle.demands.proofs.Room.{crossed-numbers}
-use Rattle.demands.proofs.Thresholds.{RowNumber, row-numbers, row-is-one-by-one}
+use Rattle.demands.proofs.Thresholds.{RowNumber, row-numbers, row-is-one-by-one, row-told-answered}
 
 edge-other : (p q t : ℕ) (r : Crossing) → EdgeAnswered p q t r → NotFour (saidEdge r)
 unfolding edgeAnswer
@@ -117,7 +117,10 @@ four-never = record {
   cube-told = λ corners t w o place w′ o′ place′ m. four-untold 3 _ (saidCube (m .answer .found)) place place′ (m .is-told) (λ x e f. omega (arith, f, cube-numbers (cutOf t) x (refused-exactly _ _ _ (m .answered .found) x .0 e)));
   crossed-told = λ nx ny nz s t place place′ m. four-untold 3 _ (saidCrossed (m .answer)) place place′ (m .is-told) (λ x e f. omega (arith, f, crossed-numbers nx ny nz s (cutOf t) (m .answer) (m .answered) x e .1));
   counts-told = λ nx ny nz s t place place′ m. four-untold 3 _ (saidCounts (m .answer)) place place′ (m .is-told) (λ x e f. omega (arith, f, counts-numbers nx ny nz s (cutOf t) x (refused-exactly _ _ _ (m .answered) x .0 e) .1));
-  row-told = λ nx ny nz s ts b place b′ place′ m. four-untold 3 _ (saidRow (m .answer)) place place′ (m .is-told) (row-other nx ny nz s ts b (m .answer) b′ (m .answered));
+  row-told = λ nx ny nz s ts b place b′ place′ m. (
+    four-untold 3 _ (saidRow (m .answer)) place place′ (m .is-told) (row-other nx ny nz s ts b (m .answer) b′ (m .answered)),
+    λ z. row-each nx ny nz s ts b (m .answer) b′ (m .answered) (row-told-answered nx ny nz s ts b place b′ place′ m z),
+  );
   mesh-told = λ nx ny nz s t w o q place w′ o′ q′ place′ m. four-untold 3 _ (saidCounts (m .answer)) place place′ (m .is-told) (λ x e. of-mesh (x .number) (mesh-numbers nx ny nz s (cutOf t) (length w) (length o) (length q) x (refused-exactly _ _ _ (m .meshed .answer) x .0 e)));
   closed-told = λ quads place place′ m. four-untold 4 _ (saidClosure (m .answer)) place place′ (m .is-told) (λ x e f. omega (arith, f, closed-numbers quads x (refused-exactly _ _ _ (m .answered) x .0 e)));
   closed-with-told = λ quads work place work′ place′ m. four-untold 4 _ (saidClosure (m .answer)) place place′ (m .is-told) (closed-with-other quads work (m .answer) work′ (m .answered));

@@ -5,6 +5,7 @@ use mathlib.Core.Path.{_≡_, refl, ap, sym, _∙_}
 use mathlib.Core.Logic.{_↔_, _⊎_, inl, inr}
 use mathlib.Core.List.{List, []}
 use native.Mathlib.Omega.{arith}
+use borrow.Author.Tests.{le-leb}
 use lib.Dec.{leb}
 use lib.ListN.{length, getD}
 use Rattle.laws.specs.Below.{below, over}
@@ -17,13 +18,13 @@ use Rattle.block.specs.Answer.{Answer, accepted, refused, First, judged, writte
 use Rattle.block.specs.Grey.{cutOf, noThreshold}
 use Rattle.block.specs.Rows.{axisRow, countRow}
 use Rattle.block.specs.Size.{sizeOf}
-use Rattle.block.proofs.Order.{order-first, order-rest, order-last, accepted-exactly, refused-exactly, written-refused, written-passed, first-has}
-use Rattle.block.proofs.Rows.{holds-where}
+use Rattle.block.proofs.Order.{order-passes, order-first, order-rest, order-last, accepted-exactly, refused-exactly, written-refused, written-passed, first-has}
+use Rattle.block.proofs.Rows.{holds-where, unless-passes}
 use Rattle.mesh.specs.declared.Counted.{Counted}
 use Rattle.mesh.specs.Answer.{saidCounts, countsAnswer, CountsAnswered, toldCounts}
 use Rattle.thresholds.specs.declared.RowAnswer.{RowAnswer}
 use Rattle.thresholds.specs.declared.RowAnswer.the-variants as row
-use Rattle.thresholds.specs.Answer.{most, manyRow, answersRow, wholeRows, rowVerdict, answersOf, saidRow, RowAnswered}
+use Rattle.thresholds.specs.Answer.{mostThresholds, manyRow, answersRow, wholeRows, rowVerdict, answersOf, saidRow, RowAnswered}
 use Rattle.thresholds.proofs.Threes.{told-three}
 use Rattle.thresholds.proofs.Verdicts.{row-three}
 use Rattle.parsniprow_c.specs.Told.{tellOver, CountsTold, RowTold}
@@ -55,7 +56,7 @@ RowNumber n = ((1 ≤ n) × (n ≤ 2)) ⊎ ((15 ≤ n) × (n ≤ 16))
 pub row-numbers : (nx ny nz : ℕ) (s ts : List ℕ) (room : ℕ) (x : Refusal) → rowVerdict nx ny nz s ts room ≡ Refuses x → RowNumber (x .number)
 row-numbers nx ny nz s ts room =
     first-has (λ (x : Refusal). RowNumber (x .number)) (wholeRows nx ny nz s ts room) (
-      λ x e. let n = unless-number (leb (length ts) most) 16 (length ts) x e in inr (omega (arith, n), omega (arith, n)),
+      λ x e. let n = unless-number (leb (length ts) mostThresholds) 16 (length ts) x e in inr (omega (arith, n), omega (arith, n)),
       (
         λ x e. let n = unless-number (leb (3 * length ts) room) 15 (length ts) x e in inr (omega (arith, n), omega (arith, n)),
         (
@@ -108,7 +109,7 @@ module _ (nx ny nz : ℕ) (s ts b : List ℕ) (r : RowAnswer) (b′ : List ℕ) 
     pub row-behind : (k : ℕ) → 3 * length ts ≤ k → getD b′ k 0 ≡ getD b k 0
     row-behind k h = ap (λ (l : List ℕ). getD l k 0) after ∙ over-behind (answersOf nx ny nz s ts) b k 0 (omega (arith, h, long (length ts)))
 
-    -- "3 is an answer of its threshold": of a threshold in an answered row nothing else is refused, and its value is the threshold
+    -- "3 is an answer of its threshold": a threshold in an answered row is refused with 3 and with no other number
     pub row-refuses-three : (i : ℕ) (c : Counted) → CountsAnswered nx ny nz s (cutOf (getD ts i 0)) c → (x : Refusal) → saidCounts c ≡ refused x → x .number ≡ 3
     row-refuses-three i c asked x e =
         let second = order-rest (manyRow (length ts)) _ passed in
@@ -124,10 +125,21 @@ unfolding over below
 row-empty nx ny nz s b row.Answered b′ promise = after nx ny nz s [] b row.Answered b′ promise refl
 row-empty nx ny nz s b (row.Refused x) b′ promise = row-keeps nx ny nz s [] b (row.Refused x) b′ promise x refl
 
+-- "An empty row on a good block": it is answered
+pub row-empty-answered : (nx ny nz : ℕ) (s b : List ℕ) (r : RowAnswer) (b′ : List ℕ) → RowAnswered nx ny nz s [] b r b′ → axisRow nx ny nz ≡ Passes
+    → countRow (sizeOf nx ny nz) (length s) ≡ Passes → saidRow r ≡ accepted tt
+row-empty-answered nx ny nz s b r b′ promise axes count =
+    row-accepts nx ny nz s [] b r b′ promise .1
+    (order-passes (manyRow 0) _ refl
+    ∙ order-passes (answersRow 0 (length b)) _ (sym (unless-passes (leb (3 * 0) (length b)) 15 0 (le-leb (3 * 0) (length b) (omega arith))))
+    ∙ order-passes (axisRow nx ny nz) _ axes
+    ∙ order-last (countRow (sizeOf nx ny nz) (length s))
+    ∙ count)
+
 -- ---- a C caller: who is told 0 finds in the buffer, for each threshold, what asking for it alone tells
 module _ (nx ny nz : ℕ) (s ts b place b′ place′ : List ℕ) (m : RowTold nx ny nz s ts b place b′ place′) (z : getD place′ 0 1 ≡ 0) where
-  found : saidRow (m .answer) ≡ accepted tt
-  found = go (m .answer) refl
+  pub row-told-answered : saidRow (m .answer) ≡ accepted tt
+  row-told-answered = go (m .answer) refl
     where
       go : (a : RowAnswer) → m .answer ≡ a → saidRow a ≡ accepted tt
       go row.Answered e = refl
@@ -142,6 +154,6 @@ module _ (nx ny nz : ℕ) (s ts b place b′ place′ : List ℕ) (m : RowTold n
 
   pub row-told-one-by-one : (i : ℕ) → i < length ts → (q q′ : List ℕ) → 3 ≤ length q → CountsTold nx ny nz s (getD ts i 0) q q′ → (p : ℕ) → p < 3 → getD b′ (3 * i + p) 0 ≡ getD q′ p 0
   row-told-one-by-one i h q q′ room asked p few =
-      row-is-one-by-one nx ny nz s ts b (m .answer) b′ (m .answered) found i h (asked .answer) (asked .answered) p few
+      row-is-one-by-one nx ny nz s ts b (m .answer) b′ (m .answered) row-told-answered i h (asked .answer) (asked .answered) p few
       ∙ sym (ap (λ (l : List ℕ). getD l p 0) (asked .is-told)
       ∙ tell-at (toldCounts (saidCounts (asked .answer))) q p 0 (omega (arith, room, few)) (omega (arith, few, told-three (saidCounts (asked .answer)))))

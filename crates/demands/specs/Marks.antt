@@ -90,7 +90,8 @@ pub record FourNever : Type 0 where
       → CubeTold corners t w o place w′ o′ place′ → getD place′ 0 0 ≡ 4 → ⊥
   pub crossed-told : (nx ny nz : ℕ) (s : List ℕ) (t : ℕ) (place place′ : List ℕ) → CrossedTold nx ny nz s t place place′ → getD place′ 0 0 ≡ 4 → ⊥
   pub counts-told : (nx ny nz : ℕ) (s : List ℕ) (t : ℕ) (place place′ : List ℕ) → CountsTold nx ny nz s t place place′ → getD place′ 0 0 ≡ 4 → ⊥
-  pub row-told : (nx ny nz : ℕ) (s ts b place b′ place′ : List ℕ) → RowTold nx ny nz s ts b place b′ place′ → getD place′ 0 0 ≡ 4 → ⊥
+  pub row-told : (nx ny nz : ℕ) (s ts b place b′ place′ : List ℕ) → RowTold nx ny nz s ts b place b′ place′
+      → (getD place′ 0 0 ≡ 4 → ⊥) × (getD place′ 0 1 ≡ 0 → (i : ℕ) → i < length ts → getD b′ (3 * i) 0 ≡ 4 → ⊥)
   pub mesh-told : (nx ny nz : ℕ) (s : List ℕ) (t : ℕ) (w : List ℕ) (o : List Float) (q place w′ : List ℕ) (o′ : List Float) (q′ place′ : List ℕ)
       → MeshTold nx ny nz s t w o q place w′ o′ q′ place′ → getD place′ 0 0 ≡ 4 → ⊥
   pub closed-told : (quads place place′ : List ℕ) → ClosedTold quads place place′ → getD place′ 0 0 ≡ 4 → ⊥

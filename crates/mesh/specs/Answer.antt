@@ -37,7 +37,7 @@ abbrev pub saidCounts : Counted → Answer Totals
 saidCounts (counted.Counts c) = accepted c
 saidCounts (counted.Refused r) = refused r
 
--- counting a mesh gives 1 to 3 only
+-- what counting a block answers: its counts, or the refusal of the first of rows 1 to 3 that holds
 abbrev pub countsAnswer : ℕ → ℕ → ℕ → List ℕ → Cut → Answer Totals
 countsAnswer nx ny nz s cut = judged (blockVerdict nx ny nz s cut) (countsOf (sizeOf nx ny nz) s cut)
 

@@ -28,7 +28,7 @@ marksAt ms i = getD ms i noMarks
 abbrev pub CountedFrom : Size → List ℕ → List ℕ → List Marks → ℕ → ℕ → ℕ → Type 0
 CountedFrom n s ts ms i j k = (p : ℕ) → i ≤ p → p < j → Counting loopsOf n s (cutAt ts p) 0 k (marksAt ms p)
 
--- for each threshold the whole block is
+-- for each threshold the whole block is counted
 abbrev pub EachTallied : Size → List ℕ → List ℕ → List Marks → Type 0
 EachTallied n s ts ms = (p : ℕ) → p < length ts → Tallied loopsOf n s (cutAt ts p) (marksAt ms p)
 

@@ -31,7 +31,7 @@ toldCube = told 3 (λ n. n ∷ [])
 abbrev pub toldCrossed : Answer ℕ → List ℕ
 toldCrossed = told 3 (λ n. n ∷ [])
 
--- nothing is told of a row of thresholds: its answers stand in its buffer
+-- no value: the answers of a row of thresholds stand in its buffer
 abbrev pub toldRow : Answer Unit → List ℕ
 toldRow = told 3 (λ _. [])
 

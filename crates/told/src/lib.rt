@@ -101,7 +101,7 @@ pub fn tell_counts(counted: Counted) -> [u32; 3]
     }
 }
 
-// Nothing is told of a row of thresholds: its answers stand in its buffer.
+// 0 alone of a row of thresholds that is answered, since its answers stand in its buffer; or its refusal.
 pub fn tell_row(row: RowAnswer) -> [u32; 3]
     ensures { λ r. ⌜ r ≡ toldRow (saidRow row) ⌝ }
 {
