@@ -124,6 +124,39 @@ void tally_reaches(const struct lent *lent)
             tally_case(reach_names[reach], lent->reaches[reach]);
 }
 
+void count_block_fault(struct block_faults *faults, const uint32_t *answer, const uint32_t length[3],
+                       size_t samples_len)
+{
+    unsigned bad = 0;
+    for (unsigned axis = 0; answer[0] == 1 && axis < 3; axis++) {
+        int is_short = length[axis] < SHORTEST_AXIS, is_long = length[axis] > LONGEST_AXIS;
+        faults->axis_short += is_short;
+        faults->axis_long += is_long;
+        bad += is_short || is_long;
+    }
+    if (answer[0] == 1)
+        faults->axis[answer[1]]++;
+    faults->several_axes += bad > 1;
+    faults->no_sample += answer[0] == 2 && samples_len == 0;
+    faults->one_less += answer[0] == 2 && samples_len + 1 == answer[1];
+    faults->one_more += answer[0] == 2 && samples_len == (size_t)answer[1] + 1;
+}
+
+void tally_block_faults(const struct block_faults *faults)
+{
+    char name[] = "axis ?";
+    for (unsigned axis = 0; axis < 3; axis++) {
+        name[sizeof name - 2] = "xyz"[axis];
+        tally_case(name, faults->axis[axis]);
+    }
+    tally_case("several axes", faults->several_axes);
+    tally_case("under 2", faults->axis_short);
+    tally_case("over 256", faults->axis_long);
+    tally_case("no sample", faults->no_sample);
+    tally_case("one sample less", faults->one_less);
+    tally_case("one more", faults->one_more);
+}
+
 static void tally_asked(void)
 {
     for (unsigned function = 0; function < FUNCTIONS; function++) {

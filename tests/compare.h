@@ -75,6 +75,16 @@ void tally_title(const char *title);
 void tally_case(const char *name, uint64_t count);
 void tally_reaches(const struct lent *lent);
 
+/* How a block was wrong that was refused with 1 or 2: which axis was named, and how the axes or the samples were. */
+struct block_faults {
+    uint64_t axis[3], several_axes, axis_short, axis_long, no_sample, one_less, one_more;
+};
+
+/* Counts the fault of a block with these axes and so many samples, if the answer is refusal 1 or 2. */
+void count_block_fault(struct block_faults *faults, const uint32_t *answer, const uint32_t length[3],
+                       size_t samples_len);
+void tally_block_faults(const struct block_faults *faults);
+
 /* ---- the parts ---- */
 
 /* A block, and the random numbers from which it and all that goes with it is made. */

@@ -56,7 +56,8 @@ static struct {
     uint64_t none, all_on_faces, some_on_faces, no_multiple, ceilings, long_axes[3][LONG_AXES];
     uint64_t most_vertices, most_of_many, most_quads, fewer_vertices, fewer_quads, meshed, asked_after;
     uint64_t answers[REFUSALS + 1], orders[REFUSALS + 1][REFUSALS + 1], all_three;
-    uint64_t bad_axis[3], bad_axes, axis_short, axis_long, no_sample, one_less, one_more, zero, top;
+    uint64_t zero, top;
+    struct block_faults faults;
 } tally;
 
 static int has_ceiling(const struct question *question)
@@ -99,30 +100,13 @@ static unsigned due(const struct question *question)
     return refusals;
 }
 
-static void count_axes(const struct question *question)
-{
-    unsigned bad = 0;
-    for (unsigned axis = 0; axis < 3; axis++) {
-        int is_short = question->length[axis] < SHORTEST_AXIS, is_long = question->length[axis] > LONGEST_AXIS;
-        tally.axis_short += is_short;
-        tally.axis_long += is_long;
-        bad += is_short || is_long;
-    }
-    tally.bad_axis[answer[1]]++;
-    tally.bad_axes += bad > 1;
-}
-
 static void count_refused(const struct question *question)
 {
     unsigned refusals = due(question);
     for (unsigned later = answer[0] + 1; later <= REFUSALS; later++)
         tally.orders[answer[0]][later] += refusals >> later & 1;
     tally.all_three += refusals == ALL_DUE;
-    if (answer[0] == 1)
-        count_axes(question);
-    tally.no_sample += answer[0] == 2 && question->samples_len == 0;
-    tally.one_less += answer[0] == 2 && question->samples_len + 1 == answer[1];
-    tally.one_more += answer[0] == 2 && question->samples_len == (size_t)answer[1] + 1;
+    count_block_fault(&tally.faults, answer, question->length, question->samples_len);
     tally.zero += answer[0] == 3 && answer[1] == 0;
     tally.top += answer[0] == 3 && answer[1] == CEILING;
 }
@@ -590,16 +574,7 @@ static void tally_refused(void)
         sprintf(name, "refusal %u", number);
         tally_case(name, tally.answers[number]);
     }
-    for (unsigned axis = 0; axis < 3; axis++) {
-        sprintf(name, "axis %c", "xyz"[axis]);
-        tally_case(name, tally.bad_axis[axis]);
-    }
-    tally_case("several axes", tally.bad_axes);
-    tally_case("under 2", tally.axis_short);
-    tally_case("over 256", tally.axis_long);
-    tally_case("no sample", tally.no_sample);
-    tally_case("one sample less", tally.one_less);
-    tally_case("one more", tally.one_more);
+    tally_block_faults(&tally.faults);
     tally_case("t = 0", tally.zero);
     tally_case("t = 65535", tally.top);
     for (unsigned number = 1; number <= REFUSALS; number++)

@@ -66,7 +66,7 @@ static int is_refused(uint16_t t)
 static struct {
     uint64_t rows, by_hand, columns, bars, boards, no_memory, largest, own, layered, bad_blocks;
     uint64_t answers[REFUSALS + 1], orders[REFUSALS][REFUSALS], all_four;
-    uint64_t bad_axis[3], bad_axes, axis_short, axis_long, no_sample, one_less, one_more;
+    struct block_faults faults;
     uint64_t seventeen, more, no_room, one_item_less, two_less, fewer, short_of_one, short_of_most;
     uint64_t empty_refused[REFUSALS], three_refused[REFUSALS];
     uint64_t empty, empty_with_room, one, several, most, exact, longer[3], much_longer;
@@ -209,19 +209,6 @@ static void count_room(const struct question *q)
     tally.short_of_most += q->thresholds_len == MOST_THRESHOLDS;
 }
 
-static void count_axes(const struct question *q)
-{
-    unsigned bad = 0;
-    for (unsigned axis = 0; axis < 3; axis++) {
-        int is_short = q->length[axis] < SHORTEST_AXIS, is_long = q->length[axis] > LONGEST_AXIS;
-        tally.axis_short += is_short;
-        tally.axis_long += is_long;
-        bad += is_short || is_long;
-    }
-    tally.bad_axis[answer[1]]++;
-    tally.bad_axes += bad > 1;
-}
-
 static void count_refused(const struct question *q, enum refusal given)
 {
     unsigned found = due(q);
@@ -237,11 +224,7 @@ static void count_refused(const struct question *q, enum refusal given)
     tally.more += given == MANY && q->thresholds_len > MOST_THRESHOLDS + 1;
     if (given == ROOM)
         count_room(q);
-    if (given == AXIS)
-        count_axes(q);
-    tally.no_sample += given == COUNT && q->samples_len == 0;
-    tally.one_less += given == COUNT && q->samples_len + 1 == answer[1];
-    tally.one_more += given == COUNT && q->samples_len == (size_t)answer[1] + 1;
+    count_block_fault(&tally.faults, answer, q->length, q->samples_len);
 }
 
 /* The last place is that of the rows which are accepted. */
@@ -856,16 +839,7 @@ static void tally_refused(void)
     tally_case("fewer", tally.fewer);
     tally_case("too short for one threshold", tally.short_of_one);
     tally_case("too short for sixteen", tally.short_of_most);
-    for (unsigned axis = 0; axis < 3; axis++) {
-        sprintf(name, "axis %c", "xyz"[axis]);
-        tally_case(name, tally.bad_axis[axis]);
-    }
-    tally_case("several axes", tally.bad_axes);
-    tally_case("under 2", tally.axis_short);
-    tally_case("over 256", tally.axis_long);
-    tally_case("no sample", tally.no_sample);
-    tally_case("one sample less", tally.one_less);
-    tally_case("one more", tally.one_more);
+    tally_block_faults(&tally.faults);
     for (unsigned i = 0; i < REFUSALS; i++)
         for (unsigned later = i + 1; later < REFUSALS; later++) {
             sprintf(name, "%u before %u", refusals[i], refusals[later]);

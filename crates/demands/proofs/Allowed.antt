@@ -55,7 +55,7 @@ use Rattle.ply.proofs.Written.{file-refused, file-fits}
 use Rattle.lines.specs.Output.{outputOf, Ran}
 use Rattle.lines.proofs.Outputs.{output-fits}
 use Rattle.parsniprow_c.specs.Told.{tellOver, CeilingsTold, EdgeTold, CubeTold, CountsTold, MeshTold, ClosedTold, ClosedWithTold, PlyTold}
-use Rattle.told.specs.Numbers.{toldCeilings, toldEdge, toldFraction, toldCube, toldClosed, toldLength, toldFile}
+use Rattle.told.specs.Numbers.{toldCeilings, toldEdge, toldFraction, toldNumber, toldClosed, toldLength, toldNothing}
 use Rattle.demands.specs.Answers.{MeshCall}
 
 -- ---- the size: a refusal is row 1's, so it has the number that is told
@@ -199,7 +199,7 @@ cube-told-allows corners t words offsets place =
     let r = cube-allows corners (cutOf t) in (
       tellOver (r .0 .words) words,
       tellOver (triples (r .0 .offsets)) offsets,
-      tellOver (toldCube (saidCube (r .0 .found))) place,
+      tellOver (toldNumber (saidCube (r .0 .found))) place,
       record { answer = r .0; answered = r .1; words-told = refl; offsets-told = refl; is-told = refl },
     )
 
@@ -227,6 +227,6 @@ ply-told-allows nx ny nz words offsets quads s file bytes place =
     let r = ply-allows nx ny nz words offsets quads s file in (
       r .1,
       tellOver (toldLength (saidFile (r .0))) bytes,
-      tellOver (toldFile (saidFile (r .0))) place,
+      tellOver (toldNothing (saidFile (r .0))) place,
       record { answer = r .0; written = r .2; length-told = refl; is-told = refl },
     )

@@ -35,7 +35,7 @@ use Rattle.file_bytes.specs.Bytes.{decimal}
 use Rattle.file_bytes.proofs.Decimal.{length-most}
 use Rattle.ply.specs.Words.{fileLength}
 use Rattle.parsniprow_c.specs.Told.{tellOver, CrossedTold, MeshTold}
-use Rattle.told.specs.Numbers.{toldCrossed}
+use Rattle.told.specs.Numbers.{toldNumber}
 use Rattle.demands.specs.Answers.{NotRefused, MeshCall, quadsWritten, Reserved}
 use Rattle.demands.proofs.Closing.{enough-after}
 use Rattle.demands.proofs.Numbers.{counts-numbers}
@@ -54,7 +54,7 @@ crossed-allows nx ny nz s cut = edged-of (judged (blockVerdict nx ny nz s cut) (
 
 pub crossed-told-allows : (nx ny nz : ℕ) (s : List ℕ) (t : ℕ) (place : List ℕ) → (place′ : List ℕ) × CrossedTold nx ny nz s t place place′
 crossed-told-allows nx ny nz s t place =
-    let r = crossed-allows nx ny nz s (cutOf t) in (tellOver (toldCrossed (saidCrossed (r .0))) place, record { answer = r .0; answered = r .1; is-told = refl })
+    let r = crossed-allows nx ny nz s (cutOf t) in (tellOver (toldNumber (saidCrossed (r .0))) place, record { answer = r .0; answered = r .1; is-told = refl })
 
 module _ (nx ny nz : ℕ) (s : List ℕ) (cut : Cut) (r : Edged) (promise : CrossedAnswered nx ny nz s cut r) where
   pub crossed-refuses : (x : Refusal) → (saidCrossed r ≡ refused x) ↔ First (axisRow nx ny nz ∷ blockRows (sizeOf nx ny nz) s cut) x
@@ -141,8 +141,8 @@ module _ (nx ny nz : ℕ) (s : List ℕ) (t : ℕ) (place place′ : List ℕ) (
   number-is : getD place′ 1 0 ≡ found .0
   unfolding filled
   number-is =
-      ap (λ (l : List ℕ). getD l 1 0) (m .is-told ∙ ap (λ (a : Answer ℕ). tellOver (toldCrossed a) place) (found .1))
-      ∙ tell-at (toldCrossed (accepted (found .0))) place 1 0 (omega (arith, two)) (omega arith)
+      ap (λ (l : List ℕ). getD l 1 0) (m .is-told ∙ ap (λ (a : Answer ℕ). tellOver (toldNumber a) place) (found .1))
+      ∙ tell-at (toldNumber (accepted (found .0))) place 1 0 (omega (arith, two)) (omega arith)
 
   pub room-told : (w : List ℕ) (o : List Float) (q answer w′ : List ℕ) (o′ : List Float) (q′ answer′ : List ℕ) → 0 < length answer
       → Reserved (getD place′ 1 0) (length w) (length o) (length q) → MeshTold nx ny nz s t w o q answer w′ o′ q′ answer′ → getD answer′ 0 1 ≡ 0

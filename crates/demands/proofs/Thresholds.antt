@@ -24,11 +24,11 @@ use Rattle.mesh.specs.declared.Counted.{Counted}
 use Rattle.mesh.specs.Answer.{saidCounts, countsAnswer, CountsAnswered, toldCounts}
 use Rattle.thresholds.specs.declared.RowAnswer.{RowAnswer}
 use Rattle.thresholds.specs.declared.RowAnswer.the-variants as row
-use Rattle.thresholds.specs.Answer.{mostThresholds, manyRow, answersRow, wholeRows, rowVerdict, answersOf, saidRow, RowAnswered}
+use Rattle.thresholds.specs.Answer.{manyRow, answersRow, wholeRows, rowVerdict, answersOf, saidRow, RowAnswered}
 use Rattle.thresholds.proofs.Threes.{told-three}
 use Rattle.thresholds.proofs.Verdicts.{row-three}
 use Rattle.parsniprow_c.specs.Told.{tellOver, CountsTold, RowTold}
-use Rattle.told.specs.Numbers.{toldRow}
+use Rattle.told.specs.Numbers.{toldNothing}
 use Rattle.demands.proofs.Numbers.{unless-number, axis-number, count-number}
 use Rattle.demands.proofs.Places.{tell-at, none-told}
 use Rattle.demands.proofs.Refusals.{refuses-by}
@@ -46,7 +46,7 @@ row-allows nx ny nz s ts b =
 
 pub row-told-allows : (nx ny nz : ℕ) (s ts b place : List ℕ) → (b′ : List ℕ) × (place′ : List ℕ) × RowTold nx ny nz s ts b place b′ place′
 row-told-allows nx ny nz s ts b place =
-    let r = row-allows nx ny nz s ts b in (r .1, tellOver (toldRow (saidRow (r .0))) place, record { answer = r .0; answered = r .2; is-told = refl })
+    let r = row-allows nx ny nz s ts b in (r .1, tellOver (toldNothing (saidRow (r .0))) place, record { answer = r .0; answered = r .2; is-told = refl })
 
 -- ---- which numbers are given: 1, 2, 15, 16, and never 3
 
@@ -56,7 +56,7 @@ RowNumber n = ((1 ≤ n) × (n ≤ 2)) ⊎ ((15 ≤ n) × (n ≤ 16))
 pub row-numbers : (nx ny nz : ℕ) (s ts : List ℕ) (room : ℕ) (x : Refusal) → rowVerdict nx ny nz s ts room ≡ Refuses x → RowNumber (x .number)
 row-numbers nx ny nz s ts room =
     first-has (λ (x : Refusal). RowNumber (x .number)) (wholeRows nx ny nz s ts room) (
-      λ x e. let n = unless-number (leb (length ts) mostThresholds) 16 (length ts) x e in inr (omega (arith, n), omega (arith, n)),
+      λ x e. let n = unless-number (leb (length ts) 16) 16 (length ts) x e in inr (omega (arith, n), omega (arith, n)),
       (
         λ x e. let n = unless-number (leb (3 * length ts) room) 15 (length ts) x e in inr (omega (arith, n), omega (arith, n)),
         (

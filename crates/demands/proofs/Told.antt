@@ -26,7 +26,7 @@ use Rattle.mesh.specs.declared.Counted.the-variants as counted
 use Rattle.mesh.specs.declared.Totals.{Totals}
 use Rattle.mesh.specs.Answer.{saidCounts, toldCounts}
 use Rattle.parsniprow_c.specs.Told.{tellOver, CeilingsTold, CubeTold, MeshTold}
-use Rattle.told.specs.Numbers.{toldCeilings, toldCube}
+use Rattle.told.specs.Numbers.{toldCeilings, toldNumber}
 use Rattle.demands.specs.Answers.{NotRefused, MeshCall}
 use Rattle.demands.specs.Marks.{hasMark, BothSigns}
 use Rattle.demands.proofs.Numbers.{cube-numbers, mesh-numbers}
@@ -71,7 +71,7 @@ module _ (corners : List ℕ) (t : ℕ) (w : List ℕ) (o : List Float) (place w
   loops-found : getD place′ 1 0 ≤ loops .0
   unfolding filled
   loops-found =
-      subst (λ (l : List ℕ). getD l 1 0 ≤ loops .0) (sym (m .is-told ∙ ap (λ (a : Answer ℕ). tellOver (toldCube a) place) (loops .1))) (tell-le (toldCube (accepted (loops .0))) place 1 (omega arith))
+      subst (λ (l : List ℕ). getD l 1 0 ≤ loops .0) (sym (m .is-told ∙ ap (λ (a : Answer ℕ). tellOver (toldNumber a) place) (loops .1))) (tell-le (toldNumber (accepted (loops .0))) place 1 (omega arith))
 
   -- and there is a word for each
   words-long : loops .0 ≤ length (m .answer .words)

@@ -35,7 +35,7 @@ use Rattle.thresholds.specs.declared.RowAnswer.{RowAnswer}
 use Rattle.thresholds.specs.Answer.{saidRow}
 use Rattle.thresholds.proofs.Fixed.{row-fixed}
 use Rattle.parsniprow_c.specs.Told.{tellOver, CeilingsTold, EdgeTold, CubeTold, CrossedTold, CountsTold, RowTold, MeshTold, ClosedTold, ClosedWithTold, PiecesTold, PlyTold}
-use Rattle.told.specs.Numbers.{toldCeilings, toldEdge, toldFraction, toldCube, toldCrossed, toldRow, toldClosed, toldPieces, toldLength, toldFile}
+use Rattle.told.specs.Numbers.{toldCeilings, toldEdge, toldFraction, toldNumber, toldClosed, toldPieces, toldLength, toldNothing}
 
 pub ceilings-told-fixed : (samples place : List ℕ) → Fixes (CeilingsTold samples place)
 ceilings-told-fixed samples place = equation-fixes (tellOver (toldCeilings (accepted (ceilingsIn samples))) place)
@@ -49,7 +49,7 @@ edge-told-fixed p q t fraction place a b x y =
 
 -- of the cube question the words, the offsets and the answer
 abbrev cubeFound : List ℕ → List Float → List ℕ → CubeAnswer → List ℕ × List Float × List ℕ
-cubeFound words offsets place r = (tellOver (r .words) words, tellOver (triples (r .offsets)) offsets, tellOver (toldCube (saidCube (r .found))) place)
+cubeFound words offsets place r = (tellOver (r .words) words, tellOver (triples (r .offsets)) offsets, tellOver (toldNumber (saidCube (r .found))) place)
 
 is-cube-found : (corners : List ℕ) (t : ℕ) (words : List ℕ) (offsets : List Float) (place : List ℕ) (f : List ℕ × List Float × List ℕ)
     (x : CubeTold corners t words offsets place (f .0) (f .1) (f .2)) → f ≡ cubeFound words offsets place (x .answer)
@@ -67,7 +67,7 @@ cube-told-fixed corners t words offsets place a b x y =
 pub crossed-told-fixed : (nx ny nz : ℕ) (s : List ℕ) (t : ℕ) (place : List ℕ) → Fixes (CrossedTold nx ny nz s t place)
 crossed-told-fixed nx ny nz s t place a b p q =
     p .is-told
-    ∙ ap (λ (x : Edged). tellOver (toldCrossed (saidCrossed x)) place) (crossed-fixed nx ny nz s (cutOf t) (p .answer) (q .answer) (p .answered) (q .answered))
+    ∙ ap (λ (x : Edged). tellOver (toldNumber (saidCrossed x)) place) (crossed-fixed nx ny nz s (cutOf t) (p .answer) (q .answer) (p .answered) (q .answered))
     ∙ sym (q .is-told)
 
 pub counts-told-fixed : (nx ny nz : ℕ) (s : List ℕ) (t : ℕ) (place : List ℕ) → Fixes (CountsTold nx ny nz s t place)
@@ -80,7 +80,7 @@ counts-told-fixed nx ny nz s t place a b p q =
 pub row-told-fixed : (nx ny nz : ℕ) (s ts b place : List ℕ) → Fixes (λ (f : List ℕ × List ℕ). RowTold nx ny nz s ts b place (f .0) (f .1))
 row-told-fixed nx ny nz s ts b place x y p q =
     ap (λ (u : List ℕ). (x .0, u)) (p .is-told)
-    ∙ ap (λ (r : RowAnswer × List ℕ). (r .1, tellOver (toldRow (saidRow (r .0))) place)) (row-fixed nx ny nz s ts b (p .answer, x .0) (q .answer, y .0) (p .answered) (q .answered))
+    ∙ ap (λ (r : RowAnswer × List ℕ). (r .1, tellOver (toldNothing (saidRow (r .0))) place)) (row-fixed nx ny nz s ts b (p .answer, x .0) (q .answer, y .0) (p .answered) (q .answered))
     ∙ ap (λ (u : List ℕ). (y .0, u)) (sym (q .is-told))
 
 -- the three buffers and the answer
@@ -115,7 +115,7 @@ pieces-told-fixed n quads piece size place a b p q =
 
 -- the file buffer, the length and the answer
 abbrev fileFound : List ℕ → List ℕ → Filed × List ℕ → List ℕ × List ℕ × List ℕ
-fileFound bytes place x = (x .1, tellOver (toldLength (saidFile (x .0))) bytes, tellOver (toldFile (saidFile (x .0))) place)
+fileFound bytes place x = (x .1, tellOver (toldLength (saidFile (x .0))) bytes, tellOver (toldNothing (saidFile (x .0))) place)
 
 pub ply-told-fixed : (nx ny nz : ℕ) (words : List ℕ) (offsets : List Float) (quads : List ℕ) (spacing : Spacing) (file bytes place : List ℕ)
     → Fixes (λ (f : List ℕ × List ℕ × List ℕ). PlyTold nx ny nz words offsets quads spacing file bytes place (f .0) (f .1) (f .2))

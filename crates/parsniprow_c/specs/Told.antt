@@ -27,7 +27,7 @@ use Rattle.room.specs.declared.Edged.{Edged}
 use Rattle.room.specs.Answer.{saidCrossed, CrossedAnswered}
 use Rattle.thresholds.specs.declared.RowAnswer.{RowAnswer}
 use Rattle.thresholds.specs.Answer.{saidRow, RowAnswered}
-use Rattle.told.specs.Numbers.{toldCeilings, toldEdge, toldFraction, toldCube, toldCrossed, toldRow, toldClosed, toldPieces, toldLength, toldFile}
+use Rattle.told.specs.Numbers.{toldCeilings, toldEdge, toldFraction, toldNumber, toldClosed, toldPieces, toldLength, toldNothing}
 
 -- as many of these values as a place has room for; what is behind is kept
 abbrev pub tellOver : {A : Type 0} → List A → List A → List A
@@ -48,12 +48,12 @@ pub record CubeTold (corners : List ℕ) (t : ℕ) (words : List ℕ) (offsets :
   pub answered : CubeAnswered corners (cutOf t) answer
   pub words-told : words′ ≡ tellOver (answer .words) words
   pub offsets-told : offsets′ ≡ tellOver (triples (answer .offsets)) offsets
-  pub is-told : place′ ≡ tellOver (toldCube (saidCube (answer .found))) place
+  pub is-told : place′ ≡ tellOver (toldNumber (saidCube (answer .found))) place
 
 pub record CrossedTold (nx ny nz : ℕ) (s : List ℕ) (t : ℕ) (place place′ : List ℕ) : Type 0 where
   pub answer : Edged
   pub answered : CrossedAnswered nx ny nz s (cutOf t) answer
-  pub is-told : place′ ≡ tellOver (toldCrossed (saidCrossed answer)) place
+  pub is-told : place′ ≡ tellOver (toldNumber (saidCrossed answer)) place
 
 pub record CountsTold (nx ny nz : ℕ) (s : List ℕ) (t : ℕ) (place place′ : List ℕ) : Type 0 where
   pub answer : Counted
@@ -64,7 +64,7 @@ pub record CountsTold (nx ny nz : ℕ) (s : List ℕ) (t : ℕ) (place place′ 
 pub record RowTold (nx ny nz : ℕ) (s ts b place b′ place′ : List ℕ) : Type 0 where
   pub answer : RowAnswer
   pub answered : RowAnswered nx ny nz s ts b answer b′
-  pub is-told : place′ ≡ tellOver (toldRow (saidRow answer)) place
+  pub is-told : place′ ≡ tellOver (toldNothing (saidRow answer)) place
 
 -- the three buffers are those of `mesh`
 pub record MeshTold (nx ny nz : ℕ) (s : List ℕ) (t : ℕ) (w : List ℕ) (o : List Float) (q place w′ : List ℕ) (o′ : List Float) (q′ place′ : List ℕ) : Type 0 where
@@ -94,4 +94,4 @@ pub record PlyTold (nx ny nz : ℕ) (words : List ℕ) (offsets : List Float) (q
   pub answer : Filed
   pub written : PlyWritten nx ny nz words offsets quads spacing file answer file′
   pub length-told : bytes′ ≡ tellOver (toldLength (saidFile answer)) bytes
-  pub is-told : place′ ≡ tellOver (toldFile (saidFile answer)) place
+  pub is-told : place′ ≡ tellOver (toldNothing (saidFile answer)) place

@@ -28,22 +28,27 @@ pub the-answers : answersOf 3 3 3 samples seven ≡ 0 ∷ 8 ∷ 6 ∷ 3 ∷ 0 �
 unfolding below filled decided inOrder lowestRow lowest vertices verticesBefore verticesOf quads quadsBefore quadAt vertexNumber cornersOf loopsBy joined patternOf crossedMask loopsFrom loopFrom grow maskOf trailingZeros
 the-answers = refl
 
--- they fit into 21 places and not into 20; what row 3 refuses does not refuse the call
+-- they fit into 21 places and not into 20
 pub the-verdict : rowVerdict 3 3 3 samples seven 21 ≡ Passes
 unfolding inOrder lowestRow lowest
 the-verdict = refl
 
 pub too-short : rowVerdict 3 3 3 samples seven 20 ≡ refusal 15 7
-unfolding inOrder
+unfolding inOrder lowestRow lowest
 too-short = refl
+
+-- a threshold that row 3 refuses does not refuse the call, and neither do two
+pub three-no-refusal : (rowVerdict 3 3 3 samples (0 ∷ []) 3 ≡ Passes) × (rowVerdict 3 3 3 samples (65535 ∷ 0 ∷ []) 6 ≡ Passes)
+unfolding inOrder lowestRow lowest
+three-no-refusal = (refl, refl)
 
 -- 17 thresholds, an empty buffer, a bad axis and no sample: 16 before 15, 15 before 1, 1 before 2
 pub sixteen-first : rowVerdict 1 3 3 [] (replicate 17 100) 0 ≡ refusal 16 17
-unfolding inOrder
+unfolding inOrder lowestRow lowest
 sixteen-first = refl
 
 pub fifteen-next : rowVerdict 1 3 3 [] (replicate 16 100) 47 ≡ refusal 15 16
-unfolding inOrder
+unfolding inOrder lowestRow lowest
 fifteen-next = refl
 
 pub axis-next : rowVerdict 1 3 3 [] (replicate 16 100) 48 ≡ refusal 1 0

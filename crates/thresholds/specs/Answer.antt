@@ -16,13 +16,9 @@ use Rattle.mesh.specs.Answer.{countsAnswer, toldCounts}
 use Rattle.thresholds.specs.declared.RowAnswer.{RowAnswer}
 use Rattle.thresholds.specs.declared.RowAnswer.the-variants as row
 
--- "Take up to 16 in one call"
-abbrev pub mostThresholds : ℕ
-mostThresholds = 16
-
 -- 16: "more than 16 thresholds (value: how many)"
 abbrev pub manyRow : ℕ → Checked
-manyRow m = cond (leb m mostThresholds) Passes (refuses 16 m)
+manyRow m = cond (leb m 16) Passes (refuses 16 m)
 
 -- 15: "a short answer buffer (value: thresholds)"; each threshold takes three places of it
 abbrev pub answersRow : ℕ → ℕ → Checked

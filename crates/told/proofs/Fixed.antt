@@ -14,7 +14,7 @@ use Rattle.mesh.specs.declared.Totals.{Totals}
 use Rattle.mesh.specs.Answer.{toldCounts}
 use Rattle.closed.specs.Closed.{Finding}
 use Rattle.pieces.specs.declared.Parts.{Parts}
-use Rattle.told.specs.Numbers.{toldCeilings, toldEdge, toldFraction, toldCube, toldCrossed, toldRow, toldClosed, toldPieces, toldLength, toldFile}
+use Rattle.told.specs.Numbers.{toldCeilings, toldEdge, toldFraction, toldNumber, toldClosed, toldPieces, toldLength, toldNothing}
 
 pub tell-ceilings-fixed : (x : CeilingCount) → Fixes (λ (r : List ℕ). r ≡ toldCeilings (accepted x))
 tell-ceilings-fixed x = equation-fixes (toldCeilings (accepted x))
@@ -25,20 +25,15 @@ tell-edge-fixed x = equation-fixes (toldEdge x)
 pub tell-fraction-fixed : (x : Answer (List Float)) → Fixes (λ (r : List Float). r ≡ toldFraction x)
 tell-fraction-fixed x = equation-fixes (toldFraction x)
 
-pub tell-cube-fixed : (x : Answer ℕ) → Fixes (λ (r : List ℕ). r ≡ toldCube x)
-tell-cube-fixed x = equation-fixes (toldCube x)
+-- of `tell_cube` and `tell_crossed`
+pub tell-number-fixed : (x : Answer ℕ) → Fixes (λ (r : List ℕ). r ≡ toldNumber x)
+tell-number-fixed x = equation-fixes (toldNumber x)
 
 pub tell-offsets-fixed : (x : List Offset) → Fixes (λ (r : List Float). r ≡ triples x)
 tell-offsets-fixed x = equation-fixes (triples x)
 
-pub tell-crossed-fixed : (x : Answer ℕ) → Fixes (λ (r : List ℕ). r ≡ toldCrossed x)
-tell-crossed-fixed x = equation-fixes (toldCrossed x)
-
 pub tell-counts-fixed : (x : Answer Totals) → Fixes (λ (r : List ℕ). r ≡ toldCounts x)
 tell-counts-fixed x = equation-fixes (toldCounts x)
-
-pub tell-row-fixed : (x : Answer Unit) → Fixes (λ (r : List ℕ). r ≡ toldRow x)
-tell-row-fixed x = equation-fixes (toldRow x)
 
 pub tell-closed-fixed : (x : Answer Finding) → Fixes (λ (r : List ℕ). r ≡ toldClosed x)
 tell-closed-fixed x = equation-fixes (toldClosed x)
@@ -49,5 +44,6 @@ tell-pieces-fixed x = equation-fixes (toldPieces x)
 pub tell-length-fixed : (x : Answer ℕ) → Fixes (λ (r : List ℕ). r ≡ toldLength x)
 tell-length-fixed x = equation-fixes (toldLength x)
 
-pub tell-file-fixed : (x : Answer ℕ) → Fixes (λ (r : List ℕ). r ≡ toldFile x)
-tell-file-fixed x = equation-fixes (toldFile x)
+-- of `tell_row` and `tell_file`
+pub tell-nothing-fixed : {A : Type 0} (x : Answer A) → Fixes (λ (r : List ℕ). r ≡ toldNothing x)
+tell-nothing-fixed x = equation-fixes (toldNothing x)

@@ -23,17 +23,9 @@ abbrev pub toldFraction : Answer (List Float) → List Float
 toldFraction (accepted f) = filled 1 plusZero f
 toldFraction (refused r) = filled 1 plusZero []
 
--- loops
-abbrev pub toldCube : Answer ℕ → List ℕ
-toldCube = told 3 (λ n. n ∷ [])
-
--- crossed edges
-abbrev pub toldCrossed : Answer ℕ → List ℕ
-toldCrossed = told 3 (λ n. n ∷ [])
-
--- no value: the answers of a row of thresholds stand in its buffer
-abbrev pub toldRow : Answer Unit → List ℕ
-toldRow = told 3 (λ _. [])
+-- one number: the loops of a cube, the crossed edges of a block
+abbrev pub toldNumber : Answer ℕ → List ℕ
+toldNumber = told 3 (λ n. n ∷ [])
 
 -- 1 if closed; 0, quad, side if open
 abbrev pub findingNumbers : Finding → List ℕ
@@ -52,6 +44,6 @@ abbrev pub toldLength : Answer ℕ → List ℕ
 toldLength (accepted n) = filled 1 0 (n ∷ [])
 toldLength (refused r) = filled 1 0 []
 
--- nothing else is told of it
-abbrev pub toldFile : Answer ℕ → List ℕ
-toldFile = told 3 (λ n. [])
+-- 0 alone, or the refusal: a file and its length stand in places of their own, and so do the answers of a row of thresholds
+abbrev pub toldNothing : {A : Type 0} → Answer A → List ℕ
+toldNothing = told 3 (λ _. [])

@@ -20,7 +20,7 @@ ghost use Rattle.closed.specs.Closed.{saidClosure};
 ghost use Rattle.pieces.specs.Answer.{saidPieces};
 ghost use Rattle.ply.specs.Answer.{saidFile};
 ghost use Rattle.room.specs.Answer.{saidCrossed};
-ghost use Rattle.told.specs.Numbers.{toldCeilings, toldEdge, toldFraction, toldCube, toldCrossed, toldRow, toldClosed, toldPieces, toldLength, toldFile};
+ghost use Rattle.told.specs.Numbers.{toldCeilings, toldEdge, toldFraction, toldNumber, toldClosed, toldPieces, toldLength, toldNothing};
 
 // How many samples are at the ceiling, and the lowest index of one.
 pub fn tell_ceilings(seen: CeilingCount) -> [u32; 3]
@@ -53,7 +53,7 @@ pub fn tell_fraction(crossing: Crossing) -> [f64; 1]
 
 // How many loops a cube has.
 pub fn tell_cube(found: Found) -> [u32; 3]
-    ensures { λ r. ⌜ r ≡ toldCube (saidCube found) ⌝ }
+    ensures { λ r. ⌜ r ≡ toldNumber (saidCube found) ⌝ }
 {
     match found {
         Found::Loops(n) => [0, n, 0],
@@ -83,7 +83,7 @@ pub fn tell_offsets(o: [Offset; 4]) -> [f64; 12]
 
 // How many edges of a block are crossed.
 pub fn tell_crossed(edged: Edged) -> [u32; 3]
-    ensures { λ r. ⌜ r ≡ toldCrossed (saidCrossed edged) ⌝ }
+    ensures { λ r. ⌜ r ≡ toldNumber (saidCrossed edged) ⌝ }
 {
     match edged {
         Edged::Edges(n) => [0, n, 0],
@@ -103,7 +103,7 @@ pub fn tell_counts(counted: Counted) -> [u32; 3]
 
 // 0 alone of a row of thresholds that is answered, since its answers stand in its buffer; or its refusal.
 pub fn tell_row(row: RowAnswer) -> [u32; 3]
-    ensures { λ r. ⌜ r ≡ toldRow (saidRow row) ⌝ }
+    ensures { λ r. ⌜ r ≡ toldNothing (saidRow row) ⌝ }
 {
     match row {
         RowAnswer::Answered => [0, 0, 0],
@@ -144,7 +144,7 @@ pub fn tell_length(filed: Filed) -> [u64; 1]
 
 // Nothing else is told of a file.
 pub fn tell_file(filed: Filed) -> [u32; 3]
-    ensures { λ r. ⌜ r ≡ toldFile (saidFile filed) ⌝ }
+    ensures { λ r. ⌜ r ≡ toldNothing (saidFile filed) ⌝ }
 {
     match filed {
         Filed::Bytes(_) => [0, 0, 0],

@@ -1,6 +1,7 @@
 -- `check_row` meets its contract: one row after the other.
 -- Assumes nothing.
 use mathlib.Core.Path.{_∙_}
+use native.Mathlib.Omega.{arith}
 use Rattle.thresholds.proofs.Rows.{many-refuses, short-refuses, row-passes}
 use borrow.Author.Needs.{needs}
 use Rattle.thresholds.proofs.check_row.Statement.{statement}
@@ -17,7 +18,7 @@ refuse-requires : tie.Need-refuse-requires
 refuse-requires c κs = search needs
 
 returns : tie.Need-returns
-returns c = c .refuse .ensures ∙ many-refuses _ _ _ (c .before .before .if1 .taken) (c .before .short .ensures)
+returns c = c .refuse .ensures ∙ many-refuses _ _ _ (omega (arith, c .before .before .if1 .taken)) (c .before .short .ensures)
 
 mul-if2 : tie.Need-mul-if2
 mul-if2 c = search needs
@@ -32,10 +33,10 @@ returns-2 : tie.Need-returns-2
 returns-2 c =
     let s = c .before in
     let t = s .before in
-    c .refuse2 .ensures ∙ short-refuses _ _ _ (t .before .if1 .left) (t .if2 .taken) (s .short2 .ensures)
+    c .refuse2 .ensures ∙ short-refuses _ _ _ (omega (arith, t .before .if1 .left)) (t .if2 .taken) (s .short2 .ensures)
 
 returns-3 : tie.Need-returns-3
-returns-3 c = row-passes _ _ (c .before .if1 .left) (c .if2 .left)
+returns-3 c = row-passes _ _ (omega (arith, c .before .if1 .left)) (c .if2 .left)
 
 pub check-row-spec : {M : Type 1} → statement M
 check-row-spec =

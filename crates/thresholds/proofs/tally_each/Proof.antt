@@ -16,7 +16,7 @@ use Rattle.thresholds.proofs.each_with_layers.Reads as each-with-layers
 use Rattle.thresholds.proofs.run_end.Reads as run-end-reads
 
 abbrev Inv-loop : tie.InvT-loop
-Inv-loop size samples thresholds last w₀ k₀ w k = (k ≤ last) × (length w ≡ 16) × CountedFrom size samples thresholds w 0 (length thresholds) k
+Inv-loop size samples thresholds last w₀ k₀ w k = CountedFrom size samples thresholds w 0 (length thresholds) k × (k ≤ last) × (length w ≡ 16)
 
 abbrev μ-loop : tie.MeasureT-loop
 μ-loop size samples thresholds last w₀ k₀ w k = last - k
@@ -30,7 +30,7 @@ sub-last c = search needs
 loop-holds : tie.Need-loop-holds Inv-loop μ-loop
 loop-holds c =
     let a = c .before .before .before in
-    (omega arith, refl, counted-start (a .args .size) (a .args .samples .now) (a .args .thresholds .now) _ 16 (a .pre .1))
+    (counted-start (a .args .size) (a .args .samples .now) (a .args .thresholds .now) _ 16 (a .pre .1), omega arith, refl)
 
 run-end-requires : tie.Need-run-end-requires Inv-loop μ-loop
 run-end-requires c κs =
@@ -47,14 +47,14 @@ each-with-layers-requires c κs =
       a .pre .1,
       omega (arith, c .run-end .ensures .0),
       omega (arith, c .run-end .ensures .1, z .nz .ensures, a .pre .0 .limits .z-low),
-      l .loop .inv .2,
+      l .loop .inv .0,
     )
 
 loop-less : tie.Need-loop-less Inv-loop μ-loop
 loop-less c = search needs
 
 loop-again : tie.Need-loop-again Inv-loop μ-loop
-loop-again c = (c .before .run-end .ensures .1, search needs, c .each-with-layers .ensures)
+loop-again c = (c .each-with-layers .ensures, c .before .run-end .ensures .1, search needs)
 
 returns : tie.Need-returns Inv-loop μ-loop
 returns c =
@@ -62,7 +62,7 @@ returns c =
     let z = l .before in
     let a = z .before .before .before in
     counted-all (a .args .size) (a .args .samples .now) (a .args .thresholds .now) (l .loop .k) (l .loop .w)
-    (omega (arith, z .nz .ensures, a .pre .0 .limits .z-low, l .loop .inv .0, c .loop-test .left)) (l .loop .inv .2)
+    (omega (arith, z .nz .ensures, a .pre .0 .limits .z-low, l .loop .inv .1, c .loop-test .left)) (l .loop .inv .0)
 
 pub tally-each-spec : {M : Type 1} → statement M
 tally-each-spec =

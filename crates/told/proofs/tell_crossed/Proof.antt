@@ -4,7 +4,7 @@ use mathlib.Core.Path.{sym, ap}
 use Rattle.laws.specs.Filled.{filled}
 use Rattle.room.specs.declared.Edged.{Edged}
 use Rattle.room.specs.Answer.{saidCrossed}
-use Rattle.told.specs.Numbers.{toldCrossed}
+use Rattle.told.specs.Numbers.{toldNumber}
 use borrow.Author.Needs.{needs}
 use Rattle.told.proofs.tell_crossed.Statement.{statement}
 use Rattle.told.proofs.tell_crossed.Tie as tie
@@ -19,11 +19,11 @@ enum-known-edged-2 c = search needs
 
 returns : tie.Need-returns
 unfolding filled
-returns c = sym (ap (λ (x : Edged). toldCrossed (saidCrossed x)) (c .before .edged .given .1))
+returns c = sym (ap (λ (x : Edged). toldNumber (saidCrossed x)) (c .before .edged .given .1))
 
 returns-2 : tie.Need-returns-2
 unfolding filled
-returns-2 c = sym (ap (λ (x : Edged). toldCrossed (saidCrossed x)) (c .before .edged2 .given .1))
+returns-2 c = sym (ap (λ (x : Edged). toldNumber (saidCrossed x)) (c .before .edged2 .given .1))
 
 pub tell-crossed-spec : {M : Type 1} → statement M
 tell-crossed-spec = tie.close (tie.spec enum-known-edged enum-known-edged-2 returns returns-2)

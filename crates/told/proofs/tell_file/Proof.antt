@@ -4,7 +4,7 @@ use mathlib.Core.Path.{sym, ap}
 use Rattle.laws.specs.Filled.{filled}
 use Rattle.ply.specs.declared.Filed.{Filed}
 use Rattle.ply.specs.Answer.{saidFile}
-use Rattle.told.specs.Numbers.{toldFile}
+use Rattle.told.specs.Numbers.{toldNothing}
 use borrow.Author.Needs.{needs}
 use Rattle.told.proofs.tell_file.Statement.{statement}
 use Rattle.told.proofs.tell_file.Tie as tie
@@ -19,11 +19,11 @@ enum-known-filed c = search needs
 
 returns : tie.Need-returns
 unfolding filled
-returns c = sym (ap (λ (x : Filed). toldFile (saidFile x)) (c .enum-told .given .1))
+returns c = sym (ap (λ (x : Filed). toldNothing (saidFile x)) (c .enum-told .given .1))
 
 returns-2 : tie.Need-returns-2
 unfolding filled
-returns-2 c = sym (ap (λ (x : Filed). toldFile (saidFile x)) (c .before .filed .given .1))
+returns-2 c = sym (ap (λ (x : Filed). toldNothing (saidFile x)) (c .before .filed .given .1))
 
 pub tell-file-spec : {M : Type 1} → statement M
 tell-file-spec = tie.close (tie.spec enum-told enum-known-filed returns returns-2)
