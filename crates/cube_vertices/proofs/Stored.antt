@@ -28,7 +28,7 @@ triples-append (o ∷ xs) ys = ap (λ (l : List Float). o .x ∷ o .y ∷ o .z �
 taken : {A : Type 0} (l : List A) (i : ℕ) → i < length l → length (take i l) ≡ i
 taken l i h = length-take i l ∙ omega arith
 
--- the first i of some words and places were written, from the vertex v on
+-- the first i of some words and places were written, from the vertex place v on
 pub record FirstPut (v c i : ℕ) (four : List ℕ) (places : List Offset) (w₀ w : List ℕ) (o₀ o : List Float) : Type 0 where
   pub words-are : w ≡ sets w₀ (2 * v) (pairs c (take i four))
   pub offsets-are : o ≡ sets o₀ (3 * v) (triples (take i places))

@@ -42,7 +42,7 @@ module _ (loopsOf : Cut → List ℕ → List ℕ) where
     abbrev pub offsetsAt : ℕ → List Float
     offsetsAt x = offsetsBy cut (windowCorners nx lo hi x)
 
--- Vertices with the masks ms, the words ws and the offsets os were written from the vertex v on, and r is the number behind them.
+-- Vertices with the masks ms, the words ws and the offsets os were written from the vertex place v on, and r is the place behind them.
 pub record Stored (v : ℕ) (ms ws : List ℕ) (os : List Float) (words₀ words : List ℕ) (offsets₀ offsets : List Float) (r : ℕ) : Type 0 where
   pub number : r ≡ v + length ms
   pub words-are : words ≡ sets words₀ (2 * v) ws
@@ -56,15 +56,15 @@ pub record CubeReady (loopsOf : Cut → List ℕ → List ℕ) (cut : Cut) (corn
   pub edges : crossed ≡ crossedMask (patternOf cut corners)
   pub one : single ≡ true → loopsOf cut corners ≡ crossed ∷ []
 
--- row 3 passes the threshold, both buffers have room for its vertices, and there is room for its numbers
+-- row 3 passes the threshold, both buffers have room for its vertices, there is room for its numbers, and they fit
 pub record CubeRoom (loopsOf : Cut → List ℕ → List ℕ) (cut : Cut) (corners : List ℕ) (spot : Spot) (words : List ℕ) (offsets : List Float) (numbers : List ℕ) : Type 0 where
   pub threshold : thresholdRow cut ≡ Passes
   pub words-room : 2 * (spot .v + length (loopsOf cut corners)) ≤ length words
   pub offsets-room : 3 * (spot .v + length (loopsOf cut corners)) ≤ length offsets
   pub numbers-room : 2 * spot .x + 2 ≤ length numbers
-  pub few : spot .v < 4294967296
+  pub few : spot .first + spot .v < 4294967296
 
 -- its vertices are written and noted
 pub record CubeWritten (loopsOf : Cut → List ℕ → List ℕ) (cut : Cut) (corners : List ℕ) (spot : Spot) (words₀ words : List ℕ) (offsets₀ offsets : List Float) (old new : List ℕ) (r : ℕ) : Type 0 where
   pub stored : Stored (spot .v) (loopsOf cut corners) (wordsBy loopsOf cut corners (spot .c)) (offsetsBy loopsOf cut corners) words₀ words offsets₀ offsets r
-  pub noted : CubeNoted (namesBy loopsOf cut corners) (spot .x) (spot .v) old new
+  pub noted : CubeNoted (namesBy loopsOf cut corners) (spot .x) (spot .first + spot .v) old new

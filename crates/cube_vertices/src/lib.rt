@@ -13,14 +13,16 @@ ghost use Rattle.mesh_rule.specs.Buffers.{triples};
 ghost use Rattle.mesh_rule.specs.Layers.{pairs};
 ghost use Rattle.cube_vertices.specs.Cubes.{CubeReady, CubeRoom, CubeWritten};
 
-// Where the vertices of a cube go: its place in its row, its number, and the number of its first vertex.
+// Where the vertices of a cube go: its place in its row, its number, the place of its first vertex in the lent buffers, and the number of the vertex
+// that stands first in them.
 pub struct Spot {
     pub x: usize,
     pub c: u32,
     pub v: usize,
+    pub first: usize,
 }
 
-// Writes and notes the vertices of a cube with the crossed edges `crossed`, and answers the number behind them; `single` is said only of a cube with
+// Writes and notes the vertices of a cube with the crossed edges `crossed`, and answers the place behind them; `single` is said only of a cube with
 // one loop.
 pub fn write_cube(
     cut: Cut,
@@ -40,7 +42,7 @@ pub fn write_cube(
         let o = place::place(crossed, place::wide(corners), cut);
         let word = crossed + cell::mark(corners);
         put_vertex(words, offsets, v, spot.c, word, o);
-        notes::note(numbers, spot.x, v as u32, 0);
+        notes::note(numbers, spot.x, (spot.first + v) as u32, 0);
         return v + 1;
     }
     let answer = cell::cube_by(crossed, corners, cut);
@@ -52,11 +54,16 @@ pub fn write_cube(
     let four = answer.words;
     let places = answer.offsets;
     put_four(words, offsets, v, spot.c, n as usize, four, places);
-    notes::note(numbers, spot.x, v as u32, notes::which_of(four));
+    notes::note(
+        numbers,
+        spot.x,
+        (spot.first + v) as u32,
+        notes::which_of(four),
+    );
     v + n as usize
 }
 
-// Writes the vertex v.
+// Writes a vertex at the place v.
 fn put_vertex(words: &mut [u32], offsets: &mut [f64], v: usize, c: u32, word: u32, o: Offset)
     requires { ⌜ (2 * v + 2 ≤ length (now words)) × (3 * v + 3 ≤ length (now offsets)) ⌝ }
     ensures { λ _. ⌜ now (words .exit) ≡ sets (now (words .entry)) (2 * v) (c ∷ word ∷ []) ⌝ }
@@ -69,7 +76,7 @@ fn put_vertex(words: &mut [u32], offsets: &mut [f64], v: usize, c: u32, word: u3
     offsets[3 * v + 2] = o.z;
 }
 
-// Writes the first n of four vertices of the cube c, from the vertex v on.
+// Writes the first n of four vertices of the cube c, from the place v on.
 fn put_four(
     words: &mut [u32],
     offsets: &mut [f64],

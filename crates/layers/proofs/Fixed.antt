@@ -27,7 +27,7 @@ module _ (loopsOf : Cut → List ℕ → List ℕ) (lo hi : List ℕ) (row : Row
   pub row-step-fixed : (below : List ℕ) (m : Marks) (w₀ w w′ : List ℕ) (o₀ o o′ : List Float) (q₀ q q′ t₀ t t′ : List ℕ) (r r′ : Marks)
       → RowStepped loopsOf lo hi row a b below m w₀ w o₀ o q₀ q t₀ t r → RowStepped loopsOf lo hi row a b below m w₀ w′ o₀ o′ q₀ q′ t₀ t′ r′ → (r ≡ r′) × (w ≡ w′) × (o ≡ o′) × (q ≡ q′) × (t ≡ t′)
   row-step-fixed below m w₀ w w′ o₀ o o′ q₀ q q′ t₀ t t′ r r′ p s =
-      let x = row-written-fixed loopsOf lo hi (row .cut) (row .nx) (row .c) (m .v) w₀ w w′ o₀ o o′ (half (row .j) t₀) (half (row .j) t) (half (row .j) t′) (r .v) (r′ .v) (p .written) (s .written) in
+      let x = row-written-fixed loopsOf lo hi (row .cut) (row .nx) (row .c) (row .first) (m .v) w₀ w w′ o₀ o o′ (half (row .j) t₀) (half (row .j) t) (half (row .j) t′) (r .v) (r′ .v) (p .written) (s .written) in
       let e = halves-same (row .j) t t′ (p .long) (s .long) (x .3) (p .prev-kept ∙ sym (s .prev-kept)) in (
         row-counts-fixed m r r′ (step-counts loopsOf lo hi row a b below m w₀ w o₀ o q₀ q t₀ t r p) (step-counts loopsOf lo hi row a b below m w₀ w′ o₀ o′ q₀ q′ t₀ t′ r′ s),
         x .1,

@@ -92,11 +92,11 @@ module _ (row : Row) (a b : List ℕ) (m r : Marks) (q q′ : List ℕ) where
 
 -- ---- a row
 
-pub written-as : {loopsOf : Cut → List ℕ → List ℕ} {lo hi : List ℕ} {cut : Cut} {nx c v : ℕ} {w₀ w : List ℕ} {o₀ o : List Float} {t₀ t₀′ t t′ : List ℕ} {r r′ : ℕ} → t₀ ≡ t₀′ → t ≡ t′ → r ≡ r′
-    → RowWritten loopsOf lo hi cut nx c v w₀ w o₀ o t₀ t r → RowWritten loopsOf lo hi cut nx c v w₀ w o₀ o t₀′ t′ r′
-written-as {loopsOf} {lo} {hi} {cut} {nx} {c} {v} {w₀} {w} {o₀} {o} {t₀} {t₀′} {t} {t′} {r} {r′} e₀ e f h =
-    subst (λ (x : ℕ). RowWritten loopsOf lo hi cut nx c v w₀ w o₀ o t₀′ t′ x) f
-    (subst (λ (x : List ℕ). RowWritten loopsOf lo hi cut nx c v w₀ w o₀ o t₀′ x r) e (subst (λ (x : List ℕ). RowWritten loopsOf lo hi cut nx c v w₀ w o₀ o x t r) e₀ h))
+pub written-as : {loopsOf : Cut → List ℕ → List ℕ} {lo hi : List ℕ} {cut : Cut} {nx c first v : ℕ} {w₀ w : List ℕ} {o₀ o : List Float} {t₀ t₀′ t t′ : List ℕ} {r r′ : ℕ} → t₀ ≡ t₀′ → t ≡ t′ → r ≡ r′
+    → RowWritten loopsOf lo hi cut nx c first v w₀ w o₀ o t₀ t r → RowWritten loopsOf lo hi cut nx c first v w₀ w o₀ o t₀′ t′ r′
+written-as {loopsOf} {lo} {hi} {cut} {nx} {c} {first} {v} {w₀} {w} {o₀} {o} {t₀} {t₀′} {t} {t′} {r} {r′} e₀ e f h =
+    subst (λ (x : ℕ). RowWritten loopsOf lo hi cut nx c first v w₀ w o₀ o t₀′ t′ x) f
+    (subst (λ (x : List ℕ). RowWritten loopsOf lo hi cut nx c first v w₀ w o₀ o t₀′ x r) e (subst (λ (x : List ℕ). RowWritten loopsOf lo hi cut nx c first v w₀ w o₀ o x t r) e₀ h))
 
 -- a row's quads do not depend on the vertices' mark
 pub ready-as : {row : Row} {a b below : List ℕ} {m : Marks} {room : ℕ} (v : ℕ) → QuadsReady row a b below m room → QuadsReady row a b below (record { v = v; x = m .x; y = m .y; z = m .z }) room

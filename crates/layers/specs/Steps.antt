@@ -77,7 +77,7 @@ pub record RowStepped (loopsOf : Cut → List ℕ → List ℕ) (lo hi : List �
     : Type 0 where
   pub long : length here ≡ 1024
   pub prev-kept : half (row .j + 1) here ≡ half (row .j + 1) here₀
-  pub written : RowWritten loopsOf lo hi (row .cut) (row .nx) (row .c) (m .v) words₀ words offsets₀ offsets (half (row .j) here₀) (half (row .j) here) (r .v)
+  pub written : RowWritten loopsOf lo hi (row .cut) (row .nx) (row .c) (row .first) (m .v) words₀ words offsets₀ offsets (half (row .j) here₀) (half (row .j) here) (r .v)
   pub more : RowQuads row a b below here m r quads₀ quads
 
 -- marks so small that a row's counts may be added

@@ -14,7 +14,7 @@ ghost use Rattle.rows.specs.Rows.{RowReady};
 ghost use Rattle.vertices.specs.Layers.{RowRoom};
 ghost use Rattle.layers.specs.Steps.{half, hasQuads, stepBy, RowFits, QuadsReady, RowQuads, RowStepped, RowFew, RowCounted};
 
-// The number of the next vertex, and where the next quad along each axis goes.
+// Where the next vertex goes, and where the next quad along each axis goes.
 pub struct Marks {
     pub v: usize,
     pub x: usize,
@@ -139,7 +139,7 @@ pub fn row_step(
     quads: &mut [u32],
     m: Marks,
 ) -> Marks
-    requires { ⌜ RowReady (now lo) (now hi) (row .cut) (now a) (now b) (row .nx) (row .j) × RowRoom loopsOf (now lo) (now hi) (row .cut) (row .nx) (row .c) (m .v) (now words) (now offsets) (half (row .j) (now here)) × QuadsReady row (now a) (now b) (now below) m (length (now quads)) × (length (now here) ≡ 1024) ⌝ }
+    requires { ⌜ RowReady (now lo) (now hi) (row .cut) (now a) (now b) (row .nx) (row .j) × RowRoom loopsOf (now lo) (now hi) (row .cut) (row .nx) (row .c) (row .first) (m .v) (now words) (now offsets) (half (row .j) (now here)) × QuadsReady row (now a) (now b) (now below) m (length (now quads)) × (length (now here) ≡ 1024) ⌝ }
     ensures { λ r. ⌜ RowStepped loopsOf (now (lo .entry)) (now (hi .entry)) row (now (a .entry)) (now (b .entry)) (now (below .entry)) m (now (words .entry)) (now (words .exit)) (now (offsets .entry)) (now (offsets .exit)) (now (quads .entry)) (now (quads .exit)) (now (here .entry)) (now (here .exit)) r ⌝ }
 {
     let h = 512 * (row.j % 2);

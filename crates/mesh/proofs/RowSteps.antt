@@ -14,12 +14,15 @@ use lib.Ieee.{Float}
 use Rattle.laws.proofs.Tests.{and-both, lt-or-ge}
 use Rattle.block.specs.declared.Cut.{Cut}
 use Rattle.block.specs.declared.Size.{Size}
+use Rattle.block.specs.declared.Checked.the-variants.{Passes}
 use Rattle.block.specs.Numbering.{Axis, X, Y, Z}
+use Rattle.block.specs.Rows.{thresholdRow}
+use Rattle.block.specs.Size.{Limits}
 use Rattle.cube_rule.specs.Decider.{joined, loopsOf}
 use Rattle.cube_rule.proofs.Laws.{cube-laws}
 use Rattle.mesh_rule.specs.Layers.{rowCube, runMasks}
 use Rattle.mesh_rule.specs.Grid.{cornersOf, between}
-use Rattle.mesh_rule.specs.Mesh.{cubeLoops}
+use Rattle.mesh_rule.specs.Mesh.{cubeLoops, verticesBefore}
 use Rattle.mesh_rule.proofs.Counts.{most-vertices}
 use Rattle.cube_vertices.specs.Cubes.{namesBy}
 use Rattle.vertices.specs.Layers.{Ready, RowRoom}
@@ -40,8 +43,8 @@ use Rattle.layers.specs.Steps.{half, hasQuads, stepBy, RowFits, QuadsReady, Row
 use Rattle.layers.proofs.Halves.{half-long}
 use Rattle.layers.proofs.Steps.{step-counts}
 use Rattle.mesh.specs.Answer.{vertexCount}
-use Rattle.mesh.specs.Steps.{Meshable, rowOf, Counting, RowMoved}
-use Rattle.mesh.specs.Writes.{TablesReady, Underway, RowMore}
+use Rattle.mesh.specs.Steps.{rowOf, Counting, RowMoved}
+use Rattle.mesh.specs.Writes.{TablesReady, Underway, RowRoomy, RowMore}
 use Rattle.mesh.proofs.Planes.{Outer, outer-inner, end-first}
 use Rattle.mesh.proofs.Rows.{row-empty, quads-room, vertices-room}
 use Rattle.mesh.proofs.Tallies.{all-quads, marked-row, counting-few}
@@ -109,8 +112,8 @@ module _ {n : Size} {s : List ℕ} {cut : Cut} {a b : List ℕ} {k : ℕ} (r : R
 
   -- ---- the row
 
-  pub row-fits : RowFits (rowOf n cut j k) a b
-  row-fits = record {
+  pub row-fits : (first : ℕ) → RowFits (rowOf n cut first j k) a b
+  row-fits first = record {
     short = r .limits .x-low;
     long = r .limits .x-high;
     inside = omega (arith, r .limits .y-high);
@@ -119,73 +122,67 @@ module _ {n : Size} {s : List ℕ} {cut : Cut} {a b : List ℕ} {k : ℕ} (r : R
   }
 
   -- its counts are those that the block has there
-  pub row-moved : {lo hi : List ℕ} → Windows n s j k lo hi → {m m′ : Marks} → RowCounted loopsOf lo hi (rowOf n cut j k) a b m m′ → RowMoved loopsOf n s cut j k m m′
-  row-moved p {m} h = record {
+  pub row-moved : (first : ℕ) {lo hi : List ℕ} → Windows n s j k lo hi → {m m′ : Marks} → RowCounted loopsOf lo hi (rowOf n cut first j k) a b m m′ → RowMoved loopsOf n s cut j k m m′
+  row-moved first p {m} h = record {
     v-is = h .v-is ∙ ap (λ (ms : List ℕ). m .v + length ms) (masks-are loopsOf p cut hj);
     x-is = h .x-is ∙ ap (λ (l : ℕ). m .x + l) (step-count AxisX);
     y-is = h .y-is ∙ ap (λ (l : ℕ). m .y + l) (step-count AxisY);
     z-is = h .z-is ∙ ap (λ (l : ℕ). m .z + l) (step-count AxisZ);
   }
 
-  module _ {lo hi : List ℕ} (p : Windows n s j k lo hi) (row : Row) (e : row ≡ rowOf n cut j k) {m : Marks} (c : Counting loopsOf n s cut j k m) where
+  module _ {lo hi : List ℕ} (p : Windows n s j k lo hi) {first : ℕ} (row : Row) (e : row ≡ rowOf n cut first j k) {m : Marks} (c : Counting loopsOf n s cut j k m) where
     pub counts-ready : RowReady lo hi (row .cut) a b (row .nx) (row .j) × RowFits row a b × RowFew m
     counts-ready =
         subst (λ (x : Row). RowReady lo hi (x .cut) a b (x .nx) (x .j) × RowFits x a b × RowFew m) (sym e)
-        (row-ready r hj p, row-fits, counting-few n s cut j k (r .limits) hj (r .inside) c)
+        (row-ready r hj p, row-fits first, counting-few n s cut j k (r .limits) hj (r .inside) c)
 
     pub counts-next : {m′ : Marks} → RowCounted loopsOf lo hi row a b m m′ → Counting loopsOf n s cut (j + 1) k m′
-    counts-next {m′} h = marked-row n s cut 0 0 j k (omega arith) c (row-moved p (subst (λ (x : Row). RowCounted loopsOf lo hi x a b m m′) e h))
+    counts-next {m′} h = marked-row n s cut 0 0 j k (omega arith) c (row-moved first p (subst (λ (x : Row). RowCounted loopsOf lo hi x a b m m′) e h))
 
--- ---- a row that is written
+-- ---- a row that is written, where the vertex with the number `first` stands first in the buffers
 
-module _ {n : Size} {s : List ℕ} {cut : Cut} {a b : List ℕ} {j k : ℕ} {m : Marks} {under tab w : List ℕ} {o : List Float} {q : List ℕ}
-    (r : Ready n s cut a b k) (ok : Meshable n s cut) (t : TablesReady loopsOf n s cut j k under tab) (u : Underway loopsOf n s cut j k m w o q) where
-  abbrev first : ℕ
-  first = rowCube (n .nx) (n .ny) j k
+module _ {n : Size} {s : List ℕ} {cut : Cut} {a b : List ℕ} {j k : ℕ} {under tab : List ℕ} (r : Ready n s cut a b k) (t : TablesReady loopsOf n s cut j k under tab) where
+  abbrev cube : ℕ
+  cube = rowCube (n .nx) (n .ny) j k
 
-  -- the vertices of the row are some of all
-  few : m .v + length (runMasks loopsOf n s cut first (n .nx - 1)) ≤ vertexCount n s cut
-  few = omega (arith, u .writing .marks .v-is, vertices-room n s cut j k (t .row) (r .inside))
+  -- what it requires
+  module _ (ok : thresholdRow cut ≡ Passes) {first : ℕ} {m : Marks} {w : List ℕ} {o : List Float} {q : List ℕ} (room : RowRoomy loopsOf n s cut j k first m w o q) where
+    vertex-room : {lo hi : List ℕ} → Windows n s j k lo hi → RowRoom loopsOf lo hi cut (n .nx) cube first (m .v) w o (half j tab)
+    vertex-room {lo} {hi} p =
+        let count = ap length (masks-are loopsOf p cut (t .row)) in
+        record {
+          small = omega (arith, row-bounds n (n .nx) (n .ny) j k (r .limits) refl refl (t .row) (r .inside));
+          threshold = ok;
+          words-room = omega (arith, count, room .words);
+          offsets-room = omega (arith, count, room .offsets);
+          numbers-room = half-long j tab (t .tab-long);
+          few = omega (arith, count, room .few);
+        }
 
-  most : vertexCount n s cut ≤ 66325500
-  most = most-vertices loopsOf n s cut (cube-laws joined) (ok .limits)
+    quad-room : QuadsReady (rowOf n cut first j k) a b under m (length q)
+    quad-room = record {
+      fits = row-fits r j (t .row) first;
+      below-long = t .under-long;
+      room-x = omega (arith, step-count r j (t .row) AxisX, room .quads-x);
+      room-y = omega (arith, step-count r j (t .row) AxisY, room .quads-y);
+      room-z = omega (arith, step-count r j (t .row) AxisZ, room .quads-z);
+    }
 
-  vertex-room : {lo hi : List ℕ} → Windows n s j k lo hi → RowRoom loopsOf lo hi cut (n .nx) first (m .v) w o (half j tab)
-  vertex-room {lo} {hi} p =
-      let count = ap length (masks-are loopsOf p cut (t .row)) in
-      record {
-        small = omega (arith, row-bounds n (n .nx) (n .ny) j k (ok .limits) refl refl (t .row) (r .inside));
-        threshold = ok .threshold;
-        words-room = omega (arith, count, few, u .room .words, words-kept (u .writing));
-        offsets-room = omega (arith, count, few, u .room .offsets, offsets-kept (u .writing));
-        numbers-room = half-long j tab (t .tab-long);
-        few = omega (arith, count, few, most);
-      }
+    pub step-ready : {lo hi : List ℕ} → Windows n s j k lo hi → (row : Row) → row ≡ rowOf n cut first j k
+        → RowReady lo hi (row .cut) a b (row .nx) (row .j) × RowRoom loopsOf lo hi (row .cut) (row .nx) (row .c) (row .first) (m .v) w o (half (row .j) tab) × QuadsReady row a b under m (length q) × (length tab ≡ 1024)
+    step-ready {lo} {hi} p row e =
+        subst (λ (x : Row). RowReady lo hi (x .cut) a b (x .nx) (x .j) × RowRoom loopsOf lo hi (x .cut) (x .nx) (x .c) (x .first) (m .v) w o (half (x .j) tab) × QuadsReady x a b under m (length q) × (length tab ≡ 1024)) (sym e)
+        (row-ready r (t .row) p, vertex-room p, quad-room, t .tab-long)
 
-  quad-room : QuadsReady (rowOf n cut j k) a b under m (length q)
-  quad-room = record {
-    fits = row-fits r j (t .row);
-    below-long = t .under-long;
-    room-x = omega (arith, step-count r j (t .row) AxisX, u .writing .marks .x-is, quads-room n s cut X j k (omega (arith, t .row)) (omega (arith, r .inside)), all-quads n s cut, u .room .quads, quads-kept (u .writing));
-    room-y = omega (arith, step-count r j (t .row) AxisY, u .writing .marks .y-is, quads-room n s cut Y j k (omega (arith, t .row)) (omega (arith, r .inside)), all-quads n s cut, u .room .quads, quads-kept (u .writing));
-    room-z = omega (arith, step-count r j (t .row) AxisZ, u .writing .marks .z-is, quads-room n s cut Z j k (omega (arith, t .row)) (omega (arith, r .inside)), all-quads n s cut, u .room .quads, quads-kept (u .writing));
-  }
-
-  pub step-ready : {lo hi : List ℕ} → Windows n s j k lo hi → (row : Row) → row ≡ rowOf n cut j k
-      → RowReady lo hi (row .cut) a b (row .nx) (row .j) × RowRoom loopsOf lo hi (row .cut) (row .nx) (row .c) (m .v) w o (half (row .j) tab) × QuadsReady row a b under m (length q) × (length tab ≡ 1024)
-  step-ready {lo} {hi} p row e =
-      subst (λ (x : Row). RowReady lo hi (x .cut) a b (x .nx) (x .j) × RowRoom loopsOf lo hi (x .cut) (x .nx) (x .c) (m .v) w o (half (x .j) tab) × QuadsReady x a b under m (length q) × (length tab ≡ 1024)) (sym e)
-      (row-ready r (t .row) p, vertex-room p, quad-room, t .tab-long)
-
-  -- what it leaves
-  module _ {lo hi : List ℕ} (p : Windows n s j k lo hi) {w′ : List ℕ} {o′ : List Float} {q′ tab′ : List ℕ} {m′ : Marks} (row : Row) (er : row ≡ rowOf n cut j k)
-      (stepped : RowStepped loopsOf lo hi row a b under m w w′ o o′ q q′ tab tab′ m′) where
-    h : RowStepped loopsOf lo hi (rowOf n cut j k) a b under m w w′ o o′ q q′ tab tab′ m′
+  -- what it leaves, if its first vertex has the number that the block gives it
+  module _ {first : ℕ} {m m′ : Marks} {w w′ : List ℕ} {o o′ : List Float} {q q′ tab′ : List ℕ} (number : first + m .v ≡ length (verticesBefore loopsOf n s cut cube)) {lo hi : List ℕ} (p : Windows n s j k lo hi)
+      (row : Row) (er : row ≡ rowOf n cut first j k) (stepped : RowStepped loopsOf lo hi row a b under m w w′ o o′ q q′ tab tab′ m′) where
+    h : RowStepped loopsOf lo hi (rowOf n cut first j k) a b under m w w′ o o′ q q′ tab tab′ m′
     h = subst (λ (x : Row). RowStepped loopsOf lo hi x a b under m w w′ o o′ q q′ tab tab′ m′) er stepped
 
     row-noted : RowTable loopsOf n s cut j k (half j tab′)
     row-noted =
-        subst (λ (v : ℕ). Numbered (λ (x : ℕ). cubeLoops loopsOf n s cut (first + x)) (λ (x : ℕ). namesBy loopsOf cut (cornersOf n s (first + x))) (n .nx - 1) v (half j tab′)) (u .writing .marks .v-is)
+        subst (λ (v : ℕ). Numbered (λ (x : ℕ). cubeLoops loopsOf n s cut (cube + x)) (λ (x : ℕ). namesBy loopsOf cut (cornersOf n s (cube + x))) (n .nx - 1) v (half j tab′)) number
         (numbers-are loopsOf p cut (t .row) (numbered (h .written .noted)))
 
     prev : 0 < j → RowTable loopsOf n s cut (j - 1) k (half (j + 1) tab′)
@@ -206,10 +203,31 @@ module _ {n : Size} {s : List ℕ} {cut : Cut} {a b : List ℕ} {j k : ℕ} {m :
 
     pub row-more : RowMore loopsOf n s cut j k m m′ w w′ o o′ q q′ tab′
     row-more = record {
-      moved = row-moved r j (t .row) p (step-counts loopsOf lo hi (rowOf n cut j k) a b under m w w′ o o′ q q′ tab tab′ m′ h);
+      moved = row-moved r j (t .row) first p (step-counts loopsOf lo hi (rowOf n cut first j k) a b under m w w′ o o′ q q′ tab tab′ m′ h);
       words = h .written .stored .words-are ∙ ap (sets w (2 * m .v)) (words-are loopsOf p cut (t .row));
       offsets = h .written .stored .offsets-are ∙ ap (sets o (3 * m .v)) (offsets-are loopsOf p cut (t .row));
       quads-are = rw (← step-is r j (t .row) AxisX x-ring, ← step-is r j (t .row) AxisY y-ring, ← step-is r j (t .row) AxisZ z-ring) (h .more .quads-are);
       tab-long = h .long;
       noted = row-noted;
+    }
+
+-- ---- a row of buffers that have room for the whole mesh: the vertex 0 stands first in them
+
+module _ {n : Size} {s : List ℕ} {cut : Cut} {j k : ℕ} {m : Marks} {w : List ℕ} {o : List Float} {q : List ℕ} (u : Underway loopsOf n s cut j k m w o q) where
+  pub underway-number : 0 + m .v ≡ length (verticesBefore loopsOf n s cut (rowCube (n .nx) (n .ny) j k))
+  underway-number = omega (arith, u .writing .marks .v-is)
+
+  module _ (l : Limits n) (hj : j + 1 < n .ny) (hk : k + 1 < n .nz) where
+    -- the vertices of the row are some of all
+    few : m .v + length (runMasks loopsOf n s cut (rowCube (n .nx) (n .ny) j k) (n .nx - 1)) ≤ vertexCount n s cut
+    few = omega (arith, u .writing .marks .v-is, vertices-room n s cut j k hj hk)
+
+    pub underway-roomy : RowRoomy loopsOf n s cut j k 0 m w o q
+    underway-roomy = record {
+      words = omega (arith, few, u .room .words, words-kept (u .writing));
+      offsets = omega (arith, few, u .room .offsets, offsets-kept (u .writing));
+      few = omega (arith, few, most-vertices loopsOf n s cut (cube-laws joined) l);
+      quads-x = omega (arith, u .writing .marks .x-is, quads-room n s cut X j k (omega arith) (omega arith), all-quads n s cut, u .room .quads, quads-kept (u .writing));
+      quads-y = omega (arith, u .writing .marks .y-is, quads-room n s cut Y j k (omega arith) (omega arith), all-quads n s cut, u .room .quads, quads-kept (u .writing));
+      quads-z = omega (arith, u .writing .marks .z-is, quads-room n s cut Z j k (omega arith) (omega arith), all-quads n s cut, u .room .quads, quads-kept (u .writing));
     }

@@ -22,13 +22,14 @@ use Rattle.block.proofs.Order.{order-refuses, order-passes, order-first, order-
 use Rattle.block.proofs.Blocks.{sampled-of}
 use Rattle.block.proofs.Sizes.{axis-refused, axis-passed, size-made}
 use Rattle.cube_rule.specs.Decider.{loopsOf}
+use Rattle.rows.specs.declared.Row.{Row}
 use Rattle.layers.specs.declared.Marks.{Marks}
 use Rattle.layers.proofs.Fixed.{same-marks}
 use Rattle.mesh.specs.declared.Totals.{Totals}
 use Rattle.mesh.specs.declared.Counted.{Counted}
 use Rattle.mesh.specs.declared.Counted.the-variants as counted
 use Rattle.mesh.specs.Answer.{countsOf, saidCounts, bufferRows, CountsAnswered, MeshedBy, Meshed}
-use Rattle.mesh.specs.Steps.{Meshable, totalsOf, Counting}
+use Rattle.mesh.specs.Steps.{Meshable, totalsOf, rowOf, Counting}
 
 -- ---- a refused axis refuses the call, and leaves every buffer
 
@@ -76,7 +77,13 @@ mesh-fixed nx ny nz s cut w o q a b p r =
     ap₂ (λ (x : Counted) (y : List ℕ). (x, y, a .2, a .3)) (said-counts-injective (a .0) (b .0) (p .answer ∙ sym (r .answer))) (p .words ∙ sym (r .words))
     ∙ ap₂ (λ (x : List Float) (y : List ℕ). (b .0, b .1, x, y)) (p .offsets ∙ sym (r .offsets)) (p .quads ∙ sym (r .quads))
 
--- of `total` and `with_layers`
+-- of `check_buffers`, `row_of`, `total` and `with_layers`
+pub check-buffers-fixed : (t : Totals) (words offsets lent : ℕ) → Fixes (λ (r : Checked). r ≡ inOrder (bufferRows t words offsets lent))
+check-buffers-fixed t words offsets lent = equation-fixes (inOrder (bufferRows t words offsets lent))
+
+pub row-of-fixed : (n : Size) (cut : Cut) (first j k : ℕ) → Fixes (λ (r : Row). r ≡ rowOf n cut first j k)
+row-of-fixed n cut first j k = equation-fixes (rowOf n cut first j k)
+
 pub total-fixed : (m : Marks) → Fixes (λ (r : Totals). r ≡ totalsOf m)
 total-fixed m = equation-fixes (totalsOf m)
 

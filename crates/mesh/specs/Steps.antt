@@ -32,9 +32,9 @@ totalsOf m = record { vertices = m .v; quads = (m .x + m .y + m .z) / 4 }
 abbrev pub Few : Marks → Type 0
 Few m = (m .v ≤ 66325500) × (m .x + m .y + m .z ≤ 197418960)
 
--- the row j of the layer k
-abbrev pub rowOf : Size → Cut → ℕ → ℕ → Row
-rowOf n cut j k = record { cut = cut; nx = n .nx; j = j; c = rowCube (n .nx) (n .ny) j k; lower = ltb 0 k }
+-- the row j of the layer k, where the vertex with the number `first` stands first in the lent buffers
+abbrev pub rowOf : Size → Cut → ℕ → ℕ → ℕ → Row
+rowOf n cut first j k = record { cut = cut; nx = n .nx; j = j; c = rowCube (n .nx) (n .ny) j k; lower = ltb 0 k; first = first }
 
 module _ (loopsOf : Cut → List ℕ → List ℕ) (n : Size) (s : List ℕ) (cut : Cut) where
   -- the quad words along the axis from the samples before index m

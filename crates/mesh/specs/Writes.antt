@@ -90,6 +90,16 @@ pub record TablesReady (loopsOf : Cut → List ℕ → List ℕ) (n : Size) (s :
   pub below-before : 0 < j → 0 < k → RowTable loopsOf n s cut (j - 1) (k - 1) (half (j + 1) under)
   pub before : 0 < j → RowTable loopsOf n s cut (j - 1) k (half (j + 1) tab)
 
+-- the buffers have room for the row j of the layer k behind the marks, and its vertices' numbers fit; `first` is the number of the vertex that stands
+-- first in the buffers
+pub record RowRoomy (loopsOf : Cut → List ℕ → List ℕ) (n : Size) (s : List ℕ) (cut : Cut) (j k first : ℕ) (m : Marks) (w : List ℕ) (o : List Float) (q : List ℕ) : Type 0 where
+  pub words : 2 * (m .v + length (runMasks loopsOf n s cut (rowCube (n .nx) (n .ny) j k) (n .nx - 1))) ≤ length w
+  pub offsets : 3 * (m .v + length (runMasks loopsOf n s cut (rowCube (n .nx) (n .ny) j k) (n .nx - 1))) ≤ length o
+  pub few : first + (m .v + length (runMasks loopsOf n s cut (rowCube (n .nx) (n .ny) j k) (n .nx - 1))) < 4294967296
+  pub quads-x : m .x + length (rowQuads loopsOf n s cut X k j) ≤ length q
+  pub quads-y : m .y + length (rowQuads loopsOf n s cut Y k j) ≤ length q
+  pub quads-z : m .z + length (rowQuads loopsOf n s cut Z k j) ≤ length q
+
 -- the row j of the layer k is written, and noted
 pub record RowMore (loopsOf : Cut → List ℕ → List ℕ) (n : Size) (s : List ℕ) (cut : Cut) (j k : ℕ) (m m′ : Marks) (w w′ : List ℕ) (o o′ : List Float) (q q′ tab : List ℕ) : Type 0 where
   pub moved : RowMoved loopsOf n s cut j k m m′

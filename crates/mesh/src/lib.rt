@@ -34,7 +34,13 @@ pub enum Counted {
 }
 
 // Rows 5 and 6, in this order: the need, and the lengths of the three buffers.
-fn check_buffers(vertices: u32, quads: u32, words: usize, offsets: usize, lent: usize) -> Checked
+pub fn check_buffers(
+    vertices: u32,
+    quads: u32,
+    words: usize,
+    offsets: usize,
+    lent: usize,
+) -> Checked
     requires { ⌜ (vertices ≤ 66325500) × (quads ≤ 49354740) ⌝ }
     ensures { λ r. ⌜ r ≡ inOrder (bufferRows (record { vertices = vertices; quads = quads }) words offsets lent) ⌝ }
 {
@@ -71,10 +77,10 @@ pub fn total(m: Marks) -> Totals
     }
 }
 
-// The row j of the layer k.
-fn row_of(size: Size, cut: Cut, j: usize, k: usize) -> Row
+// The row j of the layer k, where the vertex with the number `first` stands first in the lent buffers.
+pub fn row_of(size: Size, cut: Cut, first: usize, j: usize, k: usize) -> Row
     requires { ⌜ Limits size × (j + 1 < size .ny) × (k + 1 < size .nz) ⌝ }
-    ensures { λ r. ⌜ r ≡ rowOf size cut j k ⌝ }
+    ensures { λ r. ⌜ r ≡ rowOf size cut first j k ⌝ }
 {
     let nx = size.nx();
     let ny = size.ny();
@@ -85,6 +91,7 @@ fn row_of(size: Size, cut: Cut, j: usize, k: usize) -> Row
         j,
         c,
         lower: 0 < k,
+        first,
     }
 }
 
@@ -110,7 +117,7 @@ fn with_layer(
         let ny = size.ny();
         let p = nx * (j + ny * k);
         let q = p + nx * ny;
-        let row = row_of(size, cut, j, k);
+        let row = row_of(size, cut, 0, j, k);
         w = layers::row_counts(
             row,
             a,
@@ -243,7 +250,7 @@ fn step_row(
     let ny = size.ny();
     let p = nx * (j + ny * k);
     let q = p + nx * ny;
-    let row = row_of(size, cut, j, k);
+    let row = row_of(size, cut, 0, j, k);
     layers::row_step(
         row,
         a,

@@ -6,13 +6,15 @@ ghost use lib.ListN.{length};
 ghost use Rattle.signs.specs.Windows.{windowCorners};
 
 // A row of samples and the row of cubes above it: the threshold, how many samples a row has, the row's place in its plane, the number of its first
-// cube, and whether there is a layer of cubes below (which only the quads ask).
+// cube, whether there is a layer of cubes below (which only the quads ask), and the number of the vertex that stands first in the lent buffers
+// (which only the vertices ask).
 pub struct Row {
     pub cut: Cut,
     pub nx: usize,
     pub j: usize,
     pub c: usize,
     pub lower: bool,
+    pub first: usize,
 }
 
 // The samples at the corners of the cube x of a row, from the row's windows.

@@ -43,18 +43,18 @@ module _ {D : Decider} {loopsOf : Cut → List ℕ → List ℕ} (laws : CubeLaw
   pub offsets-word : wordOffsets loopsOf lo hi cut nx act (64 * w) ≡ below (λ (x : ℕ). upTo (nx - 1) (offsetsAt loopsOf lo hi cut nx) (64 * w + x)) 64
   offsets-word = row-word laws ready w hw 0 (λ cs c. offsetsBy loopsOf cut cs) (λ cs c q. rw q)
 
--- the vertices of the cubes of the words before w were stored and noted, from the vertex v on
-pub record RowPart (loopsOf : Cut → List ℕ → List ℕ) (lo hi : List ℕ) (cut : Cut) (nx c w v : ℕ) (w₀ ws : List ℕ) (o₀ os : List Float) (old new : List ℕ) (r : ℕ) : Type 0 where
+-- the vertices of the cubes of the words before w were stored and noted, from the place v on
+pub record RowPart (loopsOf : Cut → List ℕ → List ℕ) (lo hi : List ℕ) (cut : Cut) (nx c w first v : ℕ) (w₀ ws : List ℕ) (o₀ os : List Float) (old new : List ℕ) (r : ℕ) : Type 0 where
   pub stored : Stored v (masksTo loopsOf lo hi cut nx (64 * w)) (wordsTo loopsOf lo hi cut nx c (64 * w)) (offsetsTo loopsOf lo hi cut nx (64 * w)) w₀ ws o₀ os r
-  pub noted : Noted (upTo (nx - 1) (loopsAt loopsOf lo hi cut nx)) (upTo (nx - 1) (namesAt loopsOf lo hi cut nx)) 0 (64 * w) v old new
+  pub noted : Noted (upTo (nx - 1) (loopsAt loopsOf lo hi cut nx)) (upTo (nx - 1) (namesAt loopsOf lo hi cut nx)) 0 (64 * w) (first + v) old new
 
-pub row-start : (loopsOf : Cut → List ℕ → List ℕ) (lo hi : List ℕ) (cut : Cut) (nx c v : ℕ) (ws : List ℕ) (os : List Float) (numbers : List ℕ) → RowPart loopsOf lo hi cut nx c 0 v ws ws os os numbers numbers v
+pub row-start : (loopsOf : Cut → List ℕ → List ℕ) (lo hi : List ℕ) (cut : Cut) (nx c first v : ℕ) (ws : List ℕ) (os : List Float) (numbers : List ℕ) → RowPart loopsOf lo hi cut nx c 0 first v ws ws os os numbers numbers v
 unfolding below
-row-start loopsOf lo hi cut nx c v ws os numbers = record { stored = stored-none v ws os; noted = noted-none _ _ 0 v numbers }
+row-start loopsOf lo hi cut nx c first v ws os numbers = record { stored = stored-none v ws os; noted = noted-none _ _ 0 (first + v) numbers }
 
-pub row-end : {loopsOf : Cut → List ℕ → List ℕ} {lo hi : List ℕ} {cut : Cut} {nx c w v : ℕ} {w₀ ws : List ℕ} {o₀ os : List Float} {old new : List ℕ} {r : ℕ}
-    → RowPart loopsOf lo hi cut nx c w v w₀ ws o₀ os old new r → nx - 1 ≤ 64 * w → RowWritten loopsOf lo hi cut nx c v w₀ ws o₀ os old new r
-row-end {loopsOf} {lo} {hi} {cut} {nx} {c} {w} {v} {w₀} {ws} {o₀} {os} {old} {new} p h = record {
+pub row-end : {loopsOf : Cut → List ℕ → List ℕ} {lo hi : List ℕ} {cut : Cut} {nx c w first v : ℕ} {w₀ ws : List ℕ} {o₀ os : List Float} {old new : List ℕ} {r : ℕ}
+    → RowPart loopsOf lo hi cut nx c w first v w₀ ws o₀ os old new r → nx - 1 ≤ 64 * w → RowWritten loopsOf lo hi cut nx c first v w₀ ws o₀ os old new r
+row-end {loopsOf} {lo} {hi} {cut} {nx} {c} {w} {first} {v} {w₀} {ws} {o₀} {os} {old} {new} p h = record {
   stored =
       rw (
         ← upTo-all (nx - 1) (loopsAt loopsOf lo hi cut nx) (64 * w) h,
@@ -69,9 +69,9 @@ row-end {loopsOf} {lo} {hi} {cut} {nx} {c} {w} {v} {w₀} {ws} {o₀} {os} {old}
 module _ {D : Decider} {loopsOf : Cut → List ℕ → List ℕ} (laws : CubeLaws D loopsOf) {lo hi : List ℕ} {cut : Cut} {a b : List ℕ} {nx j : ℕ} (ready : RowReady lo hi cut a b nx j) (w : ℕ) (hw : w < 4)
     {eight : List ℕ} {active limit : ℕ} (t : WordTold a b nx j w eight active limit) where
   -- one word more: its vertices
-  module _ {c v m : ℕ} {w₀ ws : List ℕ} {o₀ os : List Float} {old new : List ℕ} (p : RowPart loopsOf lo hi cut nx c w v w₀ ws o₀ os old new m) where
-    pub row-next : {r : ℕ} {ws′ : List ℕ} {os′ : List Float} {new′ : List ℕ} → WordWritten loopsOf lo hi cut nx (64 * w) (bitAnd active limit) (c + 64 * w) m ws ws′ os os′ new new′ r
-        → RowPart loopsOf lo hi cut nx c (w + 1) v w₀ ws′ o₀ os′ old new′ r
+  module _ {c first v m : ℕ} {w₀ ws : List ℕ} {o₀ os : List Float} {old new : List ℕ} (p : RowPart loopsOf lo hi cut nx c w first v w₀ ws o₀ os old new m) where
+    pub row-next : {r : ℕ} {ws′ : List ℕ} {os′ : List Float} {new′ : List ℕ} → WordWritten loopsOf lo hi cut nx (64 * w) (bitAnd active limit) (c + 64 * w) first m ws ws′ os os′ new new′ r
+        → RowPart loopsOf lo hi cut nx c (w + 1) first v w₀ ws′ o₀ os′ old new′ r
     row-next {r} {ws′} {os′} {new′} q = record {
       stored =
           rw (
@@ -81,16 +81,19 @@ module _ {D : Decider} {loopsOf : Cut → List ℕ → List ℕ} (laws : CubeLaw
           )
           (stored-join (p .stored) (rw (act-is laws ready w hw t, loops-word laws ready w hw, words-word laws ready w hw c, offsets-word laws ready w hw) at (q .stored)));
       noted =
-          subst (λ (n : ℕ). Noted (upTo (nx - 1) (loopsAt loopsOf lo hi cut nx)) (upTo (nx - 1) (namesAt loopsOf lo hi cut nx)) 0 n v old new′) more
-          (noted-join (p .noted) (p .stored .number)
+          subst (λ (n : ℕ). Noted (upTo (nx - 1) (loopsAt loopsOf lo hi cut nx)) (upTo (nx - 1) (namesAt loopsOf lo hi cut nx)) 0 n (first + v) old new′) more
+          (noted-join (p .noted) number
           (noted-as (rw (act-is laws ready w hw t) at (q .noted)) (λ (y : ℕ). upTo (nx - 1) (loopsAt loopsOf lo hi cut nx) (64 * w + y)) (λ (y : ℕ). upTo (nx - 1) (namesAt loopsOf lo hi cut nx) (64 * w + y)) (loops-same laws ready w hw) (names-same laws ready w hw)));
     }
       where
         more : 64 * w + 64 ≡ 64 * (w + 1)
         more = omega arith
 
+        number : first + m ≡ first + v + length (masksTo loopsOf lo hi cut nx (64 * w))
+        number = omega (arith, p .stored .number)
+
     -- for which there is room, if there is for the row's
-    pub row-room : RowRoom loopsOf lo hi cut nx c v w₀ o₀ old → WordRoom loopsOf lo hi cut nx (64 * w) (bitAnd active limit) (c + 64 * w) m ws os new
+    pub row-room : RowRoom loopsOf lo hi cut nx c first v w₀ o₀ old → WordRoom loopsOf lo hi cut nx (64 * w) (bitAnd active limit) (c + 64 * w) first m ws os new
     row-room room =
         let more = ap length (word-more laws ready w hw t) ∙ length-append (masksTo loopsOf lo hi cut nx (64 * w)) (wordLoops loopsOf lo hi cut nx (bitAnd active limit) (64 * w)) in
         let all = masks-le loopsOf lo hi cut nx (64 * (w + 1)) in

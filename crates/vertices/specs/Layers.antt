@@ -1,5 +1,7 @@
 -- The vertices of a row of cubes, 64 cubes at a time: what the buffers hold of the cubes of a word whose bits are set and of the row, and what the
--- passes over rows and layers require and promise. `lo` and `hi` are the row's windows, `n` is the size of a block, `s` its samples.
+-- passes over rows and layers require and promise. `lo` and `hi` are the row's windows, `n` is the size of a block, `s` its samples. `first` is the
+-- number of the vertex that stands first in the buffers, and the vertices are written from the vertex place v on, so the first of them has the number
+-- first + v.
 -- Assumes nothing.
 use Prim.Native.Nat.{ℕ, _+_, _*_, _-_, _≤_, _<_}
 use mathlib.Core.Path.{_≡_}
@@ -30,18 +32,18 @@ module _ (loopsOf : Cut → List ℕ → List ℕ) (lo hi : List ℕ) (cut : Cut
   abbrev pub wordOffsets : List Float
   wordOffsets = below (picked act (λ (x : ℕ). offsetsAt loopsOf lo hi cut nx (p + x))) 64
 
--- row 3 passes the threshold, and there is room for the vertices from the vertex v on
-pub record WordRoom (loopsOf : Cut → List ℕ → List ℕ) (lo hi : List ℕ) (cut : Cut) (nx p act c v : ℕ) (words : List ℕ) (offsets : List Float) (numbers : List ℕ) : Type 0 where
+-- row 3 passes the threshold, there is room for the vertices from the place v on, and numbers fit
+pub record WordRoom (loopsOf : Cut → List ℕ → List ℕ) (lo hi : List ℕ) (cut : Cut) (nx p act c first v : ℕ) (words : List ℕ) (offsets : List Float) (numbers : List ℕ) : Type 0 where
   pub small : c ≤ 16777216
   pub threshold : thresholdRow cut ≡ Passes
   pub words-room : 2 * (v + length (wordLoops loopsOf lo hi cut nx act p)) ≤ length words
   pub offsets-room : 3 * (v + length (wordLoops loopsOf lo hi cut nx act p)) ≤ length offsets
   pub numbers-room : (x : ℕ) → x < 64 → holds act x ≡ true → 2 * (p + x) + 2 ≤ length numbers
-  pub few : v + length (wordLoops loopsOf lo hi cut nx act p) < 4294967296
+  pub few : first + (v + length (wordLoops loopsOf lo hi cut nx act p)) < 4294967296
 
-pub record WordWritten (loopsOf : Cut → List ℕ → List ℕ) (lo hi : List ℕ) (cut : Cut) (nx p act c v : ℕ) (words₀ words : List ℕ) (offsets₀ offsets : List Float) (old new : List ℕ) (r : ℕ) : Type 0 where
+pub record WordWritten (loopsOf : Cut → List ℕ → List ℕ) (lo hi : List ℕ) (cut : Cut) (nx p act c first v : ℕ) (words₀ words : List ℕ) (offsets₀ offsets : List Float) (old new : List ℕ) (r : ℕ) : Type 0 where
   pub stored : Stored v (wordLoops loopsOf lo hi cut nx act p) (wordWords loopsOf lo hi cut nx act p c) (wordOffsets loopsOf lo hi cut nx act p) words₀ words offsets₀ offsets r
-  pub noted : Noted (picked act (λ (x : ℕ). loopsAt loopsOf lo hi cut nx (p + x))) (picked act (λ (x : ℕ). namesAt loopsOf lo hi cut nx (p + x))) p 64 v old new
+  pub noted : Noted (picked act (λ (x : ℕ). loopsAt loopsOf lo hi cut nx (p + x))) (picked act (λ (x : ℕ). namesAt loopsOf lo hi cut nx (p + x))) p 64 (first + v) old new
 
 -- ---- a row
 
@@ -53,19 +55,19 @@ module _ (loopsOf : Cut → List ℕ → List ℕ) (lo hi : List ℕ) (cut : Cut
   abbrev pub rowOffsets : List Float
   rowOffsets = below (offsetsAt loopsOf lo hi cut nx) (nx - 1)
 
--- what a pass that writes the row requires besides `RowReady`: row 3 passes the threshold, there is room from the vertex v on, and numbers fit
-pub record RowRoom (loopsOf : Cut → List ℕ → List ℕ) (lo hi : List ℕ) (cut : Cut) (nx c v : ℕ) (words : List ℕ) (offsets : List Float) (numbers : List ℕ) : Type 0 where
+-- what a pass that writes the row requires besides `RowReady`: row 3 passes the threshold, there is room from the place v on, and numbers fit
+pub record RowRoom (loopsOf : Cut → List ℕ → List ℕ) (lo hi : List ℕ) (cut : Cut) (nx c first v : ℕ) (words : List ℕ) (offsets : List Float) (numbers : List ℕ) : Type 0 where
   pub small : c ≤ 16711680
   pub threshold : thresholdRow cut ≡ Passes
   pub words-room : 2 * (v + length (rowMasks loopsOf lo hi cut nx)) ≤ length words
   pub offsets-room : 3 * (v + length (rowMasks loopsOf lo hi cut nx)) ≤ length offsets
   pub numbers-room : length numbers ≡ 512
-  pub few : v + length (rowMasks loopsOf lo hi cut nx) < 4294967296
+  pub few : first + (v + length (rowMasks loopsOf lo hi cut nx)) < 4294967296
 
--- the row's vertices were written from the vertex v on, and their numbers noted
-pub record RowWritten (loopsOf : Cut → List ℕ → List ℕ) (lo hi : List ℕ) (cut : Cut) (nx c v : ℕ) (words₀ words : List ℕ) (offsets₀ offsets : List Float) (old new : List ℕ) (r : ℕ) : Type 0 where
+-- the row's vertices were written from the place v on, and their numbers noted
+pub record RowWritten (loopsOf : Cut → List ℕ → List ℕ) (lo hi : List ℕ) (cut : Cut) (nx c first v : ℕ) (words₀ words : List ℕ) (offsets₀ offsets : List Float) (old new : List ℕ) (r : ℕ) : Type 0 where
   pub stored : Stored v (rowMasks loopsOf lo hi cut nx) (rowWords loopsOf lo hi cut nx c) (rowOffsets loopsOf lo hi cut nx) words₀ words offsets₀ offsets r
-  pub noted : Noted (loopsAt loopsOf lo hi cut nx) (namesAt loopsOf lo hi cut nx) 0 (nx - 1) v old new
+  pub noted : Noted (loopsAt loopsOf lo hi cut nx) (namesAt loopsOf lo hi cut nx) 0 (nx - 1) (first + v) old new
 
 -- ---- a layer of a block
 

@@ -7,7 +7,7 @@ ghost use Rattle.cube_rule.specs.Decider.{loopsOf};
 ghost use Rattle.rows.specs.Rows.{WordReady, RowReady};
 ghost use Rattle.vertices.specs.Layers.{WordRoom, WordWritten, RowRoom, RowWritten};
 
-// Writes and notes the vertices of the same row from the vertex v on, and answers the number behind them.
+// Writes and notes the vertices of the same row from the place v on, and answers the place behind them.
 pub fn write_row(
     row: Row,
     a: &[u64],
@@ -19,8 +19,8 @@ pub fn write_row(
     numbers: &mut [u32],
     v: usize,
 ) -> usize
-    requires { ⌜ RowReady (now lo) (now hi) (row .cut) (now a) (now b) (row .nx) (row .j) × RowRoom loopsOf (now lo) (now hi) (row .cut) (row .nx) (row .c) v (now words) (now offsets) (now numbers) ⌝ }
-    ensures { λ r. ⌜ RowWritten loopsOf (now (lo .entry)) (now (hi .entry)) (row .cut) (row .nx) (row .c) v (now (words .entry)) (now (words .exit)) (now (offsets .entry)) (now (offsets .exit)) (now (numbers .entry)) (now (numbers .exit)) r ⌝ }
+    requires { ⌜ RowReady (now lo) (now hi) (row .cut) (now a) (now b) (row .nx) (row .j) × RowRoom loopsOf (now lo) (now hi) (row .cut) (row .nx) (row .c) (row .first) v (now words) (now offsets) (now numbers) ⌝ }
+    ensures { λ r. ⌜ RowWritten loopsOf (now (lo .entry)) (now (hi .entry)) (row .cut) (row .nx) (row .c) (row .first) v (now (words .entry)) (now (words .exit)) (now (offsets .entry)) (now (offsets .exit)) (now (numbers .entry)) (now (numbers .exit)) r ⌝ }
 {
     let cubes = row.nx - 1;
     let mut w: usize = 0;
@@ -32,6 +32,7 @@ pub fn write_row(
             x: 64 * w,
             c: (row.c + 64 * w) as u32,
             v: m,
+            first: row.first,
         };
         m = write_word(row, lo, hi, spot, e, act, words, offsets, numbers);
         w += 1;
@@ -39,7 +40,7 @@ pub fn write_row(
     m
 }
 
-// Writes and notes the vertices of the same cubes, and answers the number behind them; the spot is that of the word's first cube.
+// Writes and notes the vertices of the same cubes, and answers the place behind them; the spot is that of the word's first cube.
 fn write_word(
     row: Row,
     lo: &[u16],
@@ -51,8 +52,8 @@ fn write_word(
     offsets: &mut [f64],
     numbers: &mut [u32],
 ) -> usize
-    requires { ⌜ WordReady (now lo) (now hi) (row .cut) (row .nx) (spot .x) e act × WordRoom loopsOf (now lo) (now hi) (row .cut) (row .nx) (spot .x) act (spot .c) (spot .v) (now words) (now offsets) (now numbers) ⌝ }
-    ensures { λ r. ⌜ WordWritten loopsOf (now (lo .entry)) (now (hi .entry)) (row .cut) (row .nx) (spot .x) act (spot .c) (spot .v) (now (words .entry)) (now (words .exit)) (now (offsets .entry)) (now (offsets .exit)) (now (numbers .entry)) (now (numbers .exit)) r ⌝ }
+    requires { ⌜ WordReady (now lo) (now hi) (row .cut) (row .nx) (spot .x) e act × WordRoom loopsOf (now lo) (now hi) (row .cut) (row .nx) (spot .x) act (spot .c) (spot .first) (spot .v) (now words) (now offsets) (now numbers) ⌝ }
+    ensures { λ r. ⌜ WordWritten loopsOf (now (lo .entry)) (now (hi .entry)) (row .cut) (row .nx) (spot .x) act (spot .c) (spot .first) (spot .v) (now (words .entry)) (now (words .exit)) (now (offsets .entry)) (now (offsets .exit)) (now (numbers .entry)) (now (numbers .exit)) r ⌝ }
 {
     if act == 0 {
         return spot.v;
@@ -70,6 +71,7 @@ fn write_word(
             x: spot.x + x,
             c: spot.c + x as u32,
             v: m,
+            first: spot.first,
         };
         m = cube_vertices::write_cube(
             row.cut,

@@ -1,7 +1,7 @@
 -- `write_cube` meets its contract: a cube that is said to have one loop has one vertex; of any other, the cube question's answer is written, which
 -- no row refuses, so that the return of the other case is never reached.
 -- Assumes nothing.
-use Prim.Native.Nat.{ℕ, _*_, _≤_}
+use Prim.Native.Nat.{ℕ, _+_, _*_, _≤_}
 use mathlib.Core.Path.{_≡_, ap, sym, subst, _∙_}
 use mathlib.Core.List.{List, [], _∷_, map}
 use native.Mathlib.Omega.{arith}
@@ -47,7 +47,7 @@ put-vertex-requires c κs =
 
 -- its vertex is written, and then it is noted
 abbrev put : tie.After-slice-known6 → tie.After-put-vertex
-put c = c .before .before .before .before .before .before .before .before
+put c = c .before .before .before .before .before .before .before .before .before
 
 returns : tie.Need-returns
 returns c =
@@ -60,7 +60,7 @@ returns c =
       stored =
           stored-single loopsOf _ _ _ _ _ _ _ _ _ (one d) _ (k .mark .ensures .0) _ (p .place .ensures ∙ ap (λ (l : List ℕ). placeOf (a .cut) l (a .crossed)) (d .wide .ensures .0))
           (m .put-vertex .ensures .0) (m .put-vertex .ensures .1);
-      noted = c .before .before .note .ensures ∙ ap (λ (w : ℕ). sets (now (a .numbers)) (2 * a .spot .x) (a .spot .v ∷ w ∷ [])) (which-single loopsOf _ _ _ (one d));
+      noted = c .before .before .note .ensures ∙ ap (λ (w : ℕ). sets (now (a .numbers)) (2 * a .spot .x) ((a .spot .first + a .spot .v) ∷ w ∷ [])) (which-single loopsOf _ _ _ (one d));
     }
 
 -- ---- any other cube
@@ -105,7 +105,7 @@ put-four-requires c κs =
 
 -- its vertices are written, and then they are noted
 abbrev written : tie.After-slice-known9 → tie.After-put-four
-written c = c .before .before .before .before .before .before .before .before .before
+written c = c .before .before .before .before .before .before .before .before .before .before
 
 abbrev places : tie.After-slice-known9 → tie.After-places
 places c = written c .before .before .before
@@ -121,7 +121,7 @@ returns-3 c =
       stored = stored-many loopsOf _ _ _ _ _ _ _ _ _ (number-is d) _ (words-are d) _ (offsets-are d) (written c .put-four .ensures .0) (written c .put-four .ensures .1);
       noted =
           c .before .before .note2 .ensures
-          ∙ ap (λ (w : ℕ). sets (now (a .numbers)) (2 * a .spot .x) (a .spot .v ∷ w ∷ [])) (which-many loopsOf _ _ _ _ (few d) (c .before .before .before .which-of .ensures) (words-are d));
+          ∙ ap (λ (w : ℕ). sets (now (a .numbers)) (2 * a .spot .x) ((a .spot .first + a .spot .v) ∷ w ∷ [])) (which-many loopsOf _ _ _ _ (few d) (c .before .before .before .which-of .ensures) (words-are d));
     }
 
 pub write-cube-spec : {M : Type 1} → statement M
@@ -133,6 +133,7 @@ write-cube-spec =
     (λ c κs. search needs)
     add-word
     put-vertex-requires
+    (λ c. search needs)
     (λ c. search needs)
     (λ c κs. search needs)
     (λ c. search needs)
@@ -146,6 +147,7 @@ write-cube-spec =
     returns-2
     (λ c. search needs)
     put-four-requires
+    (λ c. search needs)
     (λ c. search needs)
     (λ c κs. search needs)
     (λ c κs. search needs)

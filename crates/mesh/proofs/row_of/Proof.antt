@@ -29,7 +29,7 @@ mul-c-2 c = omega (arith, bounds c)
 returns : tie.Need-returns
 returns c =
     let a = c .before .before .args in
-    ap₂ (λ (x y : ℕ). record { cut = a .cut; nx = x; j = a .j; c = (x - 1) * (a .j + (y - 1) * a .k); lower = ltb 0 (a .k) }) (c .before .nx .ensures) (c .ny .ensures)
+    ap₂ (λ (x y : ℕ). record { cut = a .cut; nx = x; j = a .j; c = (x - 1) * (a .j + (y - 1) * a .k); lower = ltb 0 (a .k); first = a .first }) (c .before .nx .ensures) (c .ny .ensures)
 
 pub row-of-spec : {M : Type 1} → statement M
 row-of-spec =

@@ -6,7 +6,7 @@ use borrow.Author.Needs.{needs}
 use denote.Ref.{now}
 use Rattle.vertices.proofs.CubeCorners.{Windows}
 use Rattle.vertices.proofs.Layers.{row-bounds, low-fits, high-fits, lentLow, lentHigh, lent-windows}
-use Rattle.mesh.proofs.RowSteps.{step-ready, row-more}
+use Rattle.mesh.proofs.RowSteps.{step-ready, row-more, underway-number, underway-roomy}
 use Rattle.mesh.proofs.step_row.Statement.{statement}
 use Rattle.mesh.proofs.step_row.Tie as tie
 
@@ -107,14 +107,14 @@ row-step-requires : tie.Need-row-step-requires
 row-step-requires c κs =
     let m = c .before .before .before .before .before .before in
     let r = start (m .before) .pre in
-    step-ready (r .0) (r .1) (r .2) (r .3) (windows (m .before)) _ (m .row-of .ensures)
+    step-ready (r .0) (r .2) (r .1 .threshold) (underway-roomy (r .3) (r .0 .limits) (r .2 .row) (r .0 .inside)) (windows (m .before)) _ (m .row-of .ensures)
 
 returns : tie.Need-returns
 returns c =
     let w = c .before .before .before .before .before .before .before .before in
     let m = row-made w in
     let r = start (m .before) .pre in
-    row-more (r .0) (r .1) (r .2) (r .3) (windows (m .before)) _ (m .row-of .ensures) (w .row-step .ensures)
+    row-more (r .0) (r .2) (underway-number (r .3)) (windows (m .before)) _ (m .row-of .ensures) (w .row-step .ensures)
 
 pub step-row-spec : {M : Type 1} → statement M
 step-row-spec =

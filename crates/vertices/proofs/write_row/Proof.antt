@@ -15,7 +15,7 @@ use Rattle.vertices.proofs.write_row.Tie as tie
 
 abbrev Inv-loop : tie.InvT-loop
 Inv-loop row a b lo hi words₀ offsets₀ numbers₀ v cubes w₀ m₀ words offsets numbers w m =
-    (w ≤ 4) × RowPart loopsOf lo hi (row .cut) (row .nx) (row .c) w v words₀ words offsets₀ offsets numbers₀ numbers m
+    (w ≤ 4) × RowPart loopsOf lo hi (row .cut) (row .nx) (row .c) w (row .first) v words₀ words offsets₀ offsets numbers₀ numbers m
 
 abbrev μ-loop : tie.MeasureT-loop
 μ-loop row a b lo hi words₀ offsets₀ numbers₀ v cubes w₀ m₀ words offsets numbers w m = 4 - w
@@ -38,7 +38,7 @@ sub-cubes : tie.Need-sub-cubes Inv-loop μ-loop
 sub-cubes c = omega (arith, c .before .before .before .before .before .before .before .before .pre .0 .short)
 
 loop-holds : tie.Need-loop-holds Inv-loop μ-loop
-loop-holds c = (omega arith, row-start loopsOf _ _ _ _ _ _ _ _ _)
+loop-holds c = (omega arith, row-start loopsOf _ _ _ _ _ _ _ _ _ _)
 
 mul-loop : tie.Need-mul-loop Inv-loop μ-loop
 mul-loop c = omega arith

@@ -32,7 +32,7 @@ Inv-loop row lo hi spot e act words₀ offsets₀ numbers₀ one w₀ i₀ m₀ 
     Left (bitsOf act) 64 i w
     × Stored (spot .v) (below (picked act (λ (x : ℕ). loopsAt loopsOf lo hi (row .cut) (row .nx) (spot .x + x))) i) (below (picked act (λ (x : ℕ). wordsAt loopsOf lo hi (row .cut) (row .nx) (spot .c + x) (spot .x + x))) i)
     (below (picked act (λ (x : ℕ). offsetsAt loopsOf lo hi (row .cut) (row .nx) (spot .x + x))) i) words₀ words offsets₀ offsets m
-    × Noted (picked act (λ (x : ℕ). loopsAt loopsOf lo hi (row .cut) (row .nx) (spot .x + x))) (picked act (λ (x : ℕ). namesAt loopsOf lo hi (row .cut) (row .nx) (spot .x + x))) (spot .x) i (spot .v) numbers₀ numbers
+    × Noted (picked act (λ (x : ℕ). loopsAt loopsOf lo hi (row .cut) (row .nx) (spot .x + x))) (picked act (λ (x : ℕ). namesAt loopsOf lo hi (row .cut) (row .nx) (spot .x + x))) (spot .x) i (spot .first + spot .v) numbers₀ numbers
 
 abbrev μ-loop : tie.MeasureT-loop
 μ-loop row lo hi spot e act words₀ offsets₀ numbers₀ one w₀ i₀ m₀ words offsets numbers w i m = 64 - i
@@ -150,6 +150,11 @@ write-cube-requires c κs =
       },
     )
 
+-- the number of its first vertex
+number : (d : tie.In-loop Inv-loop μ-loop) → let s = begin d in let h = d .before .loop in
+    s .args .spot .first + h .m ≡ s .args .spot .first + s .args .spot .v + length (below (picked (s .args .act) (loops s)) (h .i))
+number d = omega (arith, d .before .loop .inv .1 .number)
+
 -- ---- it is written
 
 abbrev turn : tie.After-write-cube Inv-loop μ-loop → tie.In-loop Inv-loop μ-loop
@@ -177,7 +182,7 @@ loop-again c =
     let w = written-as (k .before .before .before .before .before .before .before .before .corners .ensures) (k .write-cube .ensures) in (
       left-next (h .inv .0) ne,
       stored-next _ (h .inv .0) (loops s) (wordsOf s) (offsetsOf s) (h .inv .1) ne (w .stored),
-      noted-next _ (h .inv .0) (loops s) (names s) (h .inv .2) ne _ (h .inv .1 .number) (active-names (s .pre .0) (next d) (inside d) (set d)) (one-noted _ _ _ _ _ (w .noted) (numbers-room d)),
+      noted-next _ (h .inv .0) (loops s) (names s) (h .inv .2) ne _ (number d) (active-names (s .pre .0) (next d) (inside d) (set d)) (one-noted _ _ _ _ _ (w .noted) (numbers-room d)),
     )
 
 same-length : tie.Need-same-length Inv-loop μ-loop
