@@ -26,7 +26,7 @@ use Rattle.mesh.proofs.Rows.{vertices-le, cube-in, next-cube}
 use Rattle.mesh.proofs.Writings.{words-kept, offsets-kept, quads-kept, writing-row}
 
 -- two rows further on the same half is written
-turn : (j : ℕ) (t : List ℕ) → half j t ≡ half (j + 1 + 1) t
+pub turn : (j : ℕ) (t : List ℕ) → half j t ≡ half (j + 1 + 1) t
 turn j t = ap (λ (h : ℕ). take 512 (drop (512 * h) t)) same
   where
     same : j % 2 ≡ (j + 1 + 1) % 2

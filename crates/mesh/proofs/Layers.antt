@@ -58,11 +58,11 @@ module _ (n : Size) (s : List ℕ) (cut : Cut) where
       ∙ length-append (masksBefore (layerSize n * k)) (below (λ (x : ℕ). cubeLoops loopsOf n s cut (layerSize n * k + x)) (layerSize n))
       ∙ ap (λ (x : ℕ). x + layerCount loopsOf n s cut k) (sym (vertices-masks (layerSize n * k)))
 
-  words-of-cube : (c : ℕ) → length (cubeWords loopsOf n s cut c) ≡ 2 * length (cubeLoops loopsOf n s cut c)
+  pub words-of-cube : (c : ℕ) → length (cubeWords loopsOf n s cut c) ≡ 2 * length (cubeLoops loopsOf n s cut c)
   unfolding cubeWords
   words-of-cube c = pairs-length c (map (wordOf (cornersOf n s c)) (cubeLoops loopsOf n s cut c)) ∙ ap (λ (x : ℕ). 2 * x) (length-map (cubeLoops loopsOf n s cut c) (wordOf (cornersOf n s c)))
 
-  offsets-of-cube : (c : ℕ) → length (cubeOffsets loopsOf n s cut c) ≡ 3 * length (cubeLoops loopsOf n s cut c)
+  pub offsets-of-cube : (c : ℕ) → length (cubeOffsets loopsOf n s cut c) ≡ 3 * length (cubeLoops loopsOf n s cut c)
   unfolding cubeOffsets
   offsets-of-cube c = triples-length (map (placeOf cut (cornersOf n s c)) (cubeLoops loopsOf n s cut c)) ∙ ap (λ (x : ℕ). 3 * x) (length-map (cubeLoops loopsOf n s cut c) (placeOf cut (cornersOf n s c)))
 

@@ -141,38 +141,40 @@ module _ {n : Size} {s : List ℕ} {cut : Cut} {a b : List ℕ} {k : ℕ} (r : R
 
 -- ---- a row that is written, where the vertex with the number `first` stands first in the buffers
 
+-- what it requires: room for it, whatever the tables say
+module _ {n : Size} {s : List ℕ} {cut : Cut} {a b : List ℕ} {j k : ℕ} (r : Ready n s cut a b k) (hj : j + 1 < n .ny) (ok : thresholdRow cut ≡ Passes)
+    {first : ℕ} {m : Marks} {w : List ℕ} {o : List Float} {q : List ℕ} (room : RowRoomy loopsOf n s cut j k first m w o q)
+    (under tab : List ℕ) (under-long : length under ≡ 1024) (tab-long : length tab ≡ 1024) where
+  vertex-room : {lo hi : List ℕ} → Windows n s j k lo hi → RowRoom loopsOf lo hi cut (n .nx) (rowCube (n .nx) (n .ny) j k) first (m .v) w o (half j tab)
+  vertex-room {lo} {hi} p =
+      let count = ap length (masks-are loopsOf p cut hj) in
+      record {
+        small = omega (arith, row-bounds n (n .nx) (n .ny) j k (r .limits) refl refl hj (r .inside));
+        threshold = ok;
+        words-room = omega (arith, count, room .words);
+        offsets-room = omega (arith, count, room .offsets);
+        numbers-room = half-long j tab tab-long;
+        few = omega (arith, count, room .few);
+      }
+
+  quad-room : QuadsReady (rowOf n cut first j k) a b under m (length q)
+  quad-room = record {
+    fits = row-fits r j hj first;
+    below-long = under-long;
+    room-x = omega (arith, step-count r j hj AxisX, room .quads-x);
+    room-y = omega (arith, step-count r j hj AxisY, room .quads-y);
+    room-z = omega (arith, step-count r j hj AxisZ, room .quads-z);
+  }
+
+  pub step-ready : {lo hi : List ℕ} → Windows n s j k lo hi → (row : Row) → row ≡ rowOf n cut first j k
+      → RowReady lo hi (row .cut) a b (row .nx) (row .j) × RowRoom loopsOf lo hi (row .cut) (row .nx) (row .c) (row .first) (m .v) w o (half (row .j) tab) × QuadsReady row a b under m (length q) × (length tab ≡ 1024)
+  step-ready {lo} {hi} p row e =
+      subst (λ (x : Row). RowReady lo hi (x .cut) a b (x .nx) (x .j) × RowRoom loopsOf lo hi (x .cut) (x .nx) (x .c) (x .first) (m .v) w o (half (x .j) tab) × QuadsReady x a b under m (length q) × (length tab ≡ 1024)) (sym e)
+      (row-ready r hj p, vertex-room p, quad-room, tab-long)
+
 module _ {n : Size} {s : List ℕ} {cut : Cut} {a b : List ℕ} {j k : ℕ} {under tab : List ℕ} (r : Ready n s cut a b k) (t : TablesReady loopsOf n s cut j k under tab) where
   abbrev cube : ℕ
   cube = rowCube (n .nx) (n .ny) j k
-
-  -- what it requires
-  module _ (ok : thresholdRow cut ≡ Passes) {first : ℕ} {m : Marks} {w : List ℕ} {o : List Float} {q : List ℕ} (room : RowRoomy loopsOf n s cut j k first m w o q) where
-    vertex-room : {lo hi : List ℕ} → Windows n s j k lo hi → RowRoom loopsOf lo hi cut (n .nx) cube first (m .v) w o (half j tab)
-    vertex-room {lo} {hi} p =
-        let count = ap length (masks-are loopsOf p cut (t .row)) in
-        record {
-          small = omega (arith, row-bounds n (n .nx) (n .ny) j k (r .limits) refl refl (t .row) (r .inside));
-          threshold = ok;
-          words-room = omega (arith, count, room .words);
-          offsets-room = omega (arith, count, room .offsets);
-          numbers-room = half-long j tab (t .tab-long);
-          few = omega (arith, count, room .few);
-        }
-
-    quad-room : QuadsReady (rowOf n cut first j k) a b under m (length q)
-    quad-room = record {
-      fits = row-fits r j (t .row) first;
-      below-long = t .under-long;
-      room-x = omega (arith, step-count r j (t .row) AxisX, room .quads-x);
-      room-y = omega (arith, step-count r j (t .row) AxisY, room .quads-y);
-      room-z = omega (arith, step-count r j (t .row) AxisZ, room .quads-z);
-    }
-
-    pub step-ready : {lo hi : List ℕ} → Windows n s j k lo hi → (row : Row) → row ≡ rowOf n cut first j k
-        → RowReady lo hi (row .cut) a b (row .nx) (row .j) × RowRoom loopsOf lo hi (row .cut) (row .nx) (row .c) (row .first) (m .v) w o (half (row .j) tab) × QuadsReady row a b under m (length q) × (length tab ≡ 1024)
-    step-ready {lo} {hi} p row e =
-        subst (λ (x : Row). RowReady lo hi (x .cut) a b (x .nx) (x .j) × RowRoom loopsOf lo hi (x .cut) (x .nx) (x .c) (x .first) (m .v) w o (half (x .j) tab) × QuadsReady x a b under m (length q) × (length tab ≡ 1024)) (sym e)
-        (row-ready r (t .row) p, vertex-room p, quad-room, t .tab-long)
 
   -- what it leaves, if its first vertex has the number that the block gives it
   module _ {first : ℕ} {m m′ : Marks} {w w′ : List ℕ} {o o′ : List Float} {q q′ tab′ : List ℕ} (number : first + m .v ≡ length (verticesBefore loopsOf n s cut cube)) {lo hi : List ℕ} (p : Windows n s j k lo hi)

@@ -29,7 +29,7 @@ use Rattle.mesh.proofs.Rows.{next-cube, next-layer-cube, row-next, row-
 use Rattle.mesh.proofs.Tallies.{vertices-are, quads-all-length, all-cubes, all-planes, marked-start, marked-row, marked-layer}
 
 -- a buffer with `front` at its start is written on behind it
-store-next : {A : Type 0} (l₀ l l′ front part all : List A) (i : ℕ) → l ≡ sets l₀ 0 front → i ≡ length front → l′ ≡ sets l i part → all ≡ front ++ part → l′ ≡ sets l₀ 0 all
+pub store-next : {A : Type 0} (l₀ l l′ front part all : List A) (i : ℕ) → l ≡ sets l₀ 0 front → i ≡ length front → l′ ≡ sets l i part → all ≡ front ++ part → l′ ≡ sets l₀ 0 all
 store-next {A} l₀ l l′ front part all i is place e whole =
     e ∙ ap₂ (λ (x : List A) (j : ℕ). sets x j part) is (place ∙ from-zero (length front)) ∙ sets-append l₀ 0 front part ∙ ap (sets l₀ 0) (sym whole)
   where

@@ -106,8 +106,9 @@ row-of-requires c κs =
 row-step-requires : tie.Need-row-step-requires
 row-step-requires c κs =
     let m = c .before .before .before .before .before .before in
-    let r = start (m .before) .pre in
-    step-ready (r .0) (r .2) (r .1 .threshold) (underway-roomy (r .3) (r .0 .limits) (r .2 .row) (r .0 .inside)) (windows (m .before)) _ (m .row-of .ensures)
+    let s = start (m .before) in
+    let r = s .pre in
+    step-ready (r .0) (r .2 .row) (r .1 .threshold) (underway-roomy (r .3) (r .0 .limits) (r .2 .row) (r .0 .inside)) (now (s .args .under)) (now (s .args .tab)) (r .2 .under-long) (r .2 .tab-long) (windows (m .before)) _ (m .row-of .ensures)
 
 returns : tie.Need-returns
 returns c =
