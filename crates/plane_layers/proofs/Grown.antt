@@ -59,12 +59,15 @@ module _ (n : Size) (s : List ℕ) (cut : Cut) (k : ℕ) where
       four : (m : ℕ) → length (quadsUpTo loopsOf n s cut a m) ≡ 4 * length (quadsBefore loopsOf n s cut a m)
       four m = ap length (sym (quads-flat n s cut a m)) ∙ flat-length (quadsBefore loopsOf n s cut a m)
 
-  quads-length : length (layerQuads loopsOf n s cut k) ≡ length (planeQuads loopsOf n s cut X k) + length (planeQuads loopsOf n s cut Y k) + length (planeQuads loopsOf n s cut Z k)
+  pub quads-length : length (layerQuads loopsOf n s cut k) ≡ length (planeQuads loopsOf n s cut X k) + length (planeQuads loopsOf n s cut Y k) + length (planeQuads loopsOf n s cut Z k)
   quads-length =
       let xs = planeQuads loopsOf n s cut X k in
       let ys = planeQuads loopsOf n s cut Y k in
       let zs = planeQuads loopsOf n s cut Z k in
       length-append (xs ++ ys) zs ∙ ap (λ (i : ℕ). i + length zs) (length-append xs ys)
+
+  pub quads-four : length (layerQuads loopsOf n s cut k) ≡ 4 * (length (layerQuads loopsOf n s cut k) / 4)
+  quads-four = omega (arith, quads-length, plane-four X, plane-four Y, plane-four Z)
 
   module _ {t : Marks} (h : 2 ≤ n .ny) (c : RowsMarked loopsOf n s cut k 0 0 (n .ny - 1) t) where
     last : n .ny - 1 + 1 ≡ n .ny

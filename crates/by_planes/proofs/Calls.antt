@@ -1,0 +1,367 @@
+-- A plane that is taken: refused by a row that needs no count, the first of its block, or one that finishes a layer.
+-- Assumes nothing.
+use Prim.Native.Nat.{ℕ, suc, _+_, _*_, _-_, _/_, _%_, _≤_, _<_}
+use mathlib.Core.Path.{_≡_, refl, ap, ap₂, sym, _∙_, subst}
+use mathlib.Core.List.{List, [], _∷_, _++_}
+use native.Mathlib.Nat.{add-zero, mod-eq-of-lt, mul-assoc, mul-le-mul-left}
+use native.Mathlib.Numerals.{add-one}
+use native.Mathlib.Omega.{arith}
+use lib.Ieee.{Float, nan}
+use lib.ListN.{length, getD, take, drop, length-append}
+use lib.Seq.{getD-take, getD-drop}
+use Rattle.laws.specs.Below.{over}
+use Rattle.laws.proofs.Over.{over-length, over-front, over-behind}
+use Rattle.block.specs.declared.Checked.{Checked}
+use Rattle.block.specs.declared.Checked.the-variants.{Passes, Refuses}
+use Rattle.block.specs.declared.Cut.{Cut}
+use Rattle.block.specs.declared.Refusal.{Refusal}
+use Rattle.block.specs.declared.Size.{Size}
+use Rattle.block.specs.Answer.{accepted, refused, inOrder, judged, written}
+use Rattle.block.specs.Numbering.{Axis, X, Y, Z, sampleCount}
+use Rattle.block.specs.Size.{Limits}
+use Rattle.block.proofs.Order.{orders-refuse, orders-pass, judged-refused, judged-passed, written-refused, written-passed, passes-refuses, refused-says, accepted-says}
+use Rattle.cube_rule.specs.Decider.{joined, loopsOf}
+use Rattle.cube_rule.proofs.Laws.{cube-laws}
+use Rattle.mesh_rule.specs.Layers.{planeSize, layerSize, layerFirst, planeQuads}
+use Rattle.mesh_rule.proofs.Counts.{most-vertices, most-quads}
+use Rattle.mesh.specs.declared.Counted.{Counted}
+use Rattle.mesh.specs.declared.Counted.the-variants as counted
+use Rattle.mesh.specs.declared.Totals.{Totals}
+use Rattle.mesh.specs.Answer.{saidCounts, bufferRows}
+use Rattle.mesh.specs.Steps.{quadsUpTo}
+use Rattle.mesh.proofs.BufferRows.{roomy}
+use Rattle.mesh.proofs.Layers.{layer-first-next, layers-all}
+use Rattle.mesh.proofs.PlaneQuads.{planes-quads-next}
+use Rattle.mesh.proofs.Rows.{below-le, vertices-le}
+use Rattle.mesh.proofs.Tallies.{all-quads}
+use Rattle.plane_layers.specs.declared.Layer.{Layer}
+use Rattle.plane_layers.specs.Memory.{Shown, LayerTables}
+use Rattle.plane_layers.specs.Layer.{layerTotals, layerQuads, LayerReady, Known, PartGrown, Grown, KeptBehind}
+use Rattle.plane_layers.proofs.Grown.{quads-length, quads-four}
+use Rattle.by_planes.specs.declared.Stream.{Stream}
+use Rattle.by_planes.specs.declared.Growth.{Growth}
+use Rattle.by_planes.specs.declared.Taken.{Taken}
+use Rattle.by_planes.specs.declared.Taken.the-variants as taken
+use Rattle.by_planes.specs.Answer.{sizeIn, planeOf, partWords, partOffsets, partQuads, partTotals, further, callRows, takeVerdict, saidTaken}
+use Rattle.by_planes.specs.Left.{Left, PartTaken, PlaneTaken}
+use Rattle.by_planes.specs.Steps.{Sizes, firstOf, grownBy}
+use Rattle.by_planes.proofs.Rows.{plane-is, laterRows, passed, first-small}
+
+none-over : {A : Type 0} (b : List A) → b ≡ over [] b
+unfolding over
+none-over b = refl
+
+wrote-refused : {g : Growth} {x : Refusal} → saidTaken (taken.Wrote g) ≡ saidTaken (taken.Refused x) → ⊥
+wrote-refused {g} {x} e = let z : _≡_ {A = ℕ} 0 1 = cc in omega arith
+
+-- some layers are some of the cubes, and some planes some of the samples
+in-cubes : (a b c k : ℕ) → k ≤ c → a * b * k ≤ a * (b * c)
+in-cubes a b c k h = omega (arith, mul-assoc a b c, mul-le-mul-left (a * b) h)
+
+some-quads : (n : Size) (s : List ℕ) (cut : Cut) (a : Axis) (k : ℕ) → k ≤ n .nz → length (quadsUpTo loopsOf n s cut a (planeSize n * k)) ≤ length (quadsUpTo loopsOf n s cut a (sampleCount n))
+some-quads n s cut a k h = below-le _ (planeSize n * k) (sampleCount n) (in-cubes (n .nx) (n .ny) (n .nz) k h)
+
+-- ---- a row that needs no count refuses
+
+module _ (st : Stream) (plane work w : List ℕ) (o : List Float) (q : List ℕ) where
+  abbrev early : Checked
+  early = inOrder (callRows st (length plane) (length work))
+
+  pub taken-refused : (x : Refusal) → early ≡ Refuses x → PlaneTaken st plane work w o q (taken.Refused x) work w o q
+  taken-refused x e = record {
+    early = λ y f. same y f;
+    refusal-keeps = λ y f. (refl, refl, refl, refl);
+    kept = λ g f. absurd (wrote-refused (sym f));
+    part = λ s left is. let k = orders-refuse (callRows st (length plane) (length work)) _ x e in record {
+      answer = judged-refused _ _ x k;
+      words = sym (written-refused _ _ w x k);
+      offsets = sym (written-refused _ _ o x k);
+      quads = sym (written-refused _ _ q x k);
+      left = λ p. absurd (passes-refuses (sym p ∙ k));
+    };
+  }
+    where
+      same : (y : Refusal) → early ≡ Refuses y → saidTaken (taken.Refused x) ≡ saidTaken (taken.Refused y)
+      same y f = let z : Refuses x ≡ Refuses y = sym e ∙ f in cc
+
+  -- ---- they pass
+
+  module _ (ok : early ≡ Passes) (count : length plane ≡ st .nx * st .ny) (room : 6 * (st .nx * st .ny) ≤ length work) (inside : st .planes < st .nz) where
+    no-early : (x : Refusal) → early ≡ Refuses x → ⊥
+    no-early x e = passes-refuses (sym ok ∙ e)
+
+    -- then rows 5 and 6 decide
+    late-decides : (c : Totals) → takeVerdict st (length plane) (length work) c (length w) (length o) (length q) ≡ inOrder (bufferRows c (length w) (length o) (length q))
+    late-decides c = orders-pass (callRows st (length plane) (length work)) _ ok
+
+    -- ---- of a block whose planes are handed over
+
+    module _ {s : List ℕ} (left : Left s st work) (is : plane ≡ planeOf (sizeIn st) s (st .planes)) where
+      abbrev n : Size
+      n = sizeIn st
+
+      item : (i : ℕ) → i < planeSize n → getD plane i 0 ≡ getD s (planeSize n * st .planes + i) 0
+      item i h = ap (λ (l : List ℕ). getD l i 0) is ∙ getD-take (planeSize n) (drop (planeSize n * st .planes) s) i 0 h ∙ getD-drop (planeSize n * st .planes) s i 0
+
+      -- nothing is cut
+      few-v : layerFirst loopsOf n s (st .cut) (st .planes - 1) ≤ 66325500
+      few-v = omega (arith, vertices-le n s (st .cut) (layerSize n * (st .planes - 1)) (in-cubes (st .nx - 1) (st .ny - 1) (st .nz - 1) (st .planes - 1) (omega arith)), most-vertices loopsOf n s (st .cut) (cube-laws joined) (left .block .limits))
+
+      few-q : st .quads ≤ 49354740
+      few-q = omega (arith, left .quads-are, some-quads n s (st .cut) X (st .planes - 1) (omega arith), some-quads n s (st .cut) Y (st .planes - 1) (omega arith), some-quads n s (st .cut) Z (st .planes - 1) (omega arith), all-quads n s (st .cut), most-quads loopsOf n s (st .cut) (left .block .limits))
+
+      abbrev part : Totals
+      part = partTotals n s (st .cut) (st .planes)
+
+      growth-is : (c : Totals) → c ≡ part → c .vertices ≤ 66325500 → c .quads ≤ 49354740 → grownBy st c ≡ record { stream = further st part; counts = part }
+      growth-is c e hv hq =
+          ap₂ (λ (v u : ℕ). record { stream = record { nx = st .nx; ny = st .ny; nz = st .nz; cut = st .cut; vertices = v; quads = u; planes = st .planes + 1 }; counts = c })
+          (mod-eq-of-lt (omega (arith, left .vertices-are, few-v))) (mod-eq-of-lt (omega (arith, few-q)))
+          ∙ ap (λ (d : Totals). record { stream = further st d; counts = d }) e
+
+    -- ---- the first plane
+
+    module _ (none : st .planes ≡ 0) (work′ : List ℕ) (keeps : work′ ≡ over plane work) where
+      abbrev nothing : Totals
+      nothing = record { vertices = 0; quads = 0 }
+
+      fits : length plane ≤ length work
+      fits = omega arith
+
+      first-kept : KeptBehind 0 (4 * 0) (6 * (st .nx * st .ny)) w w o o q q work work′
+      first-kept = record {
+        words-long = refl;
+        offsets-long = refl;
+        quads-long = refl;
+        work-long = ap length keeps ∙ over-length plane work fits;
+        words-behind = λ i l. refl;
+        offsets-behind = λ i l. refl;
+        quads-behind = λ i l. refl;
+        work-behind = λ i l. ap (λ (b : List ℕ). getD b i 0) keeps ∙ over-behind plane work i 0 (omega arith);
+      }
+
+      pub taken-first : PlaneTaken st plane work w o q (taken.Wrote (grownBy st nothing)) work′ w o q
+      taken-first = record {
+        early = λ x e. absurd (no-early x e);
+        refusal-keeps = λ x e. absurd (wrote-refused e);
+        kept = λ g e. subst (λ (c : Totals). KeptBehind (c .vertices) (4 * c .quads) (6 * (st .nx * st .ny)) w w o o q q work work′) (counts-same e) first-kept;
+        part = λ s left is. first-part left is;
+      }
+        where
+          counts-same : {g : Growth} → saidTaken (taken.Wrote (grownBy st nothing)) ≡ saidTaken (taken.Wrote g) → nothing ≡ g .counts
+          counts-same {g} e = let z : grownBy st nothing ≡ g = cc in ap (λ (x : Growth). x .counts) z
+
+          first-part : {s : List ℕ} → Left s st work → plane ≡ planeOf (sizeIn st) s (st .planes)
+              → PartTaken (takeVerdict st (length plane) (length work) (partTotals (sizeIn st) s (st .cut) (st .planes)) (length w) (length o) (length q)) s st w o q (taken.Wrote (grownBy st nothing)) work′ w o q
+          first-part {s} left is =
+              let e : nothing ≡ partTotals (sizeIn st) s (st .cut) (st .planes) = ap (partTotals (sizeIn st) s (st .cut)) (sym none) in
+              let k : takeVerdict st (length plane) (length work) (partTotals (sizeIn st) s (st .cut) (st .planes)) (length w) (length o) (length q) ≡ Passes = late-decides (partTotals (sizeIn st) s (st .cut) (st .planes)) ∙ ap (λ (c : Totals). inOrder (bufferRows c (length w) (length o) (length q))) (sym e) ∙ roomy 0 0 (length w) (length o) (length q) (omega arith) (omega arith) (omega arith) in
+              record {
+                answer = judged-passed _ (grownBy st nothing) _ k (growth-is left is nothing e (omega arith) (omega arith));
+                words = over-nothing w (ap (partWords (sizeIn st) s (st .cut)) none) ∙ sym (written-passed _ _ w k);
+                offsets = over-nothing o (ap (partOffsets (sizeIn st) s (st .cut)) none) ∙ sym (written-passed _ _ o k);
+                quads = over-nothing q (ap (partQuads (sizeIn st) s (st .cut)) none) ∙ sym (written-passed _ _ q k);
+                left = λ p. first-left left is e;
+              }
+            where
+              over-nothing : {A : Type 0} (b : List A) {xs : List A} → xs ≡ [] → b ≡ over xs b
+              over-nothing b h = rw h (none-over b)
+
+              first-left : Left s st work → plane ≡ planeOf (sizeIn st) s (st .planes) → nothing ≡ partTotals (sizeIn st) s (st .cut) (st .planes) → Left s (further st (partTotals (sizeIn st) s (st .cut) (st .planes))) work′
+              first-left left is e = subst (λ (c : Totals). Left s (further st c) work′) e (record {
+                block = left .block;
+                grey = left .grey;
+                threshold = left .threshold;
+                room = omega (arith, first-kept .work-long);
+                in-block = omega arith;
+                vertices-are = add-zero (st .vertices) ∙ left .vertices-are ∙ ap (layerFirst loopsOf (sizeIn st) s (st .cut)) before;
+                quads-are = ap (λ (x : ℕ). 4 * x) (add-zero (st .quads)) ∙ left .quads-are ∙ ap (λ (k : ℕ). length (quadsUpTo loopsOf (sizeIn st) s (st .cut) X (planeSize (sizeIn st) * k)) + length (quadsUpTo loopsOf (sizeIn st) s (st .cut) Y (planeSize (sizeIn st) * k)) + length (quadsUpTo loopsOf (sizeIn st) s (st .cut) Z (planeSize (sizeIn st) * k))) before;
+                plane = λ h i l. ap (λ (b : List ℕ). getD b i 0) keeps ∙ over-front plane work i 0 (omega arith) ∙ item left is i l ∙ ap (λ (k : ℕ). getD s (planeSize (sizeIn st) * k + i) 0) here;
+                tables = λ h. absurd (omega arith);
+              })
+                where
+                  before : st .planes - 1 ≡ st .planes + 1 - 1
+                  before = omega arith
+
+                  here : st .planes ≡ st .planes + 1 - 1
+                  here = omega arith
+
+    -- ---- a further plane
+
+    module _ (k : ℕ) (some : k + 1 ≡ st .planes) {r : Counted} {work′ w′ : List ℕ} {o′ : List Float} {q′ : List ℕ}
+        (grown : Grown loopsOf (record { size = sizeIn st; cut = st .cut; first = firstOf (st .vertices); k = k }) plane work w o q r work′ w′ o′ q′) where
+      -- what is at hand is the block's
+      module _ {s : List ℕ} (left : Left s st work) (is : plane ≡ planeOf (sizeIn st) s (st .planes)) where
+        back : st .planes - 1 ≡ k
+        back = omega arith
+
+        shown : Shown (sizeIn st) k work plane s
+        shown = record {
+          samples = left .block .samples;
+          lower = λ i h.
+              sym (
+              ap (λ (x : ℕ). x % 65536) (left .plane (omega arith) i h)
+              ∙ mod-eq-of-lt (left .grey (planeSize (sizeIn st) * (st .planes - 1) + i))
+              ∙ ap (λ (z : ℕ). getD s (planeSize (sizeIn st) * z + i) 0) back
+              );
+          upper = λ i h. sym (item left is i h ∙ ap (λ (z : ℕ). getD s (planeSize (sizeIn st) * z + i) 0) (sym some));
+        }
+
+        known : Known loopsOf (sizeIn st) s (st .cut) k (firstOf (st .vertices)) work
+        known = record {
+          first-is = sym (first-small (st .vertices) (omega (arith, left .vertices-are, few-v left is))) ∙ left .vertices-are ∙ ap (layerFirst loopsOf (sizeIn st) s (st .cut)) back;
+          tables = λ h. subst (λ (z : ℕ). LayerTables loopsOf (sizeIn st) s (st .cut) z work) (two h) (left .tables (omega arith));
+        }
+          where
+            two : 0 < k → st .planes - 2 ≡ k - 1
+            two h = omega arith
+
+        abbrev layer : PartGrown loopsOf (inOrder (bufferRows (layerTotals loopsOf (sizeIn st) s (st .cut) k) (length w) (length o) (length q))) (sizeIn st) s (st .cut) k plane work′ w o q r w′ o′ q′
+        layer = grown .part s shown known
+
+        next : suc k ≡ st .planes
+        next = sym (add-one k) ∙ some
+
+        totals : layerTotals loopsOf (sizeIn st) s (st .cut) k ≡ partTotals (sizeIn st) s (st .cut) (st .planes)
+        totals = ap (partTotals (sizeIn st) s (st .cut)) next
+
+        verdict : takeVerdict st (length plane) (length work) (partTotals (sizeIn st) s (st .cut) (st .planes)) (length w) (length o) (length q) ≡ inOrder (bufferRows (layerTotals loopsOf (sizeIn st) s (st .cut) k) (length w) (length o) (length q))
+        verdict = late-decides (partTotals (sizeIn st) s (st .cut) (st .planes)) ∙ ap (λ (c : Totals). inOrder (bufferRows c (length w) (length o) (length q))) (sym totals)
+
+        -- the part is some of the mesh
+        part-v : layerTotals loopsOf (sizeIn st) s (st .cut) k .vertices ≤ 66325500
+        part-v =
+            omega (
+              arith,
+              layer-first-next (sizeIn st) s (st .cut) k,
+              vertices-le (sizeIn st) s (st .cut) (layerSize (sizeIn st) * (k + 1)) (in-cubes (st .nx - 1) (st .ny - 1) (st .nz - 1) (k + 1) (omega arith)),
+              most-vertices loopsOf (sizeIn st) s (st .cut) (cube-laws joined) (left .block .limits),
+            )
+
+        plane-more : (a : Axis) → length (quadsUpTo loopsOf (sizeIn st) s (st .cut) a (planeSize (sizeIn st) * (k + 1))) ≡ length (quadsUpTo loopsOf (sizeIn st) s (st .cut) a (planeSize (sizeIn st) * k)) + length (planeQuads loopsOf (sizeIn st) s (st .cut) a k)
+        plane-more a = ap length (planes-quads-next (sizeIn st) s (st .cut) a k) ∙ length-append (quadsUpTo loopsOf (sizeIn st) s (st .cut) a (planeSize (sizeIn st) * k)) (planeQuads loopsOf (sizeIn st) s (st .cut) a k)
+
+        part-q : layerTotals loopsOf (sizeIn st) s (st .cut) k .quads ≤ 49354740
+        part-q =
+            omega (
+              arith,
+              quads-length (sizeIn st) s (st .cut) k,
+              plane-more X,
+              plane-more Y,
+              plane-more Z,
+              some-quads (sizeIn st) s (st .cut) X (k + 1) (omega arith),
+              some-quads (sizeIn st) s (st .cut) Y (k + 1) (omega arith),
+              some-quads (sizeIn st) s (st .cut) Z (k + 1) (omega arith),
+              all-quads (sizeIn st) s (st .cut),
+              most-quads loopsOf (sizeIn st) s (st .cut) (left .block .limits),
+            )
+
+        new-left : inOrder (bufferRows (layerTotals loopsOf (sizeIn st) s (st .cut) k) (length w) (length o) (length q)) ≡ Passes → length work′ ≡ length work → Left s (further st (partTotals (sizeIn st) s (st .cut) (st .planes))) work′
+        new-left p long = subst (λ (c : Totals). Left s (further st c) work′) totals (record {
+          block = left .block;
+          grey = left .grey;
+          threshold = left .threshold;
+          room = omega arith;
+          in-block = omega arith;
+          vertices-are = omega (arith, left .vertices-are, ap (layerFirst loopsOf (sizeIn st) s (st .cut)) back, layer-first-next (sizeIn st) s (st .cut) k, ap (layerFirst loopsOf (sizeIn st) s (st .cut)) here);
+          quads-are = omega (arith, left .quads-are, ap before back, ap before here, quads-four (sizeIn st) s (st .cut) k, quads-length (sizeIn st) s (st .cut) k, plane-more X, plane-more Y, plane-more Z);
+          plane = λ h i l. layer .front p i l ∙ item left is i l ∙ ap (λ (z : ℕ). getD s (planeSize (sizeIn st) * z + i) 0) there;
+          tables = λ h. subst (λ (z : ℕ). LayerTables loopsOf (sizeIn st) s (st .cut) z work′) two (layer .noted p);
+        })
+          where
+            here : k + 1 ≡ st .planes + 1 - 1
+            here = omega arith
+
+            there : st .planes ≡ st .planes + 1 - 1
+            there = omega arith
+
+            two : k ≡ st .planes + 1 - 2
+            two = omega arith
+
+            before : ℕ → ℕ
+            before z =
+                length (quadsUpTo loopsOf (sizeIn st) s (st .cut) X (planeSize (sizeIn st) * z)) + length (quadsUpTo loopsOf (sizeIn st) s (st .cut) Y (planeSize (sizeIn st) * z)) + length (quadsUpTo loopsOf (sizeIn st) s (st .cut) Z (planeSize (sizeIn st) * z))
+
+      -- rows 5 and 6 refuse
+      pub taken-short : (x : Refusal) → r ≡ counted.Refused x → PlaneTaken st plane work w o q (taken.Refused x) work′ w′ o′ q′
+      taken-short x e = record {
+        early = λ y f. absurd (no-early y f);
+        refusal-keeps = λ y f. grown .refusal-keeps x (ap saidCounts e);
+        kept = λ g f. absurd (wrote-refused (sym f));
+        part = λ s left is.
+            let g = layer left is in
+            let v = refused-says _ _ x (sym (ap saidCounts e) ∙ g .answer) in
+            let k = verdict left is ∙ v in
+            record {
+              answer = judged-refused _ _ x k;
+              words = g .words ∙ written-refused _ _ w x v ∙ sym (written-refused _ _ w x k);
+              offsets = g .offsets ∙ written-refused _ _ o x v ∙ sym (written-refused _ _ o x k);
+              quads = g .quads ∙ written-refused _ _ q x v ∙ sym (written-refused _ _ q x k);
+              left = λ p. absurd (passes-refuses (sym p ∙ k));
+            };
+      }
+
+      -- they pass
+      pub taken-further : (c : Totals) → r ≡ counted.Counts c → PlaneTaken st plane work w o q (taken.Wrote (grownBy st c)) work′ w′ o′ q′
+      taken-further c e = record {
+        early = λ x f. absurd (no-early x f);
+        refusal-keeps = λ x f. absurd (wrote-refused f);
+        kept = λ g f. subst (λ (d : Totals). KeptBehind (d .vertices) (4 * d .quads) (6 * (st .nx * st .ny)) w w′ o o′ q q′ work work′) (counts-same f) (deeper (grown .kept c (ap saidCounts e)));
+        part = λ s left is.
+            let g = layer left is in
+            let a = accepted-says _ _ c (sym (ap saidCounts e) ∙ g .answer) in
+            let k = verdict left is ∙ a .0 in
+            record {
+              answer = judged-passed _ (grownBy st c) _ k (growth-is left is c (a .1 ∙ totals left is) (omega (arith, ap (λ (t : Totals). t .vertices) (a .1), part-v left is)) (omega (arith, ap (λ (t : Totals). t .quads) (a .1), part-q left is)));
+              words = g .words ∙ written-passed _ _ w (a .0) ∙ ap (λ (z : ℕ). over (partWords (sizeIn st) s (st .cut) z) w) (next left is) ∙ sym (written-passed _ _ w k);
+              offsets = g .offsets ∙ written-passed _ _ o (a .0) ∙ ap (λ (z : ℕ). over (partOffsets (sizeIn st) s (st .cut) z) o) (next left is) ∙ sym (written-passed _ _ o k);
+              quads = g .quads ∙ written-passed _ _ q (a .0) ∙ ap (λ (z : ℕ). over (partQuads (sizeIn st) s (st .cut) z) q) (next left is) ∙ sym (written-passed _ _ q k);
+              left = λ p. new-left left is (a .0) (grown .kept c (ap saidCounts e) .work-long);
+            };
+      }
+        where
+          counts-same : {g : Growth} → saidTaken (taken.Wrote (grownBy st c)) ≡ saidTaken (taken.Wrote g) → c ≡ g .counts
+          counts-same {g} f = let z : grownBy st c ≡ g = cc in ap (λ (x : Growth). x .counts) z
+
+          deeper : KeptBehind (c .vertices) (4 * c .quads) (3 * planeSize (sizeIn st)) w w′ o o′ q q′ work work′ → KeptBehind (c .vertices) (4 * c .quads) (6 * (st .nx * st .ny)) w w′ o o′ q q′ work work′
+          deeper h = record {
+            words-long = h .words-long;
+            offsets-long = h .offsets-long;
+            quads-long = h .quads-long;
+            work-long = h .work-long;
+            words-behind = h .words-behind;
+            offsets-behind = h .offsets-behind;
+            quads-behind = h .quads-behind;
+            work-behind = λ i l. h .work-behind i (omega arith);
+          }
+
+-- ---- what a layer requires is there
+
+pub layer-ready : {st : Stream} {n : Size} → Sizes st n → (plane work : List ℕ) → inOrder (laterRows st (length plane) (length work)) ≡ Passes → (first k : ℕ) → first ≤ 66325500 → k + 1 ≡ st .planes
+    → LayerReady (record { size = n; cut = st .cut; first = first; k = k }) work plane
+layer-ready {st} {n} z plane work e first k h some =
+    let p = passed st (length plane) (length work) e in
+    let all : planeSize n ≡ st .nx * st .ny = plane-is z refl refl in
+    record {
+      limits = z .limits;
+      inside = omega (arith, p .1, ap (λ (m : Size). m .nz) (z .is));
+      threshold = p .0;
+      few = h;
+      plane-long = p .2 ∙ sym all;
+      room = omega (arith, p .3);
+    }
+
+-- as the code makes it, the layer is the state's
+pub grown-as : {st : Stream} {n : Size} → Sizes st n → {plane work w : List ℕ} {o : List Float} {q : List ℕ} {r : Counted} {work′ w′ : List ℕ} {o′ : List Float} {q′ : List ℕ} (first k : ℕ) → first ≡ firstOf (st .vertices)
+    → Grown loopsOf (record { size = n; cut = st .cut; first = first; k = k }) plane work w o q r work′ w′ o′ q′
+    → Grown loopsOf (record { size = sizeIn st; cut = st .cut; first = firstOf (st .vertices); k = k }) plane work w o q r work′ w′ o′ q′
+grown-as {st} {n} z {plane} {work} {w} {o} {q} {r} {work′} {w′} {o′} {q′} first k e h =
+    subst (λ (m : Size). Grown loopsOf (record { size = m; cut = st .cut; first = firstOf (st .vertices); k = k }) plane work w o q r work′ w′ o′ q′) (z .is)
+    (subst (λ (f : ℕ). Grown loopsOf (record { size = n; cut = st .cut; first = f; k = k }) plane work w o q r work′ w′ o′ q′) e h)
+
+pub sized-limits : {st : Stream} {n : Size} → Sizes st n → Limits (sizeIn st)
+sized-limits z = subst Limits (z .is) (z .limits)
+
+-- the growth, told in another way
+pub wrote-as : {st : Stream} {plane work w : List ℕ} {o : List Float} {q : List ℕ} {work′ w′ : List ℕ} {o′ : List Float} {q′ : List ℕ} {g h : Growth} → h ≡ g → PlaneTaken st plane work w o q (taken.Wrote g) work′ w′ o′ q′ → PlaneTaken st plane work w o q (taken.Wrote h) work′ w′ o′ q′
+wrote-as {st} {plane} {work} {w} {o} {q} {work′} {w′} {o′} {q′} e p = subst (λ (x : Growth). PlaneTaken st plane work w o q (taken.Wrote x) work′ w′ o′ q′) (sym e) p
