@@ -5,7 +5,7 @@ use mathlib.Core.List.{List}
 use lib.ListN.{length, take}
 use lib.Ieee.{Float}
 use Rattle.laws.specs.Below.{over}
-use Rattle.block.specs.Answer.{accepted}
+use Rattle.block.specs.Answer.{Answer, accepted, refused}
 use Rattle.block.specs.Ceilings.{ceilingsIn}
 use Rattle.block.specs.Grey.{cutOf}
 use Rattle.place.specs.declared.Crossing.{Crossing}
@@ -25,9 +25,15 @@ use Rattle.ply.specs.declared.Filed.{Filed}
 use Rattle.ply.specs.Answer.{saidFile, PlyWritten}
 use Rattle.room.specs.declared.Edged.{Edged}
 use Rattle.room.specs.Answer.{saidCrossed, CrossedAnswered}
+use Rattle.by_planes.specs.declared.Stream.{Stream}
+use Rattle.by_planes.specs.declared.Growth.{Growth}
+use Rattle.by_planes.specs.declared.Started.{Started}
+use Rattle.by_planes.specs.declared.Taken.{Taken}
+use Rattle.by_planes.specs.Answer.{saidStart, saidTaken, StartAnswered, FinishAnswered}
+use Rattle.by_planes.specs.Left.{PlaneTaken}
 use Rattle.thresholds.specs.declared.RowAnswer.{RowAnswer}
 use Rattle.thresholds.specs.Answer.{saidRow, RowAnswered}
-use Rattle.told.specs.Numbers.{toldCeilings, toldEdge, toldFraction, toldNumber, toldClosed, toldPieces, toldLength, toldNothing}
+use Rattle.told.specs.Numbers.{toldCeilings, toldEdge, toldFraction, toldNumber, toldClosed, toldPieces, toldLength, toldNothing, toldGrowth, stateNumbers, stateOf}
 
 -- as many of these values as a place has room for; what is behind is kept
 abbrev pub tellOver : {A : Type 0} → List A → List A → List A
@@ -70,6 +76,33 @@ pub record RowTold (nx ny nz : ℕ) (s ts b place b′ place′ : List ℕ) : Ty
 pub record MeshTold (nx ny nz : ℕ) (s : List ℕ) (t : ℕ) (w : List ℕ) (o : List Float) (q place w′ : List ℕ) (o′ : List Float) (q′ place′ : List ℕ) : Type 0 where
   pub answer : Counted
   pub meshed : Meshed nx ny nz s (cutOf t) w o q answer w′ o′ q′
+  pub is-told : place′ ≡ tellOver (toldCounts (saidCounts answer)) place
+
+-- a place for a state afterwards: the state, or what it held on refusal
+abbrev pub stateAfter : Answer Stream → List ℕ → List ℕ
+stateAfter (accepted st) place = tellOver (stateNumbers st) place
+stateAfter (refused r) place = place
+
+abbrev pub growthAfter : Answer Growth → List ℕ → List ℕ
+growthAfter (accepted g) place = tellOver (stateNumbers (g .stream)) place
+growthAfter (refused r) place = place
+
+pub record StartTold (nx ny nz t : ℕ) (work state place state′ place′ : List ℕ) : Type 0 where
+  pub answer : Started
+  pub answered : StartAnswered nx ny nz (cutOf t) (length work) answer
+  pub state-told : state′ ≡ stateAfter (saidStart answer) state
+  pub is-told : place′ ≡ tellOver (toldNothing (saidStart answer)) place
+
+-- the buffers are those of `take`
+pub record PlaneTold (state plane work w : List ℕ) (o : List Float) (q place state′ work′ w′ : List ℕ) (o′ : List Float) (q′ place′ : List ℕ) : Type 0 where
+  pub answer : Taken
+  pub answered : PlaneTaken (stateOf state) plane work w o q answer work′ w′ o′ q′
+  pub state-told : state′ ≡ growthAfter (saidTaken answer) state
+  pub is-told : place′ ≡ tellOver (toldGrowth (saidTaken answer)) place
+
+pub record EndTold (state place place′ : List ℕ) : Type 0 where
+  pub answer : Counted
+  pub answered : FinishAnswered (stateOf state) answer
   pub is-told : place′ ≡ tellOver (toldCounts (saidCounts answer)) place
 
 pub record ClosedTold (quads place place′ : List ℕ) : Type 0 where

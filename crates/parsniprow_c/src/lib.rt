@@ -1,10 +1,13 @@
 // The library for C: exported functions over numbers and slices, each of which writes its answer to lent places. A slice is a pointer and
 // then a length. include/parsniprow.h declares and explains them.
 use block::Cut;
+use by_planes::Started;
+use by_planes::Taken;
 use ply::Spacing;
 ghost use mathlib.Core.Path.{_≡_};
 ghost use mathlib.Core.List.{[], _∷_};
-ghost use Rattle.parsniprow_c.specs.Told.{tellOver, CeilingsTold, EdgeTold, CubeTold, CrossedTold, CountsTold, RowTold, MeshTold, ClosedTold, ClosedWithTold, PiecesTold, PlyTold};
+ghost use Rattle.by_planes.specs.Answer.{saidStart, saidTaken};
+ghost use Rattle.parsniprow_c.specs.Told.{tellOver, CeilingsTold, EdgeTold, CubeTold, CrossedTold, CountsTold, RowTold, MeshTold, StartTold, PlaneTold, EndTold, stateAfter, growthAfter, ClosedTold, ClosedWithTold, PiecesTold, PlyTold};
 
 // How many samples are at the detector's ceiling, and the lowest index of one.
 #[no_mangle]
@@ -127,6 +130,77 @@ pub extern "C" fn parsniprow_mesh(
     let counted = mesh::mesh(nx, ny, nz, samples, Cut { t: t }, words, offsets, quads);
     let told = told::tell_counts(counted);
     put(answer, &told);
+}
+
+// Starts a run over the planes of a block: its state stands in a lent place.
+#[no_mangle]
+pub extern "C" fn parsniprow_start(
+    nx: u32,
+    ny: u32,
+    nz: u32,
+    t: u16,
+    work: &[u32],
+    state: &mut [u32],
+    answer: &mut [u32],
+)
+    ensures { λ _. ⌜ StartTold nx ny nz t (now (work .entry)) (now (state .entry)) (now (answer .entry)) (now (state .exit)) (now (answer .exit)) ⌝ }
+{
+    let started = by_planes::start(nx, ny, nz, Cut { t: t }, work);
+    put_started(started, state);
+    let told = told::tell_start(started);
+    put(answer, &told);
+}
+
+// Takes the next plane of a run, and writes what it finishes into three lent buffers.
+#[no_mangle]
+pub extern "C" fn parsniprow_plane(
+    state: &mut [u32],
+    plane: &[u16],
+    work: &mut [u32],
+    words: &mut [u32],
+    offsets: &mut [f64],
+    quads: &mut [u32],
+    answer: &mut [u32],
+)
+    ensures { λ _. ⌜ PlaneTold (now (state .entry)) (now (plane .entry)) (now (work .entry)) (now (words .entry)) (now (offsets .entry)) (now (quads .entry)) (now (answer .entry)) (now (state .exit)) (now (work .exit)) (now (words .exit)) (now (offsets .exit)) (now (quads .exit)) (now (answer .exit)) ⌝ }
+{
+    let stream = told::read_state(state);
+    let taken = by_planes::take(stream, plane, work, words, offsets, quads);
+    put_taken(taken, state);
+    let told = told::tell_taken(taken);
+    put(answer, &told);
+}
+
+// Ends a run: how many vertices and quads its planes gave together.
+#[no_mangle]
+pub extern "C" fn parsniprow_end(state: &[u32], answer: &mut [u32])
+    ensures { λ _. ⌜ EndTold (now (state .entry)) (now (answer .entry)) (now (answer .exit)) ⌝ }
+{
+    let stream = told::read_state(state);
+    let counted = by_planes::finish(stream);
+    let told = told::tell_counts(counted);
+    put(answer, &told);
+}
+
+// The state of a run that begins; a refusal leaves the place as it was.
+fn put_started(started: Started, state: &mut [u32])
+    ensures { λ _. ⌜ now (state .exit) ≡ stateAfter (saidStart started) (now (state .entry)) ⌝ }
+{
+    if let Started::Begun(stream) = started {
+        let seven = told::tell_state(stream);
+        put(state, &seven);
+    }
+}
+
+// The state after a plane; a refusal leaves the place as it was.
+fn put_taken(taken: Taken, state: &mut [u32])
+    ensures { λ _. ⌜ now (state .exit) ≡ growthAfter (saidTaken taken) (now (state .entry)) ⌝ }
+{
+    if let Taken::Wrote(growth) = taken {
+        let stream = growth.stream;
+        let seven = told::tell_state(stream);
+        put(state, &seven);
+    }
 }
 
 // Whether a list of quads is closed.

@@ -14,7 +14,9 @@ use Rattle.mesh.specs.declared.Totals.{Totals}
 use Rattle.mesh.specs.Answer.{toldCounts}
 use Rattle.closed.specs.Closed.{Finding}
 use Rattle.pieces.specs.declared.Parts.{Parts}
-use Rattle.told.specs.Numbers.{toldCeilings, toldEdge, toldFraction, toldNumber, toldClosed, toldPieces, toldLength, toldNothing}
+use Rattle.by_planes.specs.declared.Stream.{Stream}
+use Rattle.by_planes.specs.declared.Growth.{Growth}
+use Rattle.told.specs.Numbers.{toldCeilings, toldEdge, toldFraction, toldNumber, toldClosed, toldPieces, toldLength, toldNothing, toldGrowth, stateNumbers, stateOf}
 
 pub tell-ceilings-fixed : (x : CeilingCount) → Fixes (λ (r : List ℕ). r ≡ toldCeilings (accepted x))
 tell-ceilings-fixed x = equation-fixes (toldCeilings (accepted x))
@@ -47,3 +49,13 @@ tell-length-fixed x = equation-fixes (toldLength x)
 -- of `tell_row` and `tell_file`
 pub tell-nothing-fixed : {A : Type 0} (x : Answer A) → Fixes (λ (r : List ℕ). r ≡ toldNothing x)
 tell-nothing-fixed x = equation-fixes (toldNothing x)
+
+-- plane by plane
+pub tell-taken-fixed : (x : Answer Growth) → Fixes (λ (r : List ℕ). r ≡ toldGrowth x)
+tell-taken-fixed x = equation-fixes (toldGrowth x)
+
+pub tell-state-fixed : (st : Stream) → Fixes (λ (r : List ℕ). r ≡ stateNumbers st)
+tell-state-fixed st = equation-fixes (stateNumbers st)
+
+pub read-state-fixed : (l : List ℕ) → Fixes (λ (r : Stream). r ≡ stateOf l)
+read-state-fixed l = equation-fixes (stateOf l)

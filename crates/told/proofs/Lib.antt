@@ -1,2 +1,3 @@
 pub mod Offsets
 pub mod Fixed
+pub mod States

@@ -1,14 +1,17 @@
 -- What a C caller is told of each answer: 01's number, then values, zeros where they are not used. Counts are told as mesh/specs/Answer.antt says.
-use Prim.Native.Nat.{ℕ}
+use Prim.Native.Nat.{ℕ, _%_}
 use mathlib.Core.List.{List, [], _∷_}
-use lib.ListN.{length}
+use lib.ListN.{length, getD}
 use lib.Ieee.{Float}
 use Rattle.laws.specs.Filled.{filled}
 use Rattle.block.specs.declared.CeilingCount.{CeilingCount}
 use Rattle.block.specs.Answer.{Answer, accepted, refused, given, told}
+use Rattle.block.specs.Grey.{cutOf}
 use Rattle.place.specs.Place.{plusZero}
 use Rattle.closed.specs.Closed.{Finding, allSound, openAt}
 use Rattle.pieces.specs.declared.Parts.{Parts}
+use Rattle.by_planes.specs.declared.Stream.{Stream}
+use Rattle.by_planes.specs.declared.Growth.{Growth}
 
 -- samples at the ceiling, and the lowest index of one
 abbrev pub toldCeilings : Answer CeilingCount → List ℕ
@@ -47,3 +50,17 @@ toldLength (refused r) = filled 1 0 []
 -- 0 alone, or the refusal: a file and its length stand in places of their own, and so do the answers of a row of thresholds
 abbrev pub toldNothing : {A : Type 0} → Answer A → List ℕ
 toldNothing = told 3 (λ _. [])
+
+-- ---- plane by plane
+
+-- how many vertices and quads a plane gave
+abbrev pub toldGrowth : Answer Growth → List ℕ
+toldGrowth = told 3 (λ g. g .counts .vertices ∷ g .counts .quads ∷ [])
+
+-- a state in seven numbers; how many planes were taken stands last, so a place that is too short holds none
+abbrev pub stateNumbers : Stream → List ℕ
+stateNumbers st = st .nx ∷ st .ny ∷ st .nz ∷ st .cut .t ∷ st .vertices ∷ st .quads ∷ st .planes ∷ []
+
+-- the state that seven numbers are: a missing one is 0, and the threshold is taken modulo 65,536
+abbrev pub stateOf : List ℕ → Stream
+stateOf l = record { nx = getD l 0 0; ny = getD l 1 0; nz = getD l 2 0; cut = cutOf (getD l 3 0 % 65536); vertices = getD l 4 0; quads = getD l 5 0; planes = getD l 6 0 }

@@ -1,5 +1,9 @@
 // What a C caller is told of each answer, in numbers: 0 and what is answered, or number and value of a refusal; zeros where they are not used.
 use block::CeilingCount;
+use block::Cut;
+use by_planes::Started;
+use by_planes::Stream;
+use by_planes::Taken;
 use cell::Found;
 use closed::Closure;
 use mesh::Counted;
@@ -10,7 +14,9 @@ use ply::Filed;
 use room::Edged;
 use thresholds::RowAnswer;
 ghost use mathlib.Core.Path.{_≡_};
+ghost use lib.ListN.{getD};
 ghost use Rattle.block.specs.Answer.{accepted};
+ghost use Rattle.by_planes.specs.Answer.{saidStart, saidTaken};
 ghost use Rattle.place.specs.Crossing.{saidEdge};
 ghost use Rattle.cell.specs.Answer.{saidCube};
 ghost use Rattle.mesh_rule.specs.Buffers.{triples};
@@ -20,7 +26,7 @@ ghost use Rattle.closed.specs.Closed.{saidClosure};
 ghost use Rattle.pieces.specs.Answer.{saidPieces};
 ghost use Rattle.ply.specs.Answer.{saidFile};
 ghost use Rattle.room.specs.Answer.{saidCrossed};
-ghost use Rattle.told.specs.Numbers.{toldCeilings, toldEdge, toldFraction, toldNumber, toldClosed, toldPieces, toldLength, toldNothing};
+ghost use Rattle.told.specs.Numbers.{toldCeilings, toldEdge, toldFraction, toldNumber, toldClosed, toldPieces, toldLength, toldNothing, toldGrowth, stateNumbers, stateOf};
 
 // How many samples are at the ceiling, and the lowest index of one.
 pub fn tell_ceilings(seen: CeilingCount) -> [u32; 3]
@@ -150,4 +156,66 @@ pub fn tell_file(filed: Filed) -> [u32; 3]
         Filed::Bytes(_) => [0, 0, 0],
         Filed::Refused(r) => [r.number, r.value, 0],
     }
+}
+
+// 0 alone of a run that begins, since its state stands in a place of its own; or the refusal.
+pub fn tell_start(started: Started) -> [u32; 3]
+    ensures { λ r. ⌜ r ≡ toldNothing (saidStart started) ⌝ }
+{
+    match started {
+        Started::Begun(_) => [0, 0, 0],
+        Started::Refused(r) => [r.number, r.value, 0],
+    }
+}
+
+// How many vertices and quads a plane gave.
+pub fn tell_taken(taken: Taken) -> [u32; 3]
+    ensures { λ r. ⌜ r ≡ toldGrowth (saidTaken taken) ⌝ }
+{
+    match taken {
+        Taken::Wrote(g) => [0, g.counts.vertices, g.counts.quads],
+        Taken::Refused(r) => [r.number, r.value, 0],
+    }
+}
+
+// A state in seven numbers.
+pub fn tell_state(stream: Stream) -> [u32; 7]
+    ensures { λ r. ⌜ r ≡ stateNumbers stream ⌝ }
+{
+    [
+        stream.nx,
+        stream.ny,
+        stream.nz,
+        stream.cut.t as u32,
+        stream.vertices,
+        stream.quads,
+        stream.planes,
+    ]
+}
+
+// The state that stands in a place, whatever its length.
+pub fn read_state(place: &[u32]) -> Stream
+    ensures { λ r. ⌜ r ≡ stateOf (now (place .entry)) ⌝ }
+{
+    Stream {
+        nx: item(place, 0),
+        ny: item(place, 1),
+        nz: item(place, 2),
+        cut: Cut {
+            t: (item(place, 3) % 65536) as u16,
+        },
+        vertices: item(place, 4),
+        quads: item(place, 5),
+        planes: item(place, 6),
+    }
+}
+
+// The item i of a place, 0 where it has none.
+fn item(place: &[u32], i: usize) -> u32
+    ensures { λ r. ⌜ r ≡ getD (now (place .entry)) i 0 ⌝ }
+{
+    if i < place.len() {
+        return place[i];
+    }
+    0
 }
