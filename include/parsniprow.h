@@ -7,9 +7,10 @@
      its items, the length is not more than it has, and a buffer that is written to overlaps no other. What is only
      written to need not be initialised.
    - Nothing is kept from one call to the next and nothing is allocated, so any number of threads may call at once,
-     where none writes what another's call reads or writes. A call takes less than 64 KiB of the stack. The library has
-     no tables: its constants are less than 512 bytes. Of a C library it needs memcpy and memset. The processor rounds
-     to nearest, as a C program starts.
+     where none writes what another's call reads or writes. What a mesh that is made plane by plane must remember stands
+     in two buffers that the caller lends to each call, the state and the work. A call takes less than 64 KiB of the
+     stack. The library has no tables: its constants are less than 512 bytes. Of a C library it needs memcpy and memset.
+     The processor rounds to nearest, as a C program starts.
    - C cuts an argument that is too large for its type before the call: 65636 as t arrives as 100. Check wider numbers
      first.
    - Nothing outside the lent buffers is touched, and what is lent as const is not written to.
@@ -23,6 +24,9 @@
    same block and threshold. parsniprow_mesh fills the buffers. Then parsniprow_closed_with, parsniprow_pieces and
    parsniprow_ply may be asked about the mesh. The other questions stand by themselves: parsniprow_ceilings,
    parsniprow_edge, parsniprow_cube and parsniprow_closed.
+   A scan that is too large to be held at once goes plane by plane: parsniprow_start once, then parsniprow_plane for
+   each of the nz planes by rising z, then parsniprow_end. Each call of parsniprow_plane writes the part of the mesh
+   that its plane finishes. Neither the counts nor the crossed edges need be asked before.
 
    REFUSALS
    What cannot be answered is refused by number. Each function says which numbers it tries, and in which order; the
@@ -30,13 +34,15 @@
 
      number  given exactly when                value
      1       an axis is under 2 or over 256    lowest such axis, 0 to 2
-     2       samples_len is not nx * ny * nz   nx * ny * nz
+     2       samples_len is not nx * ny * nz,  nx * ny * nz, or of a
+             or plane_len is not nx * ny       plane nx * ny
      3       t or a threshold is 0 or 65535    that threshold
-     5       words_len is under 2 a vertex,    vertices needed
-             or offsets_len is under 3 a
+     5       words_len is under 2 a vertex,    vertices needed, for a
+             or offsets_len is under 3 a       plane by this call
              vertex; piece_len or size_len is
              under n
-     6       quads_len is under 4 a quad       quads needed
+     6       quads_len is under 4 a quad       quads needed, for a
+                                               plane by this call
      7       quads_len is no multiple of 4     quads_len modulo 4
      13      a spacing is not above 0, or      lowest such axis, 0 to 2
              is above 1000
@@ -45,10 +51,15 @@
      15      file_len is under the bytes of    bytes or items needed;
              the file, work_len under the      for answers_len how
              items that the closed question    many thresholds there
-             needs, or answers_len under 3     are
+             or a mesh made plane by plane     are
+             needs, or answers_len under 3
              a threshold
      16      there are more than 16            how many there are
              thresholds
+     17      a plane comes when nz planes      nz
+             have been taken
+     18      the end is asked before nz        planes taken
+             planes have been taken
      22      words_len and offsets_len are     words_len
              not twice and three times one
              count of at most 66325500
@@ -174,6 +185,71 @@ void parsniprow_thresholds(uint32_t nx, uint32_t ny, uint32_t nz, const uint16_t
 void parsniprow_mesh(uint32_t nx, uint32_t ny, uint32_t nz, const uint16_t *samples, size_t samples_len, uint16_t t,
                      uint32_t *words, size_t words_len, double *offsets, size_t offsets_len, uint32_t *quads,
                      size_t quads_len, uint32_t *answer, size_t answer_len);
+
+/* The mesh of a block, plane by plane. The block need not be held in memory: its planes are handed over by rising z,
+   plane k the nx * ny samples from index nx * ny * k on. The calls for one block are a run:
+     parsniprow_start   once
+     parsniprow_plane   nz times, each with the next plane. The first writes no vertex and no quad. Each further call
+                        finishes a layer of cubes and writes what became known by it
+     parsniprow_end     both totals
+   All words that the calls write, one behind the other, are those of parsniprow_mesh for the whole block, and so are
+   the offsets. The quads are the same too, each once, with the same vertex numbers, but they come in another order: by
+   call, and in a call those along x, then y, then z. parsniprow_mesh has first all of them along x, then y, then z.
+   What a run must remember stands in state and in work. Both are the caller's, and each call of the run gets them as
+   the last one left them. They may be copied and moved between the calls. What the items of work mean is the library's
+   own affair. Several runs, each with a state and a work of its own, may go side by side. With a state or a work that
+   is not as a call left it, the mesh is not promised. Such a call still ends, touches nothing but the lent buffers, and
+   writes at most as much as its answer says. */
+
+/* How many items the state of a run has: nx, ny, nz, t, vertices so far, quads so far, planes taken. */
+#define PARSNIPROW_STATE 7
+
+/* Starts a run.
+     nx, ny, nz  axis lengths in samples, each 2 to 256
+     t           the threshold, 1 to 65534
+     work        the buffer that is to be lent to the planes, 6 * nx * ny items or more. Only its length is looked at
+     state       room for PARSNIPROW_STATE items: nx, ny, nz, t, 0, 0, 0
+     answer      answer place, 3 items: 0, 0, 0; or refusal (1, 3 or 15, tried in this order), its value, 0
+   The state keeps its contents on refusal, and always behind its items. If it is shorter, as many are written as it has
+   room for. Such a state has no place for the planes taken, so every plane would be taken as the first. */
+void parsniprow_start(uint32_t nx, uint32_t ny, uint32_t nz, uint16_t t, uint32_t *work, size_t work_len,
+                      uint32_t *state, size_t state_len, uint32_t *answer, size_t answer_len);
+
+/* Takes the next plane of a run. Let k be the planes that were taken before. If k is 0, no vertex and no quad is
+   written. Else the call writes the vertices of the layer of cubes between plane k - 1 and plane k; then the quads of
+   the crossed edges along x on plane k - 1, then those along y on it, then those along z from plane k - 1 to plane k,
+   each by index of the lower sample. As of parsniprow_mesh, only an edge that lies on no face of the box gives a quad.
+   Each buffer is filled from its front in every call: lend fresh room, or read the part out before the next call.
+     state    as the last call of the run left it. Afterwards its vertices and quads so far are higher by those of this
+              call, and its planes taken by one. A missing item is read as 0, and t modulo 65536
+     plane    the nx * ny samples of plane k, x fastest
+     work     6 * nx * ny items, as the last call of the run left them. Before the first plane it need not be
+              initialised. More room is allowed
+     words    room for 2 items for each vertex of the layer, as of parsniprow_mesh: the cube's number in the whole
+              block, and its word, of which bit 12 is the mark
+     offsets  room for 3 items for each vertex of the layer, as of parsniprow_mesh
+     quads    room for 4 items for each of these quads: the numbers of its vertices in the mesh of the whole block. The
+              first vertex that this call writes has the number of vertices so far
+     answer   answer place, 3 items: 0, vertices, quads of this call; or refusal (1, 3, 17, 2, 15, 5 or 6, tried in this
+              order), its value, 0. The state of a run never meets 1 and 3, which are about its own numbers
+   On refusal state, work and the three buffers keep their contents, so the run can go on: hand the same plane over
+   again with what was missing. Numbers 5 and 6 say what this call needs. The three buffers always keep what lies behind
+   the part, and work what lies behind its 6 * nx * ny items. Buffers of these lengths are enough for each call of the
+   run:
+     words    8 * (nx - 1) * (ny - 1) items, for 4 vertices a cube
+     offsets  12 * (nx - 1) * (ny - 1) items
+     quads    4 * ((nx - 1) * (ny - 2) + (nx - 2) * (ny - 1) + (nx - 2) * (ny - 2)) items
+   For 256 samples along x and y these and work take 13000960 bytes, whatever nz is. Most layers take much less: whoever
+   reserves less lends what there is, and where a call is refused with 5 or 6, reserves more and asks again. */
+void parsniprow_plane(uint32_t *state, size_t state_len, const uint16_t *plane, size_t plane_len, uint32_t *work,
+                      size_t work_len, uint32_t *words, size_t words_len, double *offsets, size_t offsets_len,
+                      uint32_t *quads, size_t quads_len, uint32_t *answer, size_t answer_len);
+
+/* How many vertices and quads all planes of a run have given. The state is not changed, and the question may be asked
+   again.
+     state   as the last call of the run left it
+     answer  answer place, 3 items: 0, vertices, quads of the whole mesh; or refusal 18, its value, 0 */
+void parsniprow_end(const uint32_t *state, size_t state_len, uint32_t *answer, size_t answer_len);
 
 /* Whether a list of quads is closed: each side is walked as often one way as the other, over all quads, and has two
    different ends. The mesh of a block is closed if all samples on the six faces of the box are metal, or all are
