@@ -2,7 +2,8 @@
    one by one, faces come from the corners, a quad's vertices are searched for, the sides of a list of quads are sorted.
    The number of a piece is spread from its lowest vertex through all quads that hold a vertex which has it. Only the
    longest search is found as the paper says it, since that is a rule about a method. A file is refused by one rule
-   after the other, each over the whole mesh, and its head is made by printf.
+   after the other, each over the whole mesh, and its head is made by printf. A run of planes remembers the samples of
+   the last two planes and nothing of the mesh: with the next plane they are a block of their own, meshed as any other.
    Assumes doubles rounded to nearest, each operation by itself (-ffp-contract=off). */
 #include "plain.h"
 
@@ -12,7 +13,7 @@
 
 enum { AXES = 3, CORNERS = 8, EDGES = 12, FACES = 6, MOST_LOOPS = 4, CEILING = 65535, MARK = 4096 };
 enum { SHORTEST_AXIS = 2, LONGEST_AXIS = 256, WORDS = 2, SIDES = 4, ANSWER = 3, CLOSED_ANSWER = 4 };
-enum { MOST_THRESHOLDS = 16 };
+enum { MOST_THRESHOLDS = 16, STATE = 7, WORK_PLANES = 6, KEPT_PLANES = 2 };
 enum { MOST_VERTICES = 66325500, WIDEST_SPACING = 1000, MOST_HEAD = 256, DOUBLE_BYTES = 8, INT_BYTES = 4 };
 
 /* Corner pairs of the edges, the lower one first. */
@@ -820,6 +821,182 @@ static void draw(const struct drawing *drawing, uint8_t *file)
     }
 }
 
+/* ---- planes ---- */
+
+/* A run, as its state tells it. */
+struct run {
+    uint32_t length[AXES], vertices, quads, planes;
+    uint16_t t;
+};
+
+/* What is missing from the state is 0. */
+static struct run run_of(const uint32_t *state, size_t state_len)
+{
+    uint32_t items[STATE] = {0};
+    struct run run;
+    put_words(items, STATE, state, state_len);
+    memcpy(run.length, items, sizeof run.length);
+    run.t = (uint16_t)items[3];
+    run.vertices = items[4];
+    run.quads = items[5];
+    run.planes = items[6];
+    return run;
+}
+
+static void put_run(uint32_t *state, size_t state_len, const struct run *run)
+{
+    uint32_t items[STATE];
+    memcpy(items, run->length, sizeof run->length);
+    items[3] = run->t;
+    items[4] = run->vertices;
+    items[5] = run->quads;
+    items[6] = run->planes;
+    put_words(state, state_len, items, STATE);
+}
+
+/* Only where the axes were accepted. */
+static uint32_t plane_size(const struct run *run)
+{
+    return run->length[0] * run->length[1];
+}
+
+static struct refusal check_run(const struct run *run)
+{
+    struct refusal refusal = check_axes(run->length[0], run->length[1], run->length[2]);
+    return refusal.number ? refusal : check_threshold(run->t);
+}
+
+static struct refusal check_work(const struct run *run, size_t work_len)
+{
+    uint32_t needed = WORK_PLANES * plane_size(run);
+    return work_len < needed ? refuse(15, needed) : accepted;
+}
+
+/* The refusals of a plane that do not hang on what this call needs. */
+static struct refusal check_plane(const struct run *run, size_t plane_len, size_t work_len)
+{
+    struct refusal refusal = check_run(run);
+    if (refusal.number)
+        return refusal;
+    if (run->planes >= run->length[2])
+        return refuse(17, run->length[2]);
+    if (plane_len != plane_size(run))
+        return refuse(2, plane_size(run));
+    return check_work(run, work_len);
+}
+
+/* The plane with up to two before it as a block, whose mesh is made in full. Of its vertices those from below on are of
+   the layer that the plane finishes, and so is each quad whose third vertex is one of them: that is the vertex in the
+   cube from which the edge starts. */
+struct part {
+    uint16_t *samples;
+    struct block block;
+    uint32_t kept, below, vertex_count, quad_count, *first, *words, *quads;
+    double *offsets;
+};
+
+static int is_in_part(const struct part *part, const uint32_t *quad)
+{
+    return quad[2] >= part->below;
+}
+
+/* In work stands first the last plane, one sample an item, and then the one before it. */
+static void stack_planes(struct part *part, const struct run *run, const uint16_t *plane, const uint32_t *work)
+{
+    size_t size = plane_size(run);
+    part->kept = run->planes < KEPT_PLANES ? run->planes : KEPT_PLANES;
+    part->samples = room_for((part->kept + 1) * size, sizeof *part->samples);
+    for (size_t from = 0; from < part->kept; from++)
+        for (size_t at = 0; at < size; at++)
+            part->samples[(part->kept - 1 - from) * size + at] = (uint16_t)work[from * size + at];
+    memcpy(part->samples + part->kept * size, plane, size * sizeof *plane);
+    part->block = block_of(run->length[0], run->length[1], part->kept + 1, part->samples, run->t);
+}
+
+/* The caller frees it. */
+static struct part part_of(const struct run *run, const uint16_t *plane, const uint32_t *work)
+{
+    struct part part;
+    uint32_t vertices, quads;
+    stack_planes(&part, run, plane, work);
+    part.first = room_for(cubes(&part.block) + 1, sizeof *part.first);
+    vertices = number_vertices(&part.block, part.first);
+    quads = number_quads(&part.block, NULL, NULL, NULL);
+    part.words = room_for(WORDS * (size_t)vertices, sizeof *part.words);
+    part.offsets = room_for(AXES * (size_t)vertices, sizeof *part.offsets);
+    part.quads = room_for(SIDES * (size_t)quads, sizeof *part.quads);
+    write_vertices(&part.block, part.words, part.offsets);
+    number_quads(&part.block, part.first, part.words, part.quads);
+    part.below = part.kept == KEPT_PLANES ? part.first[cube_number(&part.block, 0, 0, 1)] : 0;
+    part.vertex_count = vertices - part.below;
+    part.quad_count = 0;
+    for (size_t at = 0; at < SIDES * (size_t)quads; at += SIDES)
+        if (is_in_part(&part, part.quads + at)) {
+            memmove(part.quads + SIDES * (size_t)part.quad_count, part.quads + at, SIDES * sizeof *part.quads);
+            part.quad_count++;
+        }
+    return part;
+}
+
+static void free_part(struct part *part)
+{
+    free(part->samples);
+    free(part->first);
+    free(part->words);
+    free(part->offsets);
+    free(part->quads);
+}
+
+/* Cubes and vertices are numbered as in the whole block: its lowest layer here is that many layers up, and the first
+   vertex of the part is the next one of the run. */
+static void write_part(const struct part *part, const struct run *run, uint32_t *words, double *offsets,
+                       uint32_t *quads)
+{
+    uint32_t layer = (run->length[0] - 1) * (run->length[1] - 1), lower = (run->planes - part->kept) * layer;
+    for (size_t i = 0; i < part->vertex_count; i++) {
+        size_t vertex = part->below + i;
+        words[WORDS * i] = part->words[WORDS * vertex] + lower;
+        words[WORDS * i + 1] = part->words[WORDS * vertex + 1];
+        memcpy(offsets + AXES * i, part->offsets + AXES * vertex, AXES * sizeof *offsets);
+    }
+    for (size_t at = 0; at < SIDES * (size_t)part->quad_count; at++)
+        quads[at] = part->quads[at] - part->below + run->vertices;
+}
+
+static void keep_plane(const struct run *run, const uint16_t *plane, uint32_t *work)
+{
+    size_t size = plane_size(run);
+    memmove(work + size, work, size * sizeof *work);
+    for (size_t at = 0; at < size; at++)
+        work[at] = plane[at];
+}
+
+/* By which call of a run the layer of a cube is finished. */
+static uint32_t call_of(uint32_t cube, uint32_t layer)
+{
+    return cube / layer + 1;
+}
+
+void plain_cut(uint32_t nx, uint32_t ny, uint32_t nz, const uint32_t *words, uint32_t vertex_count,
+               const uint32_t *quads, uint32_t quad_count, uint32_t *vertices_of, uint32_t *quads_of,
+               uint32_t *in_order)
+{
+    uint32_t layer = (nx - 1) * (ny - 1);
+    size_t put = 0;
+    for (uint32_t call = 0; call < nz; call++) {
+        size_t before = put;
+        vertices_of[call] = 0;
+        for (size_t vertex = 0; vertex < vertex_count; vertex++)
+            vertices_of[call] += call_of(words[WORDS * vertex], layer) == call;
+        for (size_t at = 0; at < SIDES * (size_t)quad_count; at += SIDES)
+            if (call_of(words[WORDS * (size_t)quads[at + 2]], layer) == call) {
+                memcpy(in_order + SIDES * put, quads + at, SIDES * sizeof *quads);
+                put++;
+            }
+        quads_of[call] = (uint32_t)(put - before);
+    }
+}
+
 /* ---- the questions ---- */
 
 void plain_edge(uint16_t p, uint16_t q, uint16_t t, double *fraction, size_t fraction_len, uint32_t *answer,
@@ -923,6 +1100,56 @@ void plain_mesh(uint32_t nx, uint32_t ny, uint32_t nz, const uint16_t *samples, 
         say(answer, answer_len, 0, vertex_count, quad_count);
     }
     free(first);
+}
+
+void plain_start(uint32_t nx, uint32_t ny, uint32_t nz, uint16_t t, uint32_t *work, size_t work_len, uint32_t *state,
+                 size_t state_len, uint32_t *answer, size_t answer_len)
+{
+    struct run run = {{nx, ny, nz}, 0, 0, 0, t};
+    struct refusal refusal = check_run(&run);
+    (void)work;
+    if (!refusal.number)
+        refusal = check_work(&run, work_len);
+    if (!refusal.number)
+        put_run(state, state_len, &run);
+    say_refused(answer, answer_len, refusal);
+}
+
+void plain_plane(uint32_t *state, size_t state_len, const uint16_t *plane, size_t plane_len, uint32_t *work,
+                 size_t work_len, uint32_t *words, size_t words_len, double *offsets, size_t offsets_len,
+                 uint32_t *quads, size_t quads_len, uint32_t *answer, size_t answer_len)
+{
+    struct run run = run_of(state, state_len);
+    struct refusal refusal = check_plane(&run, plane_len, work_len);
+    struct part part;
+    if (refusal.number) {
+        say_refused(answer, answer_len, refusal);
+        return;
+    }
+    part = part_of(&run, plane, work);
+    if (words_len < WORDS * (size_t)part.vertex_count || offsets_len < AXES * (size_t)part.vertex_count) {
+        say(answer, answer_len, 5, part.vertex_count, 0);
+    } else if (quads_len < SIDES * (size_t)part.quad_count) {
+        say(answer, answer_len, 6, part.quad_count, 0);
+    } else {
+        write_part(&part, &run, words, offsets, quads);
+        keep_plane(&run, plane, work);
+        run.vertices += part.vertex_count;
+        run.quads += part.quad_count;
+        run.planes++;
+        put_run(state, state_len, &run);
+        say(answer, answer_len, 0, part.vertex_count, part.quad_count);
+    }
+    free_part(&part);
+}
+
+void plain_end(const uint32_t *state, size_t state_len, uint32_t *answer, size_t answer_len)
+{
+    struct run run = run_of(state, state_len);
+    if (run.planes < run.length[2])
+        say(answer, answer_len, 18, run.planes, 0);
+    else
+        say(answer, answer_len, 0, run.vertices, run.quads);
 }
 
 /* The answer about a list that is refused, or else whether it is closed. */

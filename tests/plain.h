@@ -43,6 +43,30 @@ void plain_mesh(uint32_t nx, uint32_t ny, uint32_t nz, const uint16_t *samples, 
                 uint32_t *words, size_t words_len, double *offsets, size_t offsets_len, uint32_t *quads,
                 size_t quads_len, uint32_t *answer, size_t answer_len);
 
+/* The mesh plane by plane. A state has seven words: nx, ny, nz, t, vertices so far, quads so far, planes taken; what is
+   missing is read as 0, and t modulo 65536. What stands in work is another matter than what the library puts there.
+   The start writes the state with no plane taken. Answer: 0, 0, 0. Refusals 1, 3, 15. */
+void plain_start(uint32_t nx, uint32_t ny, uint32_t nz, uint16_t t, uint32_t *work, size_t work_len, uint32_t *state,
+                 size_t state_len, uint32_t *answer, size_t answer_len);
+
+/* The next plane: the vertices of the layer that it finishes, from the front of the buffers, and the quads of the edges
+   along x and y on the layer's lower plane and along z within it. Answer: 0, vertices, quads of this call. Refusals 1,
+   3, 17, 2, 15, 5, 6, tried in this order; then state, work and buffers are kept. */
+void plain_plane(uint32_t *state, size_t state_len, const uint16_t *plane, size_t plane_len, uint32_t *work,
+                 size_t work_len, uint32_t *words, size_t words_len, double *offsets, size_t offsets_len,
+                 uint32_t *quads, size_t quads_len, uint32_t *answer, size_t answer_len);
+
+/* Both totals of a run. Answer: 0, vertices, quads. Refusal 18. */
+void plain_end(const uint32_t *state, size_t state_len, uint32_t *answer, size_t answer_len);
+
+/* The mesh of a whole block, as plain_mesh writes it, cut into what the nz calls of a run write. Call k writes so many
+   vertices and quads as stand at k afterwards. The vertices come as they stand in the mesh. The quads are put in the
+   order in which they come: a quad belongs to the call that finishes the layer of its third vertex, and the quads of
+   one call stay in the order of the mesh, which is by axis and then by lower sample. */
+void plain_cut(uint32_t nx, uint32_t ny, uint32_t nz, const uint32_t *words, uint32_t vertex_count,
+               const uint32_t *quads, uint32_t quad_count, uint32_t *vertices_of, uint32_t *quads_of,
+               uint32_t *in_order);
+
 /* The closed question: a side is in order if it has two different ends and, over all quads, as many sides run one way
    between them as the other. Answer: 0, 1, 0, 0 where the list is closed; 0, 0, quad, side of the first side at fault;
    or refusal 7, its value, 0, 0. */

@@ -1,9 +1,9 @@
 /* Runs the plain implementation on the paper's samples: the example block with its whole output, the nine cubes, the
    edges, the refusals, lists of quads and the table of faces; on samples at the ceiling, which are metal and leave a
-   mark; on rows of thresholds for the example block; on blocks whose crossed edges were worked out by hand or come from
-   a formula; on two samples that are joined across a face, whose mesh is closed; on the work of the closed question; on
-   the pieces of small lists that were worked out by hand and of the example's mesh; and on files of that mesh and of
-   the empty one. Prints each sample and its verdict; exits with 1 if one differs.
+   mark; on rows of thresholds for the example block; on that block plane by plane; on blocks whose crossed edges were
+   worked out by hand or come from a formula; on two samples that are joined across a face, whose mesh is closed; on the
+   work of the closed question; on the pieces of small lists that were worked out by hand and of the example's mesh; and
+   on files of that mesh and of the empty one. Prints each sample and its verdict; exits with 1 if one differs.
    Assumes nothing of the library. */
 #include "bench_cubes.h"
 #include "hand_blocks.h"
@@ -342,6 +342,120 @@ static void rows_of_thresholds(void)
     row("17, no room, an axis of 1: 16, value 17", bad, EXAMPLE_SAMPLES, 17, 0, 16, 17);
     row("room for 20, an axis of 1: 15, value 7", bad, EXAMPLE_SAMPLES, 7, 20, 15, 7);
     row("room for 20, a sample less: 15, value 7", good, EXAMPLE_SAMPLES - 1, 7, 20, 15, 7);
+}
+
+/* ---- planes ---- */
+
+enum { STATE = 7, EXAMPLE_PLANES = 3, EXAMPLE_PLANE = 9, EXAMPLE_WORK = 54 };
+
+/* What the calls for the example write: vertices, and quads in their order. */
+static const uint32_t vertices_of_calls[EXAMPLE_PLANES] = {0, 4, 4}, quads_of_calls[EXAMPLE_PLANES] = {0, 1, 5};
+static const uint32_t quads_in_calls[4 * EXAMPLE_QUADS] = {0, 2, 3, 1, 0, 4, 6, 2, 1, 3, 7, 5,
+                                                           0, 1, 5, 4, 2, 6, 7, 3, 4, 5, 7, 6};
+
+/* A run of the example, and its mesh as it grows. */
+struct growing {
+    uint32_t state[STATE], work[EXAMPLE_WORK], words[2 * EXAMPLE_VERTICES], quads[4 * EXAMPLE_QUADS], answer[ANSWER];
+    uint16_t samples[EXAMPLE_SAMPLES];
+    double offsets[3 * EXAMPLE_VERTICES];
+};
+
+static struct growing start_example(void)
+{
+    struct growing run;
+    memset(&run, 0, sizeof run);
+    example_block(run.samples);
+    plain_start(3, 3, 3, 100, run.work, EXAMPLE_WORK, run.state, STATE, run.answer, ANSWER);
+    return run;
+}
+
+/* The next plane, with room for so many vertices and quads behind those that there are. */
+static void grow(struct growing *run, uint32_t vertices, uint32_t quads)
+{
+    size_t plane = run->state[6] % EXAMPLE_PLANES, vertex = run->state[4], quad = run->state[5];
+    plain_plane(run->state, STATE, run->samples + EXAMPLE_PLANE * plane, EXAMPLE_PLANE, run->work, EXAMPLE_WORK,
+                run->words + 2 * vertex, 2 * vertices, run->offsets + 3 * vertex, 3 * vertices, run->quads + 4 * quad,
+                4 * quads, run->answer, ANSWER);
+}
+
+/* The parts of the example, the totals at each place, and that they are the whole mesh, cut. */
+static void parts_of_example(void)
+{
+    struct growing run = start_example();
+    uint32_t words[2 * EXAMPLE_VERTICES], quads[4 * EXAMPLE_QUADS], in_order[4 * EXAMPLE_QUADS], answer[ANSWER];
+    uint32_t vertices_of[EXAMPLE_PLANES], quads_of[EXAMPLE_PLANES];
+    double offsets[3 * EXAMPLE_VERTICES];
+    int is_good = says(run.answer, 0, 0, 0);
+    for (uint32_t k = 0; k < EXAMPLE_PLANES; k++) {
+        plain_end(run.state, STATE, answer, ANSWER);
+        is_good = is_good && says(answer, 18, k, 0);
+        grow(&run, vertices_of_calls[k], quads_of_calls[k]);
+        is_good = is_good && says(run.answer, 0, vertices_of_calls[k], quads_of_calls[k]);
+    }
+    verdict("the example plane by plane: 0, 4, 4 vertices", is_good);
+    verdict("its quads", memcmp(run.quads, quads_in_calls, sizeof quads_in_calls) == 0);
+    plain_end(run.state, STATE, answer, ANSWER);
+    verdict("its end: 8, 6", says(answer, 0, EXAMPLE_VERTICES, EXAMPLE_QUADS));
+    plain_mesh(3, 3, 3, run.samples, EXAMPLE_SAMPLES, 100, words, 2 * EXAMPLE_VERTICES, offsets, 3 * EXAMPLE_VERTICES,
+               quads, 4 * EXAMPLE_QUADS, answer, ANSWER);
+    verdict("its words and offsets are those of the mesh",
+            memcmp(words, run.words, sizeof words) == 0 && memcmp(offsets, run.offsets, sizeof offsets) == 0);
+    plain_cut(3, 3, 3, words, EXAMPLE_VERTICES, quads, EXAMPLE_QUADS, vertices_of, quads_of, in_order);
+    verdict("the mesh cut into calls", memcmp(vertices_of, vertices_of_calls, sizeof vertices_of) == 0 &&
+                                           memcmp(quads_of, quads_of_calls, sizeof quads_of) == 0 &&
+                                           memcmp(in_order, quads_in_calls, sizeof in_order) == 0);
+}
+
+/* A start with so much work. */
+static void started(const char *name, const uint32_t n[3], uint16_t t, size_t work_len, uint32_t number, uint32_t value)
+{
+    uint32_t work[1] = {0}, state[STATE], answer[ANSWER];
+    uint32_t wanted[STATE] = {n[0], n[1], n[2], t, 0, 0, 0};
+    for (size_t i = 0; i < STATE; i++)
+        state[i] = UNTOUCHED;
+    for (size_t i = 0; number != 0 && i < STATE; i++)
+        wanted[i] = UNTOUCHED;
+    plain_start(n[0], n[1], n[2], t, work, work_len, state, STATE, answer, ANSWER);
+    verdict(name, says(answer, number, value, 0) && memcmp(state, wanted, sizeof state) == 0);
+}
+
+static void starts(void)
+{
+    static const uint32_t good[3] = {3, 3, 3}, bad[3] = {3, 257, 1}, largest[3] = {256, 256, 256};
+    started("a start", good, 100, EXAMPLE_WORK, 0, 0);
+    started("the largest start", largest, 65534, 393216, 0, 0);
+    started("work of 53: 15, value 54", good, 100, 53, 15, 54);
+    started("work of 393215: 15, value 393216", largest, 1, 393215, 15, 393216);
+    started("a start with an axis of 257: 1, value 1", bad, 0, 0, 1, 1);
+    started("a start with t = 0: 3, value 0", good, 0, 0, 3, 0);
+    started("a start with t = 65535: 3, value 65535", good, CEILING, EXAMPLE_WORK, 3, CEILING);
+}
+
+/* A call that is refused, after so many planes of the example, and leaves all as it was. */
+static void plane_refused(const char *name, uint32_t taken, size_t plane_len, size_t work_len, size_t words_len,
+                          size_t offsets_len, size_t quads_len, uint32_t number, uint32_t value)
+{
+    struct growing run = start_example(), before;
+    uint32_t answer[ANSWER];
+    for (uint32_t k = 0; k < taken; k++)
+        grow(&run, vertices_of_calls[k], quads_of_calls[k]);
+    memcpy(&before, &run, sizeof before);
+    plain_plane(run.state, STATE, run.samples + EXAMPLE_PLANE * (taken % EXAMPLE_PLANES), plane_len, run.work, work_len,
+                run.words, words_len, run.offsets, offsets_len, run.quads, quads_len, answer, ANSWER);
+    verdict(name, says(answer, number, value, 0) && memcmp(&before, &run, sizeof run) == 0);
+}
+
+static void planes_refused(void)
+{
+    plane_refused("a fourth plane: 17, value 3", 3, EXAMPLE_PLANE, EXAMPLE_WORK, 8, 12, 20, 17, 3);
+    plane_refused("a fourth plane of 8, no work: 17", 3, 8, 0, 0, 0, 0, 17, 3);
+    plane_refused("a plane of 8: 2, value 9", 1, 8, EXAMPLE_WORK, 8, 12, 20, 2, EXAMPLE_PLANE);
+    plane_refused("a plane of 10, no work: 2, value 9", 0, 10, 0, 0, 0, 0, 2, EXAMPLE_PLANE);
+    plane_refused("a plane, work of 53: 15, value 54", 0, EXAMPLE_PLANE, 53, 0, 0, 0, 15, EXAMPLE_WORK);
+    plane_refused("no room, work of 53: 15, value 54", 2, EXAMPLE_PLANE, 53, 0, 0, 0, 15, EXAMPLE_WORK);
+    plane_refused("words for 3 vertices: 5, value 4", 2, EXAMPLE_PLANE, EXAMPLE_WORK, 7, 12, 0, 5, 4);
+    plane_refused("offsets for 3 vertices: 5, value 4", 2, EXAMPLE_PLANE, EXAMPLE_WORK, 8, 11, 20, 5, 4);
+    plane_refused("quads for none: 6, value 1", 1, EXAMPLE_PLANE, EXAMPLE_WORK, 8, 12, 3, 6, 1);
 }
 
 /* ---- crossed edges ---- */
@@ -696,6 +810,9 @@ int main(void)
     refusals();
     ceilings_of_blocks();
     rows_of_thresholds();
+    parts_of_example();
+    starts();
+    planes_refused();
     crossed_of_hand_blocks();
     crossed_of_formulas();
     lists();
