@@ -1,7 +1,7 @@
 /* Compares the library with the plain implementation on many random blocks, their crossed edges and rows of thresholds,
-   on edges, cubes, lists of quads and their pieces, lists of samples and meshes that become files: the answers, and
-   every byte of every lent buffer, with what is beside it. Of blocks that have a margin of one sign the mesh must be
-   closed.
+   on blocks that are handed over plane by plane, on edges, cubes, lists of quads and their pieces, lists of samples and
+   meshes that become files: the answers, and every byte of every lent buffer, with what is beside it. Of blocks that
+   have a margin of one sign the mesh must be closed.
    Usage: compare [blocks [seed [first block]]].
    From 20,000 blocks on it also tries what takes seconds, and fails if something that it should try never occurred. The
    last line is a summary, and the exit status is 0 only if nothing differed and nothing was missing.
@@ -18,9 +18,10 @@
 enum { DEFAULT_BLOCKS = 20000, DEFAULT_SEED = 1, ENOUGH_BLOCKS = 20000, LINE = 118, MOST_MISSING = 64 };
 
 static const char *const function_names[FUNCTIONS] = {
-    "parsniprow_edge",       "parsniprow_cube",     "parsniprow_crossed", "parsniprow_counts",
-    "parsniprow_thresholds", "parsniprow_mesh",     "parsniprow_closed",  "parsniprow_closed_with",
-    "parsniprow_pieces",     "parsniprow_ceilings", "parsniprow_ply",
+    "parsniprow_edge",       "parsniprow_cube",        "parsniprow_crossed", "parsniprow_counts",
+    "parsniprow_thresholds", "parsniprow_mesh",        "parsniprow_start",   "parsniprow_plane",
+    "parsniprow_end",        "parsniprow_closed",      "parsniprow_closed_with",
+    "parsniprow_pieces",     "parsniprow_ceilings",    "parsniprow_ply",
 };
 
 static uint64_t asked[FUNCTIONS][BESIDES], differences;
@@ -190,6 +191,8 @@ static void try_fixed(void)
     try_fixed_rooms();
     working_on(strcpy(occasion, "among the rows of thresholds that are asked once"));
     try_fixed_rows();
+    working_on(strcpy(occasion, "among the planes that are asked once"));
+    try_fixed_planes();
 }
 
 static void try_with_block(uint64_t seed, uint64_t block)
@@ -211,6 +214,8 @@ static void try_with_block(uint64_t seed, uint64_t block)
     try_pieces(&trial);
     try_room(&trial);
     try_rows(&trial);
+    if (block % 2 == 1)
+        try_planes(&trial);
 }
 
 static void print_missing(void)
@@ -221,7 +226,7 @@ static void print_missing(void)
 
 static int report(uint64_t blocks)
 {
-    uint64_t edges, cubes, lists, ceilings, files, margins, pieces, rooms, rows;
+    uint64_t edges, cubes, lists, ceilings, files, margins, pieces, rooms, rows, planes;
     char of_missing[40] = "";
     int enough = blocks >= ENOUGH_BLOCKS;
     tally_blocks();
@@ -234,6 +239,7 @@ static int report(uint64_t blocks)
     pieces = tally_pieces();
     rooms = tally_rooms();
     rows = tally_rows();
+    planes = tally_planes();
     tally_asked();
     printf("\n");
     if (enough) {
@@ -242,10 +248,11 @@ static int report(uint64_t blocks)
     }
     printf("compare: %llu blocks, %llu edges, %llu cubes, %llu lists of quads, %llu of samples, %llu files, "
            "%llu blocks with a margin, %llu lists for pieces, %llu blocks for room, %llu rows of thresholds, "
-           "%s%llu differences\n",
+           "%llu blocks plane by plane, %s%llu differences\n",
            (unsigned long long)blocks, (unsigned long long)edges, (unsigned long long)cubes, (unsigned long long)lists,
            (unsigned long long)ceilings, (unsigned long long)files, (unsigned long long)margins,
-           (unsigned long long)pieces, (unsigned long long)rooms, (unsigned long long)rows, of_missing,
+           (unsigned long long)pieces, (unsigned long long)rooms, (unsigned long long)rows,
+           (unsigned long long)planes, of_missing,
            (unsigned long long)differences);
     return differences > 0 || (enough && missing_count > 0);
 }
@@ -286,6 +293,8 @@ int main(int argc, char **argv)
         try_largest_blocks();
         working_on(strcpy(occasion, "with rows of thresholds for the largest block"));
         try_largest_rows();
+        working_on(strcpy(occasion, "with the planes of large blocks"));
+        try_largest_planes();
     }
     for (uint64_t block = first; block - first < blocks; block++)
         try_with_block(seed, block);

@@ -130,6 +130,12 @@ void hand_out(struct lent *lent)
     ALLOW_WRITING(start(lent), lent->inside);
 }
 
+void hand_out_to_change(struct lent *lent)
+{
+    FORBID(lent->room, lent->room_len);
+    ALLOW(start(lent), lent->inside);
+}
+
 /* The marks come last, since Valgrind takes a change of pages as a mark of its own. */
 void hand_out_to_read(struct lent *lent)
 {

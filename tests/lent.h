@@ -50,8 +50,10 @@ void give_back(struct lent *lent);
 /* The first lent item. */
 void *start(const struct lent *lent);
 
-/* Hands the buffer to a function that may write to it, or only read it: then every writing crashes. */
+/* Hands the buffer to a function that may write to it, and does not hang on what stands there; that may read and change
+   it; or that only reads it: then every writing crashes. */
 void hand_out(struct lent *lent);
+void hand_out_to_change(struct lent *lent);
 void hand_out_to_read(struct lent *lent);
 
 /* Takes the buffer back; the function should have written its first items, so many, as far as it reaches. */
