@@ -460,10 +460,15 @@ static void count_refused(const struct call *call, const struct due *due)
         tally.past_by_more += call->state[AT_PLANES] > call->state[AT_NZ];
 }
 
-/* Which axis the edge of a quad runs along: that in which the cubes of its first and its third vertex agree. */
-static unsigned axis_of(const struct run *run, const uint32_t *words, const uint32_t *quad)
+/* Which axis the edge of a quad runs along: that in which the cubes of its first and its third vertex agree. Where it
+   has a vertex that is not there, 3. */
+static unsigned axis_of(const struct run *run, const uint32_t *quad)
 {
-    uint32_t one = words[2 * (size_t)quad[0]], other = words[2 * (size_t)quad[2]];
+    uint32_t one, other;
+    if (quad[0] >= run->vertex_count || quad[2] >= run->vertex_count)
+        return 3;
+    one = run->words[2 * (size_t)quad[0]];
+    other = run->words[2 * (size_t)quad[2]];
     for (unsigned axis = 0; axis < 3; axis++) {
         uint32_t cubes = run->length[axis] - 1;
         if (one % cubes == other % cubes)
@@ -490,7 +495,7 @@ static void count_part(const struct run *run, const struct call *call)
         tally.many_in_cube += loops == LOOPS;
     }
     for (size_t i = 0; i < call->quad_count; i++)
-        tally.along[axis_of(run, run->words, call->quads + 4 * i) % 3]++;
+        tally.along[axis_of(run, call->quads + 4 * i) % 3]++;
     tally.exact += call->words_len == 2 * (size_t)call->vertex_count &&
                    call->offsets_len == 3 * (size_t)call->vertex_count &&
                    call->quads_len == 4 * (size_t)call->quad_count && call->vertex_count > 0;
@@ -678,7 +683,7 @@ static void compare_with_mesh(const struct run *run)
     asking("the comparison");
     for (unsigned axis = 0; axis < 3; axis++)
         for (size_t at = 0; at < quads; at += 4)
-            if (axis_of(run, run->words, run->got_quads + at) == axis && put < quads) {
+            if (axis_of(run, run->got_quads + at) == axis) {
                 memcpy(put_back + put, run->got_quads + at, 4 * sizeof *put_back);
                 put += 4;
             }
@@ -713,15 +718,20 @@ static void start_run(struct run *run, struct lying lying)
     memcpy(run->state, state, sizeof state);
 }
 
-/* From its start to its end, with nothing between. */
-static void lead_run(struct run *run)
+/* From its start through so many planes, with nothing between. */
+static void lead_run(struct run *run, uint32_t planes)
 {
     start_run(run, next_lying());
-    while (run->state[AT_PLANES] < run->length[2]) {
+    while (run->state[AT_PLANES] < planes) {
         struct call call = next_call(run);
         call.lying = next_lying();
         take_plane(run, &call);
     }
+}
+
+static void lead_whole_run(struct run *run)
+{
+    lead_run(run, run->length[2]);
     try_end(run->state, STATE, ANSWER, next_lying());
     compare_with_mesh(run);
 }
@@ -741,7 +751,7 @@ static void try_example(void)
         memcmp(run.quads, known, sizeof known) != 0)
         first_to_fail("plain does not cut the paper's block as it was by hand");
     for (unsigned beside = 0; beside < 2 * BESIDES; beside++) {
-        lead_run(&run);
+        lead_whole_run(&run);
         if (memcmp(run.got_quads, known, sizeof known) != 0)
             first_to_fail("not the quads of the paper's block that are known");
         tally.by_hand++;
@@ -749,8 +759,8 @@ static void try_example(void)
     end_run(&run);
 }
 
-/* The state of a start with so many items, and what a plane and an end make of it: without nx, ny and nz no axis is
-   right, without t no threshold; and without the planes taken each plane is the first. */
+/* So many items of a state after no, one or two planes, and what a plane and an end make of them: without nx, ny and nz
+   no axis is right, without t no threshold; and without the planes taken each plane is the first. */
 static void try_short_state(size_t state_len)
 {
     static const uint32_t length[3] = {3, 4, 3};
@@ -758,15 +768,14 @@ static void try_short_state(size_t state_len)
     struct run run;
     samples[4 + 12] = 400;
     run = new_run("a state that is too short", length, 100, samples);
-    for (unsigned again = 0; again < 2 * BESIDES; again++) {
+    for (uint32_t again = 0; again < 2 * BESIDES; again++) {
         struct start_call first = start_of(run.name, length, 100);
         struct call call;
-        start_run(&run, next_lying());
         first.state_len = state_len;
         first.lying = next_lying();
         try_start(&first);
+        lead_run(&run, again % length[2]);
         call = next_call(&run);
-        call.plane = samples + (again % 3) * plane_size(&run);
         call.state_len = state_len;
         call.lying = next_lying();
         try_call(&call);
@@ -822,7 +831,7 @@ static void try_hand_runs(void)
             continue;
         fill_hand_block(block, samples);
         run = new_run(block->name, block->length, block->t, samples);
-        lead_run(&run);
+        lead_whole_run(&run);
         if (run.state[AT_VERTICES] != block->vertices || run.state[AT_QUADS] != block->quads)
             first_to_fail(block->name);
         end_run(&run);
@@ -842,7 +851,7 @@ static void try_board(uint32_t nx, uint32_t ny, uint32_t nz)
         if (run.vertices_of[k] != (k == 0 ? 0 : most_vertices(length)) ||
             run.quads_of[k] != (k == 0 ? 0 : k == 1 ? (size_t)(nx - 2) * (ny - 2) : most_quads(length)))
             first_to_fail("plain does not cut a board as the formula does");
-    lead_run(&run);
+    lead_whole_run(&run);
     end_run(&run);
     free(samples);
     tally.fixed++;
@@ -878,7 +887,7 @@ static void try_large(uint32_t nx, uint32_t ny, uint32_t nz, enum kind kind, uin
     fill_block(&chance, kind, length, t, samples);
     add_ceilings(&chance, length, t, samples);
     run = new_run(kind_names[kind], length, t, samples);
-    lead_run(&run);
+    lead_whole_run(&run);
     end_run(&run);
     free(samples);
     tally.large++;
