@@ -1,6 +1,6 @@
-/* A caller of the installed library, in the words that C and C++ share: the paper's samples through each of the eleven
-   functions, in a thread with a stack of 64 KiB, which the header says is enough. Prints what is wrong and ends with
-   status 1, or ends with status 0.
+/* A caller of the installed library, in the words that C and C++ share: the paper's samples through each of the
+   fourteen functions, in a thread with a stack of 64 KiB, which the header says is enough. Prints what is wrong and
+   ends with status 1, or ends with status 0.
    Assumes the installed header and archive, and POSIX threads. */
 #define _POSIX_C_SOURCE 200809L
 
@@ -13,6 +13,7 @@
 enum { STACK = 65536, SAMPLES = 27, VERTICES = 8, MARKED_VERTICES = 9, QUADS = 6, MARK = 4096 };
 enum { EDGES = 6, MARKED_EDGES = 9, RESERVED = 4 * MARKED_EDGES / 3 };
 enum { THRESHOLDS = 7, MOST_THRESHOLDS = 16 };
+enum { PLANES = 3, PLANE = 9, PLANE_WORK = 6 * PLANE, PLANES_TAKEN = PARSNIPROW_STATE - 1 };
 enum { WORK = VERTICES + 4 * QUADS, FILE_BYTES = 466, HEAD_BYTES = 172 };
 
 static int faults;
@@ -138,6 +139,72 @@ static void ask_thresholds(void)
                                answers(row + 18, 0, VERTICES, QUADS));
 }
 
+/* The state has an item more than it needs. */
+static void ask_start(uint32_t *state, uint32_t *work)
+{
+    uint32_t answer[3] = {9, 9, 9};
+    for (size_t at = 0; at <= PARSNIPROW_STATE; at++)
+        state[at] = 99;
+    parsniprow_start(3, 3, 257, 0, work, 0, state, PARSNIPROW_STATE, answer, 3);
+    expect("a start with an axis that is none", answers(answer, 1, 2, 0) && state[0] == 99);
+    parsniprow_start(3, 3, 3, 65535, work, 0, state, PARSNIPROW_STATE, answer, 3);
+    expect("a start at a threshold that is none", answers(answer, 3, 65535, 0) && state[0] == 99);
+    parsniprow_start(3, 3, 3, 100, work, PLANE_WORK - 1, state, PARSNIPROW_STATE, answer, 3);
+    expect("a start with too little work", answers(answer, 15, PLANE_WORK, 0) && state[0] == 99);
+    parsniprow_start(3, 3, 3, 100, work, PLANE_WORK, state, PARSNIPROW_STATE + 1, answer, 3);
+    expect("a start", answers(answer, 0, 0, 0) && state[0] == 3 && state[3] == 100 && state[PLANES_TAKEN] == 0 &&
+                          state[PARSNIPROW_STATE] == 99);
+}
+
+/* A plane that needs room for four vertices and so many quads, or for nothing, where something else is missing. */
+static void ask_refused_plane(uint32_t *state, const uint16_t *plane, uint32_t *work, uint32_t quads)
+{
+    uint32_t words[2 * 4], list[4 * 5], answer[3] = {9, 9, 9};
+    double offsets[3 * 4];
+    parsniprow_plane(state, PARSNIPROW_STATE, plane, PLANE - 1, work, 0, words, 0, offsets, 0, list, 0, answer, 3);
+    expect("a plane with a sample less", answers(answer, 2, PLANE, 0));
+    parsniprow_plane(state, PARSNIPROW_STATE, plane, PLANE, work, 0, words, 0, offsets, 0, list, 0, answer, 3);
+    expect("a plane without work", answers(answer, 15, PLANE_WORK, 0));
+    if (quads == 0)
+        return;
+    parsniprow_plane(state, PARSNIPROW_STATE, plane, PLANE, work, PLANE_WORK, words, 2 * 4, offsets, 3 * 4 - 1, list, 0,
+                     answer, 3);
+    expect("a plane without room for its vertices", answers(answer, 5, 4, 0));
+    parsniprow_plane(state, PARSNIPROW_STATE, plane, PLANE, work, PLANE_WORK, words, 2 * 4, offsets, 3 * 4, list,
+                     4 * quads - 1, answer, 3);
+    expect("a plane without room for its quads", answers(answer, 6, quads, 0));
+}
+
+/* The paper's block plane by plane: the second plane finishes four vertices and a quad, the third the others. A plane
+   that is refused is handed over again. */
+static void ask_planes(void)
+{
+    static const uint32_t vertices[PLANES] = {0, 4, 4}, quads[PLANES] = {0, 1, 5};
+    uint16_t samples[SAMPLES] = {0};
+    uint32_t state[PARSNIPROW_STATE + 1], work[PLANE_WORK], words[2 * 4 + 1], list[4 * 5], answer[3] = {9, 9, 9};
+    double offsets[3 * 4];
+    samples[13] = 400;
+    words[2 * 4] = 99;
+    ask_start(state, work);
+    for (uint32_t k = 0; k < PLANES; k++) {
+        const uint16_t *plane = samples + PLANE * k;
+        parsniprow_end(state, PARSNIPROW_STATE, answer, 3);
+        expect("an end that comes too early", answers(answer, 18, k, 0));
+        ask_refused_plane(state, plane, work, quads[k]);
+        parsniprow_plane(state, PARSNIPROW_STATE, plane, PLANE, work, PLANE_WORK, words, 2 * 4 + 1, offsets, 3 * 4,
+                         list, 4 * 5, answer, 3);
+        expect("a plane", answers(answer, 0, vertices[k], quads[k]) && state[PLANES_TAKEN] == k + 1);
+        if (k == 1)
+            expect("its part", words[0] == 0 && words[1] == 0x888 && offsets[0] == 0.75 && list[1] == 2);
+    }
+    expect("the last part", words[0] == 4 && words[1] == 0x822 && words[8] == 99 && list[1] == 4 && list[19] == 6);
+    parsniprow_plane(state, PARSNIPROW_STATE, samples, PLANE, work, PLANE_WORK, words, 2 * 4, offsets, 3 * 4, list,
+                     4 * 5, answer, 3);
+    expect("a plane too many", answers(answer, 17, PLANES, 0));
+    parsniprow_end(state, PARSNIPROW_STATE, answer, 3);
+    expect("the end", answers(answer, 0, VERTICES, QUADS));
+}
+
 static void ask_closed(const uint32_t *quads)
 {
     static const uint32_t alone[4] = {0, 1, 2, 3};
@@ -237,6 +304,27 @@ static void ask_large(void)
                                                  answers(row + 3, 0, 0, 0) && answers(row + 45, 3, 0, 0));
 }
 
+/* Planes of 256 by 256 samples, one of metal in the second. */
+static void ask_large_planes(void)
+{
+    static uint16_t plane[256 * 256];
+    static uint32_t work[6 * 256 * 256];
+    uint32_t state[PARSNIPROW_STATE], words[2 * 4], list[4 * 5], answer[3] = {9, 9, 9};
+    double offsets[3 * 4];
+    size_t count = sizeof plane / sizeof *plane, work_len = sizeof work / sizeof *work;
+    memset(plane, 0, sizeof plane);
+    parsniprow_start(256, 256, 3, 100, work, work_len, state, PARSNIPROW_STATE, answer, 3);
+    expect("the start of a large block", answers(answer, 0, 0, 0));
+    for (uint32_t k = 0; k < PLANES; k++) {
+        plane[1 + 256] = k == 1 ? 400 : 0;
+        parsniprow_plane(state, PARSNIPROW_STATE, plane, count, work, work_len, words, 2 * 4, offsets, 3 * 4, list,
+                         4 * 5, answer, 3);
+        expect("a plane of a large block", answers(answer, 0, k == 0 ? 0 : 4, k == 0 ? 0 : k == 1 ? 1 : 5));
+    }
+    parsniprow_end(state, PARSNIPROW_STATE, answer, 3);
+    expect("the end of a large block", answers(answer, 0, VERTICES, QUADS));
+}
+
 static void *ask(void *unused)
 {
     uint32_t quads[4 * QUADS];
@@ -245,11 +333,13 @@ static void *ask(void *unused)
     ask_block(quads);
     ask_crossed();
     ask_thresholds();
+    ask_planes();
     ask_closed(quads);
     ask_closed_with(quads);
     ask_pieces(quads);
     ask_ply();
     ask_large();
+    ask_large_planes();
     return unused;
 }
 
