@@ -1,9 +1,10 @@
 /* Times the library and the plain implementation on one block. Usage: bench file nx ny nz t mesh.ply sealed.ply, the
    file raw little-endian 16-bit numbers, x fastest; or bench room file nx ny nz t, see room_... below; or bench
-   thresholds file nx ny nz t, see row_... below; or bench worst, see worst_... below. Writes the mesh to mesh.ply, with
-   a spacing of 0.1 millimetres along each axis. Where a sample on the six faces of the box is metal, the block is then
-   sealed: all samples there become 0. The mesh of the sealed block is written to sealed.ply; of a block that needs no
-   sealing there is no such file. Prints a line for each figure, its name and its value:
+   thresholds file nx ny nz t, see row_... below; or bench planes file nx ny nz t, see planes_... below; or bench worst,
+   see worst_... below. Writes the mesh to mesh.ply, with a spacing of 0.1 millimetres along each axis. Where a sample
+   on the six faces of the box is metal, the block is then sealed: all samples there become 0. The mesh of the sealed
+   block is written to sealed.ply; of a block that needs no sealing there is no such file. Prints a line for each figure,
+   its name and its value:
      crossed, rim, doubtful  crossed edges, steps out of the block from metal samples, faces with four crossed edges
      vertices, quads         of the mesh
      counts, mesh            seconds of the library's two calls; mesh writes into memory that was written to before
@@ -35,6 +36,17 @@
      cold_...                one, each and ratio, as those that begin with row_; but before each call, before the one
                              and before each of the 12, the block is flushed from the caches, which is not timed. Only
                              where the processor has clflush
+     planes_all              seconds of the library's calls start, plane for each plane of the block, and end, into the
+                             same buffers again and again, which have room for any layer and were written to before;
+                             bench planes prints this and the next seven, and nothing else
+     planes_mesh             seconds of the library's call mesh alone, into memory that was written to before
+     planes_both             seconds of the library's calls counts and mesh, into the same memory
+     planes_ratio            the first divided by the second, of one run; a run is the planes, then mesh, then counts
+                             and mesh, on the same samples; there is a line for each run, of this and the next two
+     planes_both_ratio       the first divided by the third
+     planes_slowest_ratio    the slowest call of the planes of a run divided by all its calls
+     planes_count            how many planes there are
+     planes_bytes            of the buffers that the planes are lent, the work among them; without the plane itself
      worst_...               vertices, quads, pieces, piece_count and longest of a list of quads that makes the longest
                              search as long as it can be; bench worst prints these alone. They are of no block, so
                              bench/run asks once
@@ -45,7 +57,7 @@
    may join two pieces, and the pieces' numbers, sizes and count must fit together. The crossed edges must be as many as
    are counted here from the samples alone, and as plain says. Three times the vertices may not be more than four times
    the crossed edges, nor the quads more than they are. In each run the one call for the thresholds and the 12 calls
-   must give the same counts. */
+   must give the same counts. The parts that the planes give must be the mesh when they are put together. */
 #define _POSIX_C_SOURCE 199309L
 
 #include "../include/parsniprow.h"
@@ -124,6 +136,14 @@ static void give_back(struct mesh *mesh)
     free(mesh->words);
     free(mesh->offsets);
     free(mesh->quads);
+}
+
+static int same(const struct mesh *a, const struct mesh *b)
+{
+    return a->vertex_count == b->vertex_count && a->quad_count == b->quad_count &&
+           memcmp(a->words, b->words, 2 * a->vertex_count * sizeof *a->words) == 0 &&
+           memcmp(a->offsets, b->offsets, 3 * a->vertex_count * sizeof *a->offsets) == 0 &&
+           memcmp(a->quads, b->quads, 4 * a->quad_count * sizeof *a->quads) == 0;
 }
 
 /* ---- the block ---- */
@@ -597,6 +617,191 @@ static void print_rows(void)
 #endif
 }
 
+/* The buffers of the planes, with room for any layer, the mesh of the block in memory of its own, and the slowest call
+   of the last run. */
+struct planes {
+    struct mesh layer, whole;
+    uint32_t *work;
+    size_t plane_size, work_size;
+    double slowest;
+};
+
+static struct planes room_for_planes(void)
+{
+    size_t nx = block.length[0], ny = block.length[1];
+    uint32_t counted[ANSWER], layer[ANSWER] = {0, 0, 0};
+    struct planes planes;
+    layer[1] = (uint32_t)(4 * (nx - 1) * (ny - 1));
+    layer[2] = (uint32_t)((nx - 1) * (ny - 2) + (nx - 2) * (ny - 1) + (nx - 2) * (ny - 2));
+    ask_counts(parsniprow_counts, counted);
+    planes.layer = room_for(layer);
+    planes.whole = room_for(counted);
+    planes.plane_size = nx * ny;
+    planes.work_size = 6 * planes.plane_size;
+    planes.work = taken(planes.work_size * sizeof *planes.work);
+    planes.slowest = 0.0;
+    fill(&planes.layer);
+    fill(&planes.whole);
+    memset(planes.work, 0xA5, planes.work_size * sizeof *planes.work);
+    return planes;
+}
+
+static void start_planes(const struct planes *planes, uint32_t *state)
+{
+    uint32_t answer[ANSWER];
+    parsniprow_start(block.length[0], block.length[1], block.length[2], block.t, planes->work, planes->work_size, state,
+                     PARSNIPROW_STATE, answer, ANSWER);
+    if (answer[0] != 0)
+        stop("the start of the planes was refused");
+}
+
+static void ask_plane(const struct planes *planes, uint32_t *state, uint32_t k, uint32_t *answer)
+{
+    const struct mesh *layer = &planes->layer;
+    parsniprow_plane(state, PARSNIPROW_STATE, block.samples + k * planes->plane_size, planes->plane_size, planes->work,
+                     planes->work_size, layer->words, 2 * layer->vertex_count, layer->offsets, 3 * layer->vertex_count,
+                     layer->quads, 4 * layer->quad_count, answer, ANSWER);
+    if (answer[0] != 0)
+        stop("a plane was refused");
+}
+
+static void end_planes(const struct planes *planes, const uint32_t *state)
+{
+    uint32_t answer[ANSWER];
+    parsniprow_end(state, PARSNIPROW_STATE, answer, ANSWER);
+    if (answer[0] != 0 || answer[1] != planes->whole.vertex_count || answer[2] != planes->whole.quad_count)
+        stop("the end of the planes differs from the counts");
+}
+
+/* The time of each plane is taken too, which is a small part of it. */
+static double planes_seconds(void *with)
+{
+    struct planes *planes = with;
+    uint32_t state[PARSNIPROW_STATE], answer[ANSWER];
+    double from = now(), before;
+    planes->slowest = 0.0;
+    start_planes(planes, state);
+    before = now();
+    for (uint32_t k = 0; k < block.length[2]; k++) {
+        double after;
+        ask_plane(planes, state, k, answer);
+        after = now();
+        planes->slowest = after - before > planes->slowest ? after - before : planes->slowest;
+        before = after;
+    }
+    end_planes(planes, state);
+    return now() - from;
+}
+
+static double planes_mesh_seconds(void *with)
+{
+    struct planes *planes = with;
+    return mesh_seconds(&planes->whole);
+}
+
+static double planes_both_seconds(void *with)
+{
+    struct planes *planes = with;
+    uint32_t answer[ANSWER];
+    double from = now();
+    ask_counts(parsniprow_counts, answer);
+    ask_mesh(parsniprow_mesh, &planes->whole);
+    return now() - from;
+}
+
+/* The axis of a quad's edge: that in which the cubes of its first and its third vertex agree. */
+static int axis_of(const uint32_t *words, const uint32_t *quad)
+{
+    uint32_t one = words[2 * (size_t)quad[0]], other = words[2 * (size_t)quad[2]];
+    for (int axis = 0; axis < 3; axis++) {
+        uint32_t cubes = block.length[axis] - 1;
+        if (one % cubes == other % cubes)
+            return axis;
+        one /= cubes;
+        other /= cubes;
+    }
+    return 3;
+}
+
+/* All parts of a run one behind the other, with the quads as they come. */
+static struct mesh parts_of(const struct planes *planes)
+{
+    uint32_t state[PARSNIPROW_STATE], answer[ANSWER] = {0, 0, 0};
+    const struct mesh *layer = &planes->layer;
+    struct mesh parts;
+    answer[1] = (uint32_t)planes->whole.vertex_count;
+    answer[2] = (uint32_t)planes->whole.quad_count;
+    parts = room_for(answer);
+    start_planes(planes, state);
+    for (uint32_t k = 0; k < block.length[2]; k++) {
+        size_t vertex = state[4], quad = state[5];
+        ask_plane(planes, state, k, answer);
+        if (vertex + answer[1] > parts.vertex_count || quad + answer[2] > parts.quad_count)
+            stop("the planes give more than the mesh has");
+        memcpy(parts.words + 2 * vertex, layer->words, 2 * (size_t)answer[1] * sizeof *layer->words);
+        memcpy(parts.offsets + 3 * vertex, layer->offsets, 3 * (size_t)answer[1] * sizeof *layer->offsets);
+        memcpy(parts.quads + 4 * quad, layer->quads, 4 * (size_t)answer[2] * sizeof *layer->quads);
+    }
+    end_planes(planes, state);
+    return parts;
+}
+
+/* The quads along x come first, then y, then z, each as they came. */
+static void check_parts(const struct planes *planes)
+{
+    struct mesh parts = parts_of(planes);
+    size_t bytes = 4 * parts.quad_count * sizeof *parts.quads, put = 0;
+    uint32_t *ordered = taken(bytes);
+    for (int axis = 0; axis < 3; axis++)
+        for (size_t at = 0; at < 4 * parts.quad_count; at += 4) {
+            if (parts.quads[at] >= parts.vertex_count || parts.quads[at + 2] >= parts.vertex_count)
+                stop("a quad of the planes has a vertex that is not there");
+            if (axis_of(parts.words, parts.quads + at) == axis) {
+                memcpy(ordered + put, parts.quads + at, 4 * sizeof *ordered);
+                put += 4;
+            }
+        }
+    if (put != 4 * parts.quad_count)
+        stop("a quad of the planes has no axis");
+    free(parts.quads);
+    parts.quads = ordered;
+    if (!same(&parts, &planes->whole))
+        stop("the parts of the planes are not the mesh");
+    give_back(&parts);
+}
+
+/* The three ways are asked by turns, as two are by by_turns. */
+static void print_planes(void)
+{
+    struct planes planes = room_for_planes();
+    double all = 1e9, mesh = 1e9, both = 1e9, spent = 0.0, ratios[3][MOST_RUNS];
+    const struct mesh *layer = &planes.layer;
+    int runs = 0;
+    for (; runs_again(runs, spent); runs++) {
+        double all_took = planes_seconds(&planes), mesh_took = planes_mesh_seconds(&planes);
+        double both_took = planes_both_seconds(&planes);
+        spent += all_took + mesh_took + both_took;
+        ratios[0][runs] = all_took / mesh_took;
+        ratios[1][runs] = all_took / both_took;
+        ratios[2][runs] = planes.slowest / all_took;
+        all = all_took < all ? all_took : all;
+        mesh = mesh_took < mesh ? mesh_took : mesh;
+        both = both_took < both ? both_took : both;
+    }
+    check_parts(&planes);
+    printf("planes_all %.9f\nplanes_mesh %.9f\nplanes_both %.9f\n", all, mesh, both);
+    for (int run = 0; run < runs; run++)
+        printf("planes_ratio %.6f\nplanes_both_ratio %.6f\nplanes_slowest_ratio %.6f\n", ratios[0][run],
+               ratios[1][run], ratios[2][run]);
+    printf("planes_count %u\n", (unsigned)block.length[2]);
+    printf("planes_bytes %zu\n", layer->vertex_count * (2 * sizeof *layer->words + 3 * sizeof *layer->offsets) +
+                                     4 * layer->quad_count * sizeof *layer->quads +
+                                     planes.work_size * sizeof *planes.work);
+    give_back(&planes.layer);
+    give_back(&planes.whole);
+    free(planes.work);
+}
+
 /* Puts a quad of one vertex and, three times, another. */
 static void put_pair(struct mesh *list, uint32_t first, uint32_t other)
 {
@@ -622,14 +827,6 @@ static void print_worst(void)
     free(list.quads);
 }
 #endif
-
-static int same(const struct mesh *a, const struct mesh *b)
-{
-    return a->vertex_count == b->vertex_count && a->quad_count == b->quad_count &&
-           memcmp(a->words, b->words, 2 * a->vertex_count * sizeof *a->words) == 0 &&
-           memcmp(a->offsets, b->offsets, 3 * a->vertex_count * sizeof *a->offsets) == 0 &&
-           memcmp(a->quads, b->quads, 4 * a->quad_count * sizeof *a->quads) == 0;
-}
 
 static void print_times(const char *file_name, int must_be_closed)
 {
@@ -704,10 +901,16 @@ int main(int argc, char **argv)
         free(block.samples);
         return 0;
     }
+    if (argc == 7 && strcmp(argv[1], "planes") == 0) {
+        block = read_block(argv + 2);
+        print_planes();
+        free(block.samples);
+        return 0;
+    }
 #endif
     if (argc != 8)
         stop("usage: bench file nx ny nz t mesh.ply sealed.ply, or bench room file nx ny nz t, "
-             "or bench thresholds file nx ny nz t, or bench worst");
+             "or bench thresholds file nx ny nz t, or bench planes file nx ny nz t, or bench worst");
     block = read_block(argv + 1);
     shape = shape_of_block();
     printf("crossed %zu\nrim %zu\ndoubtful %zu\n", shape.crossed, shape.rim, shape.doubtful);

@@ -1,6 +1,6 @@
 #!/usr/bin/python3
 """Prints the results of one run of the benchmark as Markdown. Usage: tables.py results part, the file that bench/run
-writes, and all, room or thresholds, which is what it has timed.
+writes, and all, room, thresholds or planes, which is what it has timed.
 
 Its lines, with tabs between the words: processor, compiler, library (the machine that its module was compiled for, or
 none); peer, key, name, package, version, and block or mesh, which is what it works on; figure, kind, size, name, value;
@@ -67,7 +67,7 @@ def with_ratio(block, seconds, time="whole", unit=1.0):
     return f"{shown} ({block[time] / seconds:.2f})" if time in block else shown
 
 
-# ---- the nine tables ----
+# ---- the ten tables ----
 
 def module_mark(words):
     """What the head of a column says of a library that is not the one that ships."""
@@ -254,11 +254,16 @@ def print_room_sizes(blocks):
                  "bytes of the mesh", "mesh / reserved"], rows)
 
 
+def spread_of(ratios):
+    """The lowest, the middle and the highest ratio of a run."""
+    return " / ".join(f"{ratio:.2f}" for ratio in (min(ratios), statistics.median(ratios), max(ratios)))
+
+
 def row_cells(block, word):
     """Both times, the ratio of these, and the lowest, the middle and the highest ratio of a run."""
-    one, each, ratios = block[f"{word}_one"], block[f"{word}_each"], block[f"{word}_ratios"]
-    spread = " / ".join(f"{ratio:.2f}" for ratio in (min(ratios), statistics.median(ratios), max(ratios)))
-    return [f"**{three_digits(1e3 * one)}**", three_digits(1e3 * each), f"{one / each:.2f}", spread]
+    one, each = block[f"{word}_one"], block[f"{word}_each"]
+    return [f"**{three_digits(1e3 * one)}**", three_digits(1e3 * each), f"{one / each:.2f}",
+            spread_of(block[f"{word}_ratios"])]
 
 
 def print_row_times(words, blocks):
@@ -271,6 +276,22 @@ def print_row_times(words, blocks):
     for (kind, size), block in blocks.items():
         rows.append([f"{kind} {size}"] + row_cells(block, "row") + (row_cells(block, "cold") if is_cold else []))
     print_table(["block"] + heads + ([f"block not in the cache, {head}" for head in heads] if is_cold else []), rows)
+
+
+def print_planes_times(words, blocks):
+    mark = module_mark(words)
+    rows = []
+    for (kind, size), block in blocks.items():
+        planes, mesh, both = (block[f"planes_{name}"] for name in ("all", "mesh", "both"))
+        rows.append([f"{kind} {size}", f"**{three_digits(1e3 * planes)}**", three_digits(1e3 * mesh),
+                     f"{planes / mesh:.2f}", spread_of(block["planes_ratios"]), three_digits(1e3 * both),
+                     f"{planes / both:.2f}", spread_of(block["planes_both_ratios"]),
+                     percent(statistics.median(block["planes_slowest_ratios"]), 1),
+                     percent(1, block["planes_count"]), whole(block["planes_bytes"])])
+    print_table(["block", f"all planes{mark}, ms", f"mesh{mark}, ms", "planes / mesh",
+                 "of the runs: lowest / middle / highest", f"counts + mesh{mark}, ms", "planes / counts + mesh",
+                 "of the runs: lowest / middle / highest", "slowest plane, of all", "a plane, were all alike",
+                 "bytes of the planes' buffers"], rows)
 
 
 # ---- what the meshes must have in common ----
@@ -437,6 +458,26 @@ housings 17500 to 28500, for noise 27268 to 38268.
 - No time makes the benchmark fail.
 """
 
+PLANES_TEXT = """
+Plane by plane. All times here are milliseconds. `all planes` are the library's calls `parsniprow_start`, then
+`parsniprow_plane` for each plane of the block, then `parsniprow_end`. `mesh` is the call `parsniprow_mesh` alone, and
+`counts + mesh` are the two calls that a caller makes who knows nothing of the block. All buffers were written to
+before, and no memory is taken within a time.
+
+- The planes write into the same buffers again and again. These have room for any layer, by the lengths that the header
+  gives, and the last column has their bytes with the work, but without the plane itself.
+- The three ways are asked by turns in one process, on the same samples in the same memory, as `crossed` and `counts`
+  are. A run is one of each. A round is 15 runs, or as many as begin within half a second, at least 2. Each round is a
+  process of its own. A time is the best of two rounds.
+- A ratio of two columns is the best time of the one divided by the best time of the other. Each run has ratios of its
+  own too: the lowest, the middle and the highest are those of all runs of both rounds.
+- `slowest plane` is the slowest single call of a run divided by all calls of that run, the median over the runs. Beside
+  it stands what it would be if all planes took the same time.
+- Checked: the vertices of all planes are those of the mesh, in order and bit by bit, and so are the quads when those
+  along x are put first, then y, then z. The totals are the counts.
+- No time makes the benchmark fail.
+"""
+
 SIZES_TEXT = """
 What each program made. A doubtful face is one with four crossed edges. Checked: Flying Edges has a point for each
 crossed edge, OpenVDB a quad for each crossed edge and for each step out of the block from metal, Marching Cubes 99 to
@@ -460,14 +501,22 @@ def print_thresholds(words, blocks):
     print_row_times(words, blocks)
 
 
+def print_planes(words, blocks):
+    print_text(PLANES_TEXT)
+    print_planes_times(words, blocks)
+
+
+PARTS = {"room": print_room, "thresholds": print_thresholds, "planes": print_planes}
+
+
 def main():
-    if len(sys.argv) != 3 or sys.argv[2] not in ("all", "room", "thresholds"):
-        sys.exit("usage: tables.py results all, or tables.py results room, or tables.py results thresholds")
+    if len(sys.argv) != 3 or sys.argv[2] not in ("all", *PARTS):
+        sys.exit("usage: tables.py results all, or one of " + ", ".join(PARTS) + " in place of all")
     words, every_peer, blocks = read_results(sys.argv[1])
     peers = {key: peer for key, peer in every_peer.items() if peer["version"] != "-"}
     print_heading(words, peers, [peer for key, peer in every_peer.items() if key not in peers])
     if sys.argv[2] != "all":
-        {"room": print_room, "thresholds": print_thresholds}[sys.argv[2]](words, blocks)
+        PARTS[sys.argv[2]](words, blocks)
         return
     makers = {key: peer for key, peer in peers.items() if peer["given"] == "block"}
     print_text(TIMES_TEXT)
@@ -483,8 +532,8 @@ def main():
     print_pieces(words, blocks)
     if words["library"] != "none":
         print_worst(words)
-        print_room(words, blocks)
-        print_thresholds(words, blocks)
+        for print_part in PARTS.values():
+            print_part(words, blocks)
     print_text(SIZES_TEXT)
     print_sizes(makers, blocks)
     wrong = faults(peers, blocks) + closed_faults(blocks)

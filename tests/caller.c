@@ -198,8 +198,7 @@ static void ask_planes(void)
             expect("its part", words[0] == 0 && words[1] == 0x888 && offsets[0] == 0.75 && list[1] == 2);
     }
     expect("the last part", words[0] == 4 && words[1] == 0x822 && words[8] == 99 && list[1] == 4 && list[19] == 6);
-    parsniprow_plane(state, PARSNIPROW_STATE, samples, PLANE, work, PLANE_WORK, words, 2 * 4, offsets, 3 * 4, list,
-                     4 * 5, answer, 3);
+    parsniprow_plane(state, PARSNIPROW_STATE, samples, PLANE - 1, work, 0, words, 0, offsets, 0, list, 0, answer, 3);
     expect("a plane too many", answers(answer, 17, PLANES, 0));
     parsniprow_end(state, PARSNIPROW_STATE, answer, 3);
     expect("the end", answers(answer, 0, VERTICES, QUADS));
