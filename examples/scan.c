@@ -1,10 +1,11 @@
 /* The scan tool: reads a raw block of 16-bit grey values, has the library draw the surface between metal and hollow,
    and writes how many vertices and quads it has, whether it is closed, and in how many pieces it comes; on request also
    the vertices and quads themselves, as plain text or as a PLY file for a viewer, a table of the pieces, and how many
-   vertices and quads there are at other thresholds. Or it makes no mesh, and writes how much room one takes at most.
+   vertices and quads there are at other thresholds. Or it reads the block plane by plane, so that it never holds more
+   than a layer of the mesh. Or it makes no mesh, and writes how much room one takes at most.
    Usage: scan FILE NX NY NZ THRESHOLD BYTE-ORDER [--mesh OUT] [--ply OUT --spacing X Y Z [--piece NUMBER]]
-   [--pieces OUT] [--thresholds LIST], or scan FILE NX NY NZ THRESHOLD BYTE-ORDER --room; "scan --help" says what each
-   of them is.
+   [--pieces OUT] [--thresholds LIST], or scan FILE NX NY NZ THRESHOLD BYTE-ORDER --by-planes [--ply OUT --spacing X Y
+   Z], or scan FILE NX NY NZ THRESHOLD BYTE-ORDER --room; "scan --help" says what each of them is.
    Assumes a POSIX system, and the library linked in (include/parsniprow.h).
 
    Standard output is the record, in lines of a word and what it says: what was asked, and the library's answer.
@@ -26,6 +27,11 @@
      at T vertices COUNT quads COUNT      the mesh at T
      at T refused NUMBER value VALUE      there is no mesh at T, and the other lines hold all the same
    LIST is 1 to 16 numbers with a comma between each two. Where THRESHOLD is refused, no threshold of LIST is told.
+   With --by-planes FILE is read plane by plane, and the mesh is never held as a whole. So the lines closed and pieces
+   are missing. All other lines are as without it. A PLY file has the same vertices, byte for byte, and the same quads;
+   these stand in the order in which they come, by plane and then by axis. For a PLY file FILE is read twice, first to
+   count and then to write, so it must be a file and no pipe. --mesh, --pieces, --piece and --thresholds do not go with
+   --by-planes.
    With --room no mesh is made. In place of the lines from vertices to ply the record has:
      crossed COUNT                        how many edges of the block are crossed, those on the sides of the box too
      vertices-at-most COUNT               the mesh has no more: a vertex joins at least three crossed edges, and an edge
@@ -73,7 +79,8 @@
 
 enum { ANSWER = 3, CLOSED_ANSWER = 4, AXES = 3 };
 enum { BYTES_A_SAMPLE = 2, WORDS_A_VERTEX = 2, OFFSETS_A_VERTEX = 3, VERTICES_A_QUAD = 4 };
-enum { LEAST_EDGES_A_VERTEX = 3, MOST_CUBES_AN_EDGE = 4 };
+enum { LEAST_EDGES_A_VERTEX = 3, MOST_CUBES_AN_EDGE = 4, MOST_VERTICES_A_CUBE = 4, WORK_PLANES = 6 };
+enum { PLY_BYTES_A_VERTEX = 24, PLY_BYTES_A_QUAD = 17, MOST_PLY_HEAD = 256, VERTICES_SO_FAR = 4, QUADS_SO_FAR = 5 };
 enum { NO_REFUSAL, BAD_AXIS, BAD_COUNT, BAD_THRESHOLD, BAD_SPACING = 13, NO_ROOM = 15 };
 enum { STATUS_MESH, STATUS_FAILED, STATUS_ARGUMENTS, STATUS_REFUSED };
 enum { ARGUMENTS = 6, MOST_THRESHOLDS = 16, LENGTH = 1, MOST_AT_ONCE = 1 << 20, MEGABYTE = 1000000 };
@@ -81,14 +88,15 @@ enum { MARK = 1 << 12 }; /* in the word of a vertex */
 
 /* What was asked. Names as shown are one line, whatever the file is called. The spacing is that of the PLY file, if one
    is asked for, and the piece is the one that it is to have; as text they are null where they are not given. The mesh
-   is at the threshold. The list has the thresholds of --thresholds. Where it is for room, no mesh is made. */
+   is at the threshold. The list has the thresholds of --thresholds. Where it is for room, no mesh is made. Where it is
+   by planes, the block and its mesh are never held as a whole. */
 struct request {
     const char *file, *file_shown, *byte_order, *spacing_text[AXES], *piece_text;
     uint32_t length[AXES], piece;
     uint16_t threshold, listed[MOST_THRESHOLDS];
     size_t listed_count;
     double spacing[AXES];
-    int is_for_room;
+    int is_for_room, is_by_planes;
 };
 
 struct block {
@@ -117,6 +125,19 @@ struct mesh {
     uint64_t ply_len;
 };
 
+/* A scan that is read plane by plane: how many bytes have been read, a number by which two readings that differ are
+   told apart, as far as no one means to deceive, and room for a plane; the library's state and work; and room for the
+   part of the mesh that a plane gives. In the part, ply is room for its vertices as a PLY file. */
+struct run {
+    int file;
+    uint64_t read_count, wanted, fingerprint;
+    unsigned char *bytes;
+    uint16_t *samples;
+    size_t plane_size, work_len, words_len, offsets_len, quads_len, ply_len;
+    uint32_t state[PARSNIPROW_STATE], *work;
+    struct mesh part;
+};
+
 /* The crossed edges of a block, and how large they let the mesh become at most. */
 struct bounds {
     uint64_t edge_count, vertex_count, quad_count, bytes;
@@ -124,12 +145,13 @@ struct bounds {
 
 /* ---- progress, told by a clock, so that it is told within a long call too ---- */
 
-enum stage { OPENING, READING, COUNTING, MESHING, CHECKING, FINDING, LISTING, CHECKING_EACH, DRAWING, WRITING };
+enum stage { OPENING, READING, COUNTING, MESHING, CHECKING, FINDING, LISTING, CHECKING_EACH, DRAWING, TAKING, WRITING };
 enum { WHOLE = 100, NO_PERCENT = 127, STAGE_STEP = 128 };
 
 static const char *const stage_names[] = {"opening the file", "reading", "counting", "making the mesh",
                                           "checking its sides", "finding the pieces", "listing the pieces",
-                                          "checking the sides of each piece", "making the PLY file", "writing"};
+                                          "checking the sides of each piece", "making the PLY file",
+                                          "taking the planes", "writing"};
 /* stage and percent in one number, so that the clock never sees the one change without the other */
 static volatile sig_atomic_t progress;
 static struct timespec started;
@@ -302,6 +324,7 @@ static void help(void)
 {
     puts("target/scan FILE NX NY NZ THRESHOLD BYTE-ORDER [--mesh OUT] [--ply OUT --spacing X Y Z [--piece NUMBER]]\n"
          "            [--pieces OUT] [--thresholds LIST]\n"
+         "target/scan FILE NX NY NZ THRESHOLD BYTE-ORDER --by-planes [--ply OUT --spacing X Y Z]\n"
          "target/scan FILE NX NY NZ THRESHOLD BYTE-ORDER --room\n"
          "\n"
          "Draws the surface between metal and hollow in a scan as a mesh of quads, and writes how many vertices and\n"
@@ -324,6 +347,9 @@ static void help(void)
          "  --thresholds LIST\n"
          "              also says how many vertices and quads there are at each threshold of LIST, to choose one by.\n"
          "              LIST is 1 to 16 numbers with commas between them and no spaces\n"
+         "  --by-planes\n"
+         "              reads the scan plane by plane and holds one layer of the mesh at a time, for scans that are\n"
+         "              too large otherwise. Goes with --ply and with no other option\n"
          "  --room      makes no mesh, and says how much room it takes at most. Goes with no other option\n"
          "\n"
          "OUT must not be there yet. More than one file can be asked for, each under a name of its own.");
@@ -334,6 +360,7 @@ static void help(void)
          "  target/scan housing.raw 256 256 200 23000 little --ply housing.ply --spacing 0.125 0.125 0.2\n"
          "  target/scan housing.raw 256 256 200 23000 little --pieces housing-pieces.csv\n"
          "  target/scan housing.raw 256 256 200 23000 little --thresholds 21000,22000,23000,24000,25000\n"
+         "  target/scan housing.raw 256 256 200 23000 little --by-planes --ply housing.ply --spacing 0.1 0.1 0.1\n"
          "  target/scan housing.raw 256 256 200 23000 little --room\n"
          "\n"
          "Standard output has what was asked, then the lines \"values\", \"ceiling\", \"vertices\", \"quads\",\n"
@@ -370,6 +397,12 @@ static void help(void)
          "all files are at THRESHOLD.\n"
          "The lines that begin with \"at\" are for choosing a threshold. Run the tool with the one that you choose,\n"
          "and enter that record beside the claim. Compare two housings only at the same threshold.");
+    puts("\n"
+         "With --by-planes the lines \"closed\" and \"pieces\" are missing: they need the whole mesh at once. All\n"
+         "other lines are as without it. The PLY file has the same vertices in the same order. It has the same quads\n"
+         "in the order in which they come: by plane, and for each plane first those around edges along x, then y,\n"
+         "then z. For a PLY file FILE is read twice, once to count and once to write. So it must be a file that can\n"
+         "be read twice, and no pipe.");
     puts("\n"
          "With --room four other lines follow the line \"ceiling\". The line \"crossed\" says how many edges are\n"
          "crossed. An edge joins two values that are neighbours along x, y or z. It is crossed if one is metal and\n"
@@ -474,6 +507,11 @@ static int read_option(struct request *request, char **words, int left)
         request->is_for_room = 1;
         return 0;
     }
+    if (strcmp(words[0], "--by-planes") == 0) {
+        check_option(words[0], request->is_by_planes, 1, "nothing");
+        request->is_by_planes = 1;
+        return 0;
+    }
     if (strcmp(words[0], "--piece") == 0) {
         check_option(words[0], request->piece_text != NULL, left >= 1, "the NUMBER of a piece");
         request->piece = number("NUMBER of --piece", words[1], UINT32_MAX, "0 to 4294967295");
@@ -486,8 +524,8 @@ static int read_option(struct request *request, char **words, int left)
         return 1;
     }
     if (strcmp(words[0], "--spacing") != 0)
-        fail(STATUS_ARGUMENTS, "\"%s\" stands where only --mesh, --ply, --pieces, --spacing, --piece, --thresholds and "
-             "--room can.", shown(words[0]));
+        fail(STATUS_ARGUMENTS, "\"%s\" stands where only --mesh, --ply, --pieces, --spacing, --piece, --thresholds, "
+             "--by-planes and --room can.", shown(words[0]));
     check_option(words[0], request->spacing_text[0] != NULL, left >= AXES, "X, Y and Z");
     read_spacing(request, words + 1);
     return AXES;
@@ -502,6 +540,18 @@ static void check_names(void)
                      outs[other].option, outs[other].shown);
 }
 
+/* What goes with --by-planes is had from one layer of the mesh at a time. */
+static void check_by_planes(const struct request *request)
+{
+    const char *other = outs[MESH_FILE].name ? "--mesh" : outs[PIECES_FILE].name ? "--pieces" : "--piece";
+    if (outs[MESH_FILE].name || outs[PIECES_FILE].name || request->piece_text)
+        fail(STATUS_ARGUMENTS, "--by-planes is given together with %s, which needs the whole mesh at once. Leave out "
+             "one of them.", other);
+    if (request->listed_count > 0)
+        fail(STATUS_ARGUMENTS, "--by-planes is given together with --thresholds, which needs the whole scan at once. "
+             "Leave out one of them.");
+}
+
 static void read_options(struct request *request, int given, char **words)
 {
     for (int at = 0; at < given; at++)
@@ -511,6 +561,8 @@ static void read_options(struct request *request, int given, char **words)
         fail(STATUS_ARGUMENTS, "--room is given together with %s, and with --room no mesh is made. Ask for one of them "
              "at a time.", other);
     }
+    if (request->is_by_planes)
+        check_by_planes(request);
     if (outs[PLY_FILE].name && !request->spacing_text[0])
         fail(STATUS_ARGUMENTS, "--ply is given without --spacing X Y Z, the millimetres from one value to the next.");
     if (request->spacing_text[0] && !outs[PLY_FILE].name)
@@ -563,13 +615,15 @@ static void put_values(FILE *to, const struct block *block)
     fprintf(to, "ceiling %" PRIu32 "\n", block->ceiling_count);
 }
 
-static void put_counts(FILE *to, const struct block *block, const struct mesh *mesh)
+static void put_counts(FILE *to, const struct request *request, const struct block *block, const struct mesh *mesh)
 {
     put_values(to, block);
     fprintf(to, "vertices %" PRIu32 "\n", mesh->vertex_count);
     fprintf(to, "quads %" PRIu32 "\n", mesh->quad_count);
-    fprintf(to, "closed %s\n", mesh->is_closed ? "yes" : "no");
-    fprintf(to, "pieces %" PRIu32 "\n", mesh->piece_count);
+    if (!request->is_by_planes) {
+        fprintf(to, "closed %s\n", mesh->is_closed ? "yes" : "no");
+        fprintf(to, "pieces %" PRIu32 "\n", mesh->piece_count);
+    }
     fprintf(to, "marked %" PRIu32 "\n", mesh->marked_count);
     if (outs[PLY_FILE].name)
         fprintf(to, "ply %" PRIu64 "\n", mesh->ply_len);
@@ -614,6 +668,7 @@ static void refuse(const struct request *request, const uint32_t *answer)
         advise_on_spacing(request, answer[1]);
     else /* no other can come about: samples, room and mesh are as the library says */
         printf("note This is a fault of the scan tool and not of the scan. Report it together with these lines.\n");
+    remove_parts();
     finish(STATUS_REFUSED);
 }
 
@@ -662,15 +717,25 @@ static void note_row(const struct request *request, const uint32_t *row)
         printf("note No quads at a threshold does not mean no pore. Compare that threshold with the values.\n");
 }
 
+/* What the record does not say, and how the file differs. */
+static void note_by_planes(void)
+{
+    printf("note The mesh was made plane by plane. So it is not said whether it is closed, nor in how many pieces it "
+           "comes. A run without --by-planes says both.\n");
+    if (outs[PLY_FILE].name)
+        printf("note The quads of the PLY file stand in the order in which the planes give them. They are the same as "
+               "without --by-planes.\n");
+}
+
 static void report(const struct request *request, const struct block *block, const struct mesh *mesh,
                    const uint32_t *row)
 {
     put_request(stdout, request);
-    put_counts(stdout, block, mesh);
+    put_counts(stdout, request, block, mesh);
     put_row(request, row);
     if (block->ceiling_count > 0)
         note_ceilings(request, block, mesh);
-    if (!mesh->is_closed)
+    if (!request->is_by_planes && !mesh->is_closed)
         printf("note The mesh is open, which is no finding: a side of the box cuts a surface off. With a margin round "
                "the part, of nothing but metal or nothing but air, the mesh is closed.\n");
     if (mesh->quad_count == 0) {
@@ -683,6 +748,8 @@ static void report(const struct request *request, const struct block *block, con
                "a pore that a side of the box cuts may be several. docs/FOR-ASSESSORS.md says how to read them.\n");
     if (request->listed_count > 0)
         note_row(request, row);
+    if (request->is_by_planes)
+        note_by_planes();
     finish(STATUS_MESH);
 }
 
@@ -731,6 +798,12 @@ static int open_block(const struct request *request, uint64_t wanted)
     return file;
 }
 
+static void unreadable(const struct request *request)
+{
+    fail(STATUS_FAILED, "%s could not be read to its end: %s. Copy it from where it came from once more.",
+         request->file_shown, strerror(errno));
+}
+
 /* Reads one byte more than is wanted, if there is one: a file can change while it is read, and a pipe has no length. */
 static void read_bytes(const struct request *request, struct block *block)
 {
@@ -745,8 +818,7 @@ static void read_bytes(const struct request *request, struct block *block)
         have += got > 0 ? (size_t)got : 0;
     }
     if (got < 0)
-        fail(STATUS_FAILED, "%s could not be read to its end: %s. Copy it from where it came from once more.",
-             request->file_shown, strerror(errno));
+        unreadable(request);
     if (have < wanted)
         wrong_length(request, "ended after", have, wanted);
     if (have > wanted)
@@ -754,19 +826,25 @@ static void read_bytes(const struct request *request, struct block *block)
     close(file);
 }
 
-static void read_block(const struct request *request, struct block *block)
+/* So many samples from their bytes. The block's least and greatest value become those of these samples too. */
+static void read_samples(const struct request *request, const unsigned char *bytes, uint16_t *samples, size_t count,
+                         struct block *block)
 {
     size_t low = strcmp(request->byte_order, "big") == 0 ? 1 : 0, high = 1 - low;
-    read_bytes(request, block);
-    block->samples = room(block->count * sizeof *block->samples, block->count * sizeof *block->samples, "The scan");
-    block->least = UINT16_MAX;
-    for (size_t index = 0; index < block->count; index++) {
-        const unsigned char *at = block->bytes + BYTES_A_SAMPLE * index;
+    for (size_t index = 0; index < count; index++) {
+        const unsigned char *at = bytes + BYTES_A_SAMPLE * index;
         uint16_t value = (uint16_t)(at[low] | at[high] << 8);
-        block->samples[index] = value;
+        samples[index] = value;
         block->least = value < block->least ? value : block->least;
         block->greatest = value > block->greatest ? value : block->greatest;
     }
+}
+
+static void read_block(const struct request *request, struct block *block)
+{
+    read_bytes(request, block);
+    block->samples = room(block->count * sizeof *block->samples, block->count * sizeof *block->samples, "The scan");
+    read_samples(request, block->bytes, block->samples, block->count, block);
     free(block->bytes);
     block->bytes = NULL;
 }
@@ -872,6 +950,14 @@ static struct bounds bound_mesh(const struct request *request, const struct bloc
     return bounds;
 }
 
+static uint32_t count_marks(const struct mesh *mesh)
+{
+    uint32_t count = 0;
+    for (size_t vertex = 0; vertex < mesh->vertex_count; vertex++)
+        count += (mesh->words[WORDS_A_VERTEX * vertex + 1] & MARK) != 0;
+    return count;
+}
+
 static void make_mesh(const struct request *request, const struct block *block, struct mesh *mesh)
 {
     const uint32_t *length = request->length;
@@ -890,8 +976,7 @@ static void make_mesh(const struct request *request, const struct block *block, 
         refuse(request, answer);
     if (answer[1] != mesh->vertex_count || answer[2] != mesh->quad_count)
         fail(STATUS_FAILED, "The mesh is not as large as it was counted. This is a fault of the scan tool: report it.");
-    for (size_t vertex = 0; vertex < mesh->vertex_count; vertex++)
-        mesh->marked_count += (mesh->words[WORDS_A_VERTEX * vertex + 1] & MARK) != 0;
+    mesh->marked_count = count_marks(mesh);
 }
 
 /* Whether the quads over so many vertices are closed. The library works in memory with an item for each vertex and one
@@ -1146,7 +1231,7 @@ static int put_mesh(FILE *to, const struct request *request, const struct block 
           "# A vertex whose mask begins with 1 is marked: a corner of its cube is 65535, the detector's ceiling.\n"
           "# Nothing is smoothed. No quads does not mean no pore: a pore at the edge of the box has none.\n", to);
     put_request(to, request);
-    put_counts(to, block, mesh);
+    put_counts(to, request, block, mesh);
     for (size_t vertex = 0; vertex < mesh->vertex_count; vertex++) {
         advance(WRITING, vertex, all);
         if (!put_vertex(to, request, mesh, vertex))
@@ -1193,6 +1278,12 @@ static int put_pieces(FILE *to, const struct mesh *mesh)
     return !ferror(to);
 }
 
+static void unwritten(const struct out *out)
+{
+    fail(STATUS_FAILED, "%s could not be written to its end: %s. Nothing of it is left. Make room, or name another "
+         "folder.", out->shown, strerror(errno));
+}
+
 static void write_part(int which, const struct request *request, const struct block *block, const struct mesh *mesh)
 {
     struct out *out = &outs[which];
@@ -1200,8 +1291,7 @@ static void write_part(int which, const struct request *request, const struct bl
     int is_put = which == MESH_FILE ? put_mesh(to, request, block, mesh)
                  : which == PLY_FILE ? put_ply(to, mesh) : put_pieces(to, mesh);
     if (!is_put || fclose(to) != 0)
-        fail(STATUS_FAILED, "%s could not be written to its end: %s. Nothing of it is left. Make room, or name "
-             "another folder.", out->shown, strerror(errno));
+        unwritten(out);
 }
 
 static void rename_part(struct out *out)
@@ -1224,7 +1314,238 @@ static void write_files(const struct request *request, const struct block *block
             rename_part(&outs[which]);
 }
 
-/* ---- the two answers ---- */
+/* ---- plane by plane ---- */
+
+/* Room for a plane, for what the library remembers, and for the largest part that a plane can give. */
+static struct run make_run(const struct request *request, size_t sample_count)
+{
+    size_t nx = request->length[0], ny = request->length[1];
+    size_t vertices = MOST_VERTICES_A_CUBE * (nx - 1) * (ny - 1);
+    size_t quads = (nx - 1) * (ny - 2) + (nx - 2) * (ny - 1) + (nx - 2) * (ny - 2), needed;
+    struct run run = {0};
+    run.wanted = (uint64_t)BYTES_A_SAMPLE * sample_count;
+    run.plane_size = nx * ny;
+    run.work_len = WORK_PLANES * run.plane_size;
+    run.words_len = WORDS_A_VERTEX * vertices;
+    run.offsets_len = OFFSETS_A_VERTEX * vertices;
+    run.quads_len = VERTICES_A_QUAD * quads;
+    run.ply_len = outs[PLY_FILE].name ? MOST_PLY_HEAD + PLY_BYTES_A_VERTEX * vertices : 0;
+    needed = 2 * BYTES_A_SAMPLE * run.plane_size + (run.work_len + run.words_len + run.quads_len) * sizeof *run.work +
+             run.offsets_len * sizeof *run.part.offsets + run.ply_len;
+    run.bytes = room(BYTES_A_SAMPLE * run.plane_size, needed, "A layer of the mesh");
+    run.samples = room(run.plane_size * sizeof *run.samples, needed, "A layer of the mesh");
+    run.work = room(run.work_len * sizeof *run.work, needed, "A layer of the mesh");
+    run.part.words = room(run.words_len * sizeof *run.part.words, needed, "A layer of the mesh");
+    run.part.offsets = room(run.offsets_len * sizeof *run.part.offsets, needed, "A layer of the mesh");
+    run.part.quads = room(run.quads_len * sizeof *run.part.quads, needed, "A layer of the mesh");
+    run.part.ply = room(run.ply_len, needed, "A layer of the mesh");
+    return run;
+}
+
+/* The file is open, and stands at its first byte. */
+static void start_run(const struct request *request, struct run *run)
+{
+    const uint32_t *length = request->length;
+    uint32_t answer[ANSWER];
+    parsniprow_start(length[0], length[1], length[2], request->threshold, run->work, run->work_len, run->state,
+                     PARSNIPROW_STATE, answer, ANSWER);
+    if (answer[0] != NO_REFUSAL)
+        refuse(request, answer);
+    run->read_count = 0;
+    run->fingerprint = 0;
+}
+
+/* Reads so many bytes, or fewer where the file ends. */
+static size_t read_on(const struct request *request, struct run *run, unsigned char *bytes, size_t count)
+{
+    size_t have = 0;
+    ssize_t got = 1;
+    while (got > 0 && have < count) {
+        got = read(run->file, bytes + have, count - have);
+        have += got > 0 ? (size_t)got : 0;
+    }
+    if (got < 0)
+        unreadable(request);
+    run->read_count += have;
+    return have;
+}
+
+static void read_plane(const struct request *request, struct run *run, struct block *block)
+{
+    size_t count = BYTES_A_SAMPLE * run->plane_size;
+    if (read_on(request, run, run->bytes, count) < count)
+        wrong_length(request, "ended after", run->read_count, run->wanted);
+    read_samples(request, run->bytes, run->samples, run->plane_size, block);
+    for (size_t index = 0; index < run->plane_size; index++)
+        run->fingerprint = (run->fingerprint ^ run->samples[index]) * UINT64_C(0x100000001B3);
+}
+
+/* Nothing may stand behind the last plane. */
+static void read_end(const struct request *request, struct run *run)
+{
+    unsigned char byte;
+    if (read_on(request, run, &byte, 1) > 0)
+        wrong_length(request, "has more than", run->wanted, run->wanted);
+}
+
+/* Hands the plane to the library. The part is then what it gave. */
+static void take_plane(const struct request *request, struct run *run)
+{
+    uint32_t answer[ANSWER];
+    parsniprow_plane(run->state, PARSNIPROW_STATE, run->samples, run->plane_size, run->work, run->work_len,
+                     run->part.words, run->words_len, run->part.offsets, run->offsets_len, run->part.quads,
+                     run->quads_len, answer, ANSWER);
+    if (answer[0] != NO_REFUSAL)
+        refuse(request, answer);
+    run->part.vertex_count = answer[1];
+    run->part.quad_count = answer[2];
+}
+
+static void add_ceilings(const struct run *run, uint32_t plane, struct block *block)
+{
+    uint32_t answer[ANSWER];
+    parsniprow_ceilings(run->samples, run->plane_size, answer, ANSWER);
+    if (block->ceiling_count == 0)
+        block->first_ceiling = (uint32_t)(plane * run->plane_size + answer[2]);
+    block->ceiling_count += answer[1];
+}
+
+/* The first reading: what the record has. */
+static void count_planes(const struct request *request, struct run *run, struct block *block, struct mesh *mesh)
+{
+    uint32_t answer[ANSWER];
+    start_run(request, run);
+    for (uint32_t plane = 0; plane < request->length[2]; plane++) {
+        advance(TAKING, plane, request->length[2]);
+        read_plane(request, run, block);
+        take_plane(request, run);
+        add_ceilings(run, plane, block);
+        mesh->marked_count += count_marks(&run->part);
+    }
+    read_end(request, run);
+    parsniprow_end(run->state, PARSNIPROW_STATE, answer, ANSWER);
+    if (answer[0] != NO_REFUSAL)
+        refuse(request, answer);
+    mesh->vertex_count = answer[1];
+    mesh->quad_count = answer[2];
+}
+
+static size_t put_ply_head(char *head, const struct mesh *mesh)
+{
+    return (size_t)snprintf(head, MOST_PLY_HEAD,
+                            "ply\nformat binary_little_endian 1.0\nelement vertex %" PRIu32 "\nproperty double x\n"
+                            "property double y\nproperty double z\nelement face %" PRIu32 "\n"
+                            "property list uchar int vertex_indices\nend_header\n",
+                            mesh->vertex_count, mesh->quad_count);
+}
+
+/* The vertices of the part, as the library draws them: they stand behind the head of a file that has no quads. */
+static int put_part_vertices(FILE *to, const struct request *request, const struct run *run)
+{
+    struct mesh drawn = run->part;
+    size_t bytes = (size_t)PLY_BYTES_A_VERTEX * drawn.vertex_count;
+    uint32_t answer[ANSWER];
+    uint64_t ply_len;
+    drawn.quad_count = 0;
+    ply_len = ask_ply(request, &drawn, run->ply_len, answer);
+    if (answer[0] != NO_REFUSAL)
+        refuse(request, answer);
+    return fwrite(drawn.ply + (ply_len - bytes), 1, bytes, to) == bytes;
+}
+
+static int put_part_quads(FILE *to, const struct mesh *part)
+{
+    for (size_t quad = 0; quad < part->quad_count; quad++) {
+        unsigned char bytes[PLY_BYTES_A_QUAD] = {VERTICES_A_QUAD}, *at = bytes + 1;
+        for (size_t corner = 0; corner < VERTICES_A_QUAD; corner++)
+            for (int shift = 0; shift < 32; shift += 8)
+                *at++ = (unsigned char)(part->quads[VERTICES_A_QUAD * quad + corner] >> shift);
+        if (fwrite(bytes, 1, sizeof bytes, to) != sizeof bytes)
+            return 0;
+    }
+    return 1;
+}
+
+/* The vertices and the quads of a part go to their places in the file, behind those that came before. */
+static int put_part(FILE *to, const struct request *request, const struct run *run, const uint32_t *before,
+                    uint64_t vertices_at, uint64_t quads_at)
+{
+    uint64_t vertex = before[VERTICES_SO_FAR], quad = before[QUADS_SO_FAR];
+    return fseeko(to, (off_t)(vertices_at + PLY_BYTES_A_VERTEX * vertex), SEEK_SET) == 0 &&
+           put_part_vertices(to, request, run) &&
+           fseeko(to, (off_t)(quads_at + PLY_BYTES_A_QUAD * quad), SEEK_SET) == 0 && put_part_quads(to, &run->part);
+}
+
+static void changed(const struct request *request)
+{
+    fail(STATUS_FAILED, "%s was changed between the two readings that --by-planes needs for a PLY file. Copy it from "
+         "where it came from once more, and try again when nothing writes to it.", request->file_shown);
+}
+
+/* The second reading. It must give what the first did: other samples would make the file and the record disagree. */
+static int put_planes(FILE *to, const struct request *request, struct run *run, struct mesh *mesh)
+{
+    char head[MOST_PLY_HEAD];
+    size_t head_len = put_ply_head(head, mesh);
+    uint64_t quads_at = head_len + (uint64_t)PLY_BYTES_A_VERTEX * mesh->vertex_count, first = run->fingerprint;
+    struct block again = {0};
+    mesh->ply_len = quads_at + (uint64_t)PLY_BYTES_A_QUAD * mesh->quad_count;
+    if (lseek(run->file, 0, SEEK_SET) != 0)
+        unreadable(request);
+    start_run(request, run);
+    if (fwrite(head, 1, head_len, to) != head_len)
+        return 0;
+    for (uint32_t plane = 0; plane < request->length[2]; plane++) {
+        uint32_t before[PARSNIPROW_STATE];
+        advance(WRITING, plane, request->length[2]);
+        memcpy(before, run->state, sizeof before);
+        read_plane(request, run, &again);
+        take_plane(request, run);
+        if (run->state[VERTICES_SO_FAR] > mesh->vertex_count || run->state[QUADS_SO_FAR] > mesh->quad_count)
+            changed(request);
+        if (!put_part(to, request, run, before, head_len, quads_at))
+            return 0;
+    }
+    read_end(request, run);
+    if (run->fingerprint != first)
+        changed(request);
+    return 1;
+}
+
+static void write_planes(const struct request *request, struct run *run, struct mesh *mesh)
+{
+    struct out *out = &outs[PLY_FILE];
+    FILE *to = open_part(out);
+    int is_put = put_planes(to, request, run, mesh);
+    if (!is_put || fclose(to) != 0)
+        unwritten(out);
+    rename_part(out);
+}
+
+/* A pipe is gone when it has been read. */
+static void check_twice(const struct request *request, int file)
+{
+    struct stat about;
+    if (fstat(file, &about) != 0 || !S_ISREG(about.st_mode))
+        fail(STATUS_FAILED, "%s cannot be read twice, and --by-planes with --ply reads it once to count and once to "
+             "write. Name a file that is on a disk, or leave out --by-planes.", request->file_shown);
+}
+
+/* ---- the three answers ---- */
+
+static void tell_planes(const struct request *request, struct block *block)
+{
+    struct run run = make_run(request, block->count);
+    struct mesh mesh = {0};
+    run.file = open_block(request, run.wanted);
+    if (outs[PLY_FILE].name)
+        check_twice(request, run.file);
+    count_planes(request, &run, block, &mesh);
+    if (outs[PLY_FILE].name)
+        write_planes(request, &run, &mesh);
+    close(run.file);
+    report(request, block, &mesh, NULL);
+}
 
 static void tell_room(const struct request *request, struct block *block)
 {
@@ -1254,6 +1575,7 @@ int main(int argc, char **argv)
 {
     struct request request;
     struct block block = {0};
+    block.least = UINT16_MAX;
     hold_standard_streams();
     set_signals();
     request = read_arguments(argc, argv);
@@ -1263,6 +1585,8 @@ int main(int argc, char **argv)
     block.count = samples_wanted(&request);
     if (outs[PLY_FILE].name)
         check_spacing(&request);
+    if (request.is_by_planes)
+        tell_planes(&request, &block);
     read_block(&request, &block);
     if (request.is_for_room)
         tell_room(&request, &block);
