@@ -322,20 +322,23 @@ static void ask_library(const struct call *call, const struct wanted *wanted, si
     take_back(&work_place, 0);
 }
 
+/* Whether the work is as it was, from this item on. */
+static int keeps_work(const struct call *call, size_t from)
+{
+    const uint32_t *work = start(&work_place);
+    size_t given = smaller(call->work_items, call->work_len);
+    if (from < given && memcmp(work + from, call->work + from, (given - from) * sizeof *work) != 0)
+        return 0;
+    return holds(&work_place, work, from < given ? given : from);
+}
+
 /* A call may change the work as far as it needs it, and where it refuses, nothing. */
 static void judge_work(const struct call *call, const struct due *due, int is_refused)
 {
     uint32_t items[STATE];
-    size_t needed;
     int is_kept;
     read_state(call->state, call->state_len, items);
-    needed = WORK_PLANES * (size_t)size_of(items);
-    is_kept = is_refused ? holds(&work_place, call->work, call->work_items)
-                         : holds(&work_place, start(&work_place), needed);
-    /* what stood behind the needed items, where more of them were given */
-    if (!is_refused && call->work_items > needed)
-        is_kept = memcmp((uint32_t *)start(&work_place) + needed, call->work + needed,
-                         (smaller(call->work_items, call->work_len) - needed) * sizeof *call->work) == 0;
+    is_kept = keeps_work(call, is_refused ? 0 : WORK_PLANES * (size_t)size_of(items));
     if (!is_kept && first_to_fail(is_refused ? "a refused plane changes the work" : "a plane writes behind its work"))
         print_call(call, due);
     if (!holds(&plane_place, call->plane, call->plane_items) && first_to_fail("a plane is changed"))
