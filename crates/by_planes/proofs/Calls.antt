@@ -2,21 +2,24 @@
 -- Assumes nothing.
 use Prim.Native.Nat.{ℕ, suc, _+_, _*_, _-_, _/_, _%_, _≤_, _<_}
 use mathlib.Core.Path.{_≡_, refl, ap, ap₂, sym, _∙_, subst}
+use mathlib.Core.Logic.{_⊎_, inl, inr}
 use mathlib.Core.List.{List, [], _∷_, _++_}
 use native.Mathlib.Nat.{add-zero, mod-eq-of-lt, mul-assoc, mul-le-mul-left}
 use native.Mathlib.Numerals.{add-one}
 use native.Mathlib.Omega.{arith}
 use lib.Ieee.{Float, nan}
-use lib.ListN.{length, getD, take, drop, length-append}
+use lib.ListN.{length, getD, take, drop, length-append, List·getD-eq-default}
 use lib.Seq.{getD-take, getD-drop}
 use Rattle.laws.specs.Below.{over}
-use Rattle.laws.proofs.Over.{over-length, over-front, over-behind}
+use Rattle.laws.proofs.Over.{over-length}
+use Rattle.laws.proofs.Tests.{lt-or-ge}
 use Rattle.block.specs.declared.Checked.{Checked}
 use Rattle.block.specs.declared.Checked.the-variants.{Passes, Refuses}
 use Rattle.block.specs.declared.Cut.{Cut}
 use Rattle.block.specs.declared.Refusal.{Refusal}
 use Rattle.block.specs.declared.Size.{Size}
 use Rattle.block.specs.Answer.{accepted, refused, inOrder, judged, written}
+use Rattle.block.specs.Grey.{SixteenBit}
 use Rattle.block.specs.Numbering.{Axis, X, Y, Z, sampleCount}
 use Rattle.block.specs.Size.{Limits}
 use Rattle.block.proofs.Order.{orders-refuse, orders-pass, judged-refused, judged-passed, written-refused, written-passed, passes-refuses, refused-says, accepted-says}
@@ -35,8 +38,9 @@ use Rattle.mesh.proofs.PlaneQuads.{planes-quads-next}
 use Rattle.mesh.proofs.Rows.{below-le, vertices-le}
 use Rattle.mesh.proofs.Tallies.{all-quads}
 use Rattle.plane_layers.specs.declared.Layer.{Layer}
-use Rattle.plane_layers.specs.Memory.{Shown, LayerTables}
+use Rattle.plane_layers.specs.Memory.{sampleIn, packed, Shown, LayerTables}
 use Rattle.plane_layers.specs.Layer.{layerTotals, layerQuads, LayerReady, Known, PartGrown, Grown, KeptBehind}
+use Rattle.plane_layers.proofs.Copies.{packed-fits, packed-sample, packed-behind}
 use Rattle.plane_layers.proofs.Grown.{quads-length, quads-four}
 use Rattle.by_planes.specs.declared.Stream.{Stream}
 use Rattle.by_planes.specs.declared.Growth.{Growth}
@@ -103,6 +107,17 @@ module _ (st : Stream) (plane work w : List ℕ) (o : List Float) (q : List ℕ)
       item : (i : ℕ) → i < planeSize n → getD plane i 0 ≡ getD s (planeSize n * st .planes + i) 0
       item i h = ap (λ (l : List ℕ). getD l i 0) is ∙ getD-take (planeSize n) (drop (planeSize n * st .planes) s) i 0 h ∙ getD-drop (planeSize n * st .planes) s i 0
 
+      -- its samples are the block's, so they are of 16 bits
+      plane-grey : SixteenBit plane
+      plane-grey i = go (lt-or-ge i (planeSize n))
+        where
+          past : planeSize n ≤ i → _≡_ {A = ℕ} (getD plane i 0) 0
+          past g = List·getD-eq-default plane 0 (omega arith)
+
+          go : (i < planeSize n) ⊎ (planeSize n ≤ i) → getD plane i 0 < 65536
+          go (inl l) = omega (arith, item i l, left .grey (planeSize n * st .planes + i))
+          go (inr g) = omega (arith, past g)
+
       -- nothing is cut
       few-v : layerFirst loopsOf n s (st .cut) (st .planes - 1) ≤ 66325500
       few-v = omega (arith, vertices-le n s (st .cut) (layerSize n * (st .planes - 1)) (in-cubes (st .nx - 1) (st .ny - 1) (st .nz - 1) (st .planes - 1) (omega arith)), most-vertices loopsOf n s (st .cut) (cube-laws joined) (left .block .limits))
@@ -121,7 +136,7 @@ module _ (st : Stream) (plane work w : List ℕ) (o : List Float) (q : List ℕ)
 
     -- ---- the first plane
 
-    module _ (none : st .planes ≡ 0) (work′ : List ℕ) (keeps : work′ ≡ over plane work) where
+    module _ (none : st .planes ≡ 0) (work′ : List ℕ) (keeps : work′ ≡ over (packed plane) work) where
       abbrev nothing : Totals
       nothing = record { vertices = 0; quads = 0 }
 
@@ -133,11 +148,11 @@ module _ (st : Stream) (plane work w : List ℕ) (o : List Float) (q : List ℕ)
         words-long = refl;
         offsets-long = refl;
         quads-long = refl;
-        work-long = ap length keeps ∙ over-length plane work fits;
+        work-long = ap length keeps ∙ over-length (packed plane) work (packed-fits plane work fits);
         words-behind = λ i l. refl;
         offsets-behind = λ i l. refl;
         quads-behind = λ i l. refl;
-        work-behind = λ i l. ap (λ (b : List ℕ). getD b i 0) keeps ∙ over-behind plane work i 0 (omega arith);
+        work-behind = λ i l. ap (λ (b : List ℕ). getD b i 0) keeps ∙ packed-behind plane work i (omega arith);
       }
 
       pub taken-first : PlaneTaken st plane work w o q (taken.Wrote (grownBy st nothing)) work′ w o q
@@ -176,7 +191,7 @@ module _ (st : Stream) (plane work w : List ℕ) (o : List Float) (q : List ℕ)
                 in-block = omega arith;
                 vertices-are = add-zero (st .vertices) ∙ left .vertices-are ∙ ap (layerFirst loopsOf (sizeIn st) s (st .cut)) before;
                 quads-are = ap (λ (x : ℕ). 4 * x) (add-zero (st .quads)) ∙ left .quads-are ∙ ap (λ (k : ℕ). length (quadsUpTo loopsOf (sizeIn st) s (st .cut) X (planeSize (sizeIn st) * k)) + length (quadsUpTo loopsOf (sizeIn st) s (st .cut) Y (planeSize (sizeIn st) * k)) + length (quadsUpTo loopsOf (sizeIn st) s (st .cut) Z (planeSize (sizeIn st) * k))) before;
-                plane = λ h i l. ap (λ (b : List ℕ). getD b i 0) keeps ∙ over-front plane work i 0 (omega arith) ∙ item left is i l ∙ ap (λ (k : ℕ). getD s (planeSize (sizeIn st) * k + i) 0) here;
+                plane = λ h i l. ap (λ (b : List ℕ). sampleIn b i) keeps ∙ packed-sample plane work (plane-grey left is) i (omega arith) ∙ item left is i l ∙ ap (λ (k : ℕ). getD s (planeSize (sizeIn st) * k + i) 0) here;
                 tables = λ h. absurd (omega arith);
               })
                 where
@@ -198,12 +213,7 @@ module _ (st : Stream) (plane work w : List ℕ) (o : List Float) (q : List ℕ)
         shown : Shown (sizeIn st) k work plane s
         shown = record {
           samples = left .block .samples;
-          lower = λ i h.
-              sym (
-              ap (λ (x : ℕ). x % 65536) (left .plane (omega arith) i h)
-              ∙ mod-eq-of-lt (left .grey (planeSize (sizeIn st) * (st .planes - 1) + i))
-              ∙ ap (λ (z : ℕ). getD s (planeSize (sizeIn st) * z + i) 0) back
-              );
+          lower = λ i h. sym (left .plane (omega arith) i h ∙ ap (λ (z : ℕ). getD s (planeSize (sizeIn st) * z + i) 0) back);
           upper = λ i h. sym (item left is i h ∙ ap (λ (z : ℕ). getD s (planeSize (sizeIn st) * z + i) 0) (sym some));
         }
 
@@ -265,7 +275,7 @@ module _ (st : Stream) (plane work w : List ℕ) (o : List Float) (q : List ℕ)
           in-block = omega arith;
           vertices-are = omega (arith, left .vertices-are, ap (layerFirst loopsOf (sizeIn st) s (st .cut)) back, layer-first-next (sizeIn st) s (st .cut) k, ap (layerFirst loopsOf (sizeIn st) s (st .cut)) here);
           quads-are = omega (arith, left .quads-are, ap before back, ap before here, quads-four (sizeIn st) s (st .cut) k, quads-length (sizeIn st) s (st .cut) k, plane-more X, plane-more Y, plane-more Z);
-          plane = λ h i l. layer .front p i l ∙ item left is i l ∙ ap (λ (z : ℕ). getD s (planeSize (sizeIn st) * z + i) 0) there;
+          plane = λ h i l. layer .front p (plane-grey left is) i l ∙ item left is i l ∙ ap (λ (z : ℕ). getD s (planeSize (sizeIn st) * z + i) 0) there;
           tables = λ h. subst (λ (z : ℕ). LayerTables loopsOf (sizeIn st) s (st .cut) z work′) two (layer .noted p);
         })
           where

@@ -16,7 +16,7 @@ use Rattle.block.specs.Steps.{Sampled}
 use Rattle.cube_rule.specs.Decider.{loopsOf}
 use Rattle.mesh_rule.specs.Layers.{planeSize, layerFirst}
 use Rattle.mesh.specs.Steps.{quadsUpTo}
-use Rattle.plane_layers.specs.Memory.{LayerTables}
+use Rattle.plane_layers.specs.Memory.{sampleIn, LayerTables}
 use Rattle.plane_layers.specs.Layer.{KeptBehind}
 use Rattle.by_planes.specs.declared.Stream.{Stream}
 use Rattle.by_planes.specs.declared.Growth.{Growth}
@@ -35,7 +35,7 @@ pub record Left (s : List ℕ) (st : Stream) (work : List ℕ) : Type 0 where
   pub quads-are : 4 * st .quads ≡ length (quadsUpTo loopsOf (sizeIn st) s (st .cut) X (planeSize (sizeIn st) * (st .planes - 1)))
       + length (quadsUpTo loopsOf (sizeIn st) s (st .cut) Y (planeSize (sizeIn st) * (st .planes - 1))) + length (quadsUpTo loopsOf (sizeIn st) s (st .cut) Z (planeSize (sizeIn st) * (st .planes - 1)))
   -- the last plane, and the numbers of the last layer
-  pub plane : 0 < st .planes → (i : ℕ) → i < planeSize (sizeIn st) → getD work i 0 ≡ getD s (planeSize (sizeIn st) * (st .planes - 1) + i) 0
+  pub plane : 0 < st .planes → (i : ℕ) → i < planeSize (sizeIn st) → sampleIn work i ≡ getD s (planeSize (sizeIn st) * (st .planes - 1) + i) 0
   pub tables : 1 < st .planes → LayerTables loopsOf (sizeIn st) s (st .cut) (st .planes - 2) work
 
 -- of a block whose planes are handed over: the answer, the three buffers, and what is left, where the checks say k

@@ -9,7 +9,7 @@ use lib.ListN.{length, getD, drop, length-append}
 use lib.Seq.{sets, getD-drop}
 use lib.Ieee.{Float, nan}
 use Rattle.laws.specs.Below.{over}
-use Rattle.laws.proofs.Over.{over-length, over-front, over-behind}
+use Rattle.laws.proofs.Over.{over-length}
 use Rattle.laws.proofs.Stores.{sets-over}
 use Rattle.block.specs.declared.Cut.{Cut}
 use Rattle.block.specs.declared.Size.{Size}
@@ -33,8 +33,9 @@ use Rattle.mesh.proofs.BufferRows.{buffers-pass}
 use Rattle.mesh.proofs.PlaneQuads.{quads-flat, planes-quads-next}
 use Rattle.mesh.proofs.Regions.{all-full}
 use Rattle.plane_layers.specs.declared.Layer.{Layer}
-use Rattle.plane_layers.specs.Memory.{SignedTo, lowAt, itemAt, Shown, tableAt, LayerTables}
+use Rattle.plane_layers.specs.Memory.{SignedTo, sampleIn, itemAt, packed, Shown, tableAt, LayerTables}
 use Rattle.plane_layers.specs.Layer.{rowsX, rowsY, rowsZ, layerQuads, layerOffsets, layerTotals, RowsMarked, RowsWritten, Known, LayerReady, SignsReady, LayerCounted, LayerRoomy, KeptBehind, LayerWritten, PartGrown, Grown}
+use Rattle.plane_layers.proofs.Copies.{packed-fits, packed-sample, packed-behind}
 use Rattle.plane_layers.proofs.Parts.{numbered-as}
 use Rattle.plane_layers.proofs.Rows.{layer-masks, layer-words, layer-offsets, plane-quads, rows-words-length, rows-offsets-length, marked-all-few}
 use Rattle.plane_layers.proofs.Shown.{made, made-shown}
@@ -129,11 +130,11 @@ module _ {layer : Layer} {work plane : List ℕ} (r : LayerReady layer work plan
       (omega (arith, r .limits .x-high), omega (arith, r .limits .y-high), omega (arith, r .room), omega (arith, r .plane-long))
 
   pub signs-ready : (nx ny : ℕ) (a b : List ℕ) → nx ≡ layer .size .nx → ny ≡ layer .size .ny → length a ≡ 1280 → length b ≡ 1280
-      → SignedTo nx (lowAt work) (layer .cut) ny a → SignedTo nx (itemAt plane) (layer .cut) ny b → SignsReady layer work plane a b
+      → SignedTo nx (sampleIn work) (layer .cut) ny a → SignedTo nx (itemAt plane) (layer .cut) ny b → SignsReady layer work plane a b
   signs-ready nx ny a b ex ey ea eb sa sb = record {
     a-long = ea;
     b-long = eb;
-    lower = subst (λ (x : ℕ). SignedTo x (lowAt work) (layer .cut) (layer .size .ny) a) ex (subst (λ (y : ℕ). SignedTo nx (lowAt work) (layer .cut) y a) ey sa);
+    lower = subst (λ (x : ℕ). SignedTo x (sampleIn work) (layer .cut) (layer .size .ny) a) ex (subst (λ (y : ℕ). SignedTo nx (sampleIn work) (layer .cut) y a) ey sa);
     upper = subst (λ (x : ℕ). SignedTo x (itemAt plane) (layer .cut) (layer .size .ny) b) ex (subst (λ (y : ℕ). SignedTo nx (itemAt plane) (layer .cut) y b) ey sb);
   }
 
@@ -184,7 +185,7 @@ module _ {layer : Layer} {work plane : List ℕ} (r : LayerReady layer work plan
           let f : x .quads ≡ totalsOf t .quads = ap (λ (y : Totals). y .quads) e in
           record { words = omega (arith, p .0); offsets = omega (arith, p .1); quads = omega (arith, p .2, layer-four) }
 
-      pub grown-passed : (x : Totals) → x ≡ totalsOf t → late x ≡ Passes → (work′ work″ w′ : List ℕ) (o′ : List Float) (q′ : List ℕ) → LayerWritten loopsOf layer t plane work work′ w w′ o o′ q q′ → work″ ≡ over plane work′
+      pub grown-passed : (x : Totals) → x ≡ totalsOf t → late x ≡ Passes → (work′ work″ w′ : List ℕ) (o′ : List Float) (q′ : List ℕ) → LayerWritten loopsOf layer t plane work work′ w w′ o o′ q q′ → work″ ≡ over (packed plane) work′
           → Grown loopsOf layer plane work w o q (counted.Counts x) work″ w′ o′ q′
       grown-passed x e h work′ work″ w′ o′ q′ l f = record {
         refusal-keeps = λ y g. absurd (accepted-refused g);
@@ -195,7 +196,7 @@ module _ {layer : Layer} {work plane : List ℕ} (r : LayerReady layer work plan
               words-long = l .kept .words-long;
               offsets-long = l .kept .offsets-long;
               quads-long = l .kept .quads-long;
-              work-long = ap length f ∙ over-length plane work′ fits ∙ l .kept .work-long;
+              work-long = ap length f ∙ over-length (packed plane) work′ (packed-fits plane work′ fits) ∙ l .kept .work-long;
               words-behind = λ i b. l .kept .words-behind i (omega arith);
               offsets-behind = λ i b. l .kept .offsets-behind i (omega arith);
               quads-behind = λ i b. l .kept .quads-behind i (omega (arith, layer-four));
@@ -209,7 +210,7 @@ module _ {layer : Layer} {work plane : List ℕ} (r : LayerReady layer work plan
               words = words-over (layer .size) s (layer .cut) (layer .k) (r .limits .y-low) m (layer-roomy x e h) (l .written s sh known) ∙ sym (written-passed _ _ w v);
               offsets = offsets-over (layer .size) s (layer .cut) (layer .k) (r .limits .y-low) m (layer-roomy x e h) (l .written s sh known) ∙ sym (written-passed _ _ o v);
               quads = quads-over (layer .size) s (layer .cut) (layer .k) (r .limits .y-low) m (layer-roomy x e h) (l .written s sh known) ∙ sym (written-passed _ _ q v);
-              front = λ p i b. ap (λ (z : List ℕ). getD z i 0) f ∙ over-front plane work′ i 0 (omega (arith, r .plane-long));
+              front = λ p grey i b. ap (λ (z : List ℕ). sampleIn z i) f ∙ packed-sample plane work′ grey i (omega (arith, r .plane-long));
               noted = λ p j b. numbered-as (drop (tableAt (layer .size) j) work′) (drop (tableAt (layer .size) j) work″)
                   (λ i d. getD-drop (tableAt (layer .size) j) work″ i 0 ∙ behind (tableAt (layer .size) j + i) (omega arith) ∙ sym (getD-drop (tableAt (layer .size) j) work′ i 0)) (l .noted s sh known j b);
             };
@@ -222,4 +223,4 @@ module _ {layer : Layer} {work plane : List ℕ} (r : LayerReady layer work plan
           fits = omega (arith, r .plane-long, r .room, l .kept .work-long)
 
           behind : (i : ℕ) → planeSize (layer .size) ≤ i → getD work″ i 0 ≡ getD work′ i 0
-          behind i b = ap (λ (z : List ℕ). getD z i 0) f ∙ over-behind plane work′ i 0 (omega (arith, r .plane-long))
+          behind i b = ap (λ (z : List ℕ). getD z i 0) f ∙ packed-behind plane work′ i (omega (arith, r .plane-long))

@@ -4,13 +4,13 @@ use mathlib.Core.Path.{_≡_, refl, ap, sym, _∙_}
 use mathlib.Core.Logic.{_⊎_, inl, inr}
 use mathlib.Core.Bool.{Bool, true, false, _&&_}
 use mathlib.Core.List.{List, [], _∷_}
-use Prim.Native.Nat.{ℕ, zero, suc, _+_, _-_, _*_, _%_, _≤_, _<_}
-use native.Mathlib.Nat.{add-zero, eq-or-lt-of-le, mul-assoc, mul-le-mul, mul-le-mul-left, sub-zero}
+use Prim.Native.Nat.{ℕ, zero, suc, _+_, _-_, _*_, _/_, _%_, _≤_, _<_}
+use native.Mathlib.Nat.{add-zero, eq-or-lt-of-le, mul-assoc, mul-le-mul, mul-le-mul-left}
 use native.Mathlib.Omega.{arith}
 use borrow.Author.Tests.{ltb-true}
 use lib.Dec.{ltb}
-use lib.ListN.{length, getD, set, take, drop, length-set}
-use lib.Seq.{sets, length-take-le, getD-take, getD-set-same, getD-set-other}
+use lib.ListN.{length, getD, set, take, drop, length-set, length-drop}
+use lib.Seq.{sets, length-take-le, getD-take, getD-drop, getD-set-same, getD-set-other}
 use Rattle.laws.specs.Bits.{bit}
 use Rattle.laws.specs.Pack.{pack}
 use Rattle.laws.proofs.Pack.{pack-cong}
@@ -23,7 +23,8 @@ use Rattle.signs.specs.Signs.{rowSign, Plane}
 use Rattle.signs.specs.Steps.{rowFrom, fiveWords}
 use Rattle.signs.specs.Windows.{Part}
 use Rattle.signs.proofs.Windows.{part-of}
-use Rattle.plane_layers.specs.Memory.{Windowed, SignedTo}
+use Rattle.plane_layers.proofs.Copies.{half-same}
+use Rattle.plane_layers.specs.Memory.{halfOf, sampleIn, Windowed, SignedTo}
 
 -- ---- a run of stores, place by place
 
@@ -109,9 +110,27 @@ row-in nx ny j hx hy hj = (omega (arith, mul-le-mul-left nx (next hj)), mul-le-m
 pub lent-row : (s : List ℕ) (f : ℕ → ℕ) (nx p : ℕ) → p + nx ≤ length s → ((x : ℕ) → x < nx → getD s (p + x) 0 ≡ f (p + x)) → let row = take (p + nx - p) (drop p s) in (length row ≡ nx) × ((x : ℕ) → x < nx → getD row x 0 ≡ f (p + x))
 lent-row s f nx p h e = let q = part-of s p (p + nx) nx (omega arith) h in (q .long, λ x l. q .at x l ∙ e x l)
 
--- the front of a window, as it is lent
-pub lent-window : (part w : List ℕ) (m : ℕ) → length part ≡ m → m ≤ 512 → length w ≡ 512 → Windowed part (length part) w → let front = take (m - 0) w in (length front ≡ m) × ((x : ℕ) → x < m → getD front x 0 ≡ getD part x 0 % 65536)
-lent-window part w m e h long is = (length-take-le (m - 0) w (omega arith) ∙ sub-zero m, λ x l. getD-take (m - 0) w x 0 (omega arith) ∙ is x (omega arith))
+-- m samples from p on of a plane that is remembered: the words that hold them, and where they stand in a window
+abbrev pub wordsFor : List ℕ → ℕ → ℕ → List ℕ
+wordsFor work p m = take ((p + m + 1) / 2 - p / 2) (drop (p / 2) work)
+
+abbrev pub frontFor : List ℕ → ℕ → ℕ → List ℕ
+frontFor window p m = take (p % 2 + m - p % 2) (drop (p % 2) window)
+
+module _ (work : List ℕ) (p m : ℕ) (inside : p + m ≤ length work) (few : m ≤ 512) where
+  pub words-long : (p + m + 1) / 2 ≤ length work → length (wordsFor work p m) ≡ (p + m + 1) / 2 - p / 2
+  words-long h = length-take-le ((p + m + 1) / 2 - p / 2) (drop (p / 2) work) (omega (arith, length-drop (p / 2) work))
+
+  pub lent-window : (w : List ℕ) → (p + m + 1) / 2 ≤ length work → length w ≡ 514 → Windowed (wordsFor work p m) (2 * length (wordsFor work p m)) w → (length (frontFor w p m) ≡ m) × ((x : ℕ) → x < m → getD (frontFor w p m) x 0 ≡ sampleIn work (p + x))
+  lent-window w h long is =
+      let q = part-of w (p % 2) (p % 2 + m) m (omega arith) (omega arith) in (
+        q .long,
+        λ x l.
+            q .at x l
+            ∙ is (p % 2 + x) (omega (arith, words-long h))
+            ∙ ap (λ (v : ℕ). halfOf v ((p % 2 + x) % 2)) (getD-take ((p + m + 1) / 2 - p / 2) (drop (p / 2) work) ((p % 2 + x) / 2) 0 (omega arith) ∙ getD-drop (p / 2) work ((p % 2 + x) / 2) 0)
+            ∙ half-same work (p / 2 + (p % 2 + x) / 2) ((p + x) / 2) ((p % 2 + x) % 2) ((p + x) % 2) (omega arith) (omega arith),
+      )
 
 -- the signs of a plane are those of another with the same samples
 pub signed-same : (nx ny : ℕ) (f g : ℕ → ℕ) (cut : Cut) (ws : List ℕ) → ((i : ℕ) → i < nx * ny → f i ≡ g i) → SignedTo nx f cut ny ws → SignedTo nx g cut ny ws

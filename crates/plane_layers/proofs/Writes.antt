@@ -1,6 +1,6 @@
 -- The rows of a layer that are written one by one: the state before a row gives what the row requires, and the row leaves the state before the next.
 -- Assumes nothing.
-use Prim.Native.Nat.{ℕ, _+_, _*_, _-_, _%_, _≤_, _<_}
+use Prim.Native.Nat.{ℕ, _+_, _*_, _-_, _/_, _%_, _≤_, _<_}
 use mathlib.Core.Path.{_≡_, refl, ap, ap₂, sym, _∙_, subst}
 use mathlib.Core.Logic.{_⊎_, inl, inr}
 use mathlib.Core.List.{List, _++_}
@@ -28,7 +28,7 @@ use Rattle.mesh.proofs.LayerSteps.{turn}
 use Rattle.mesh.proofs.Regions.{first-more, second-more, third-more}
 use Rattle.mesh.proofs.Writings.{store-next}
 use Rattle.plane_layers.specs.declared.Layer.{Layer}
-use Rattle.plane_layers.specs.Memory.{SignedTo, lowAt, Shown, tableAt}
+use Rattle.plane_layers.specs.Memory.{SignedTo, halfOf, sampleIn, Shown, tableAt}
 use Rattle.plane_layers.specs.Layer.{rowsMasks, rowsWords, rowsOffsets, rowsX, rowsY, rowsZ, RowsMarked, RowsWritten, Known, LayerReady, SignsReady, LayerCounted, StepReady, RowTaken, LayerRoomy, KeptBehind, RowsDone, RowsState, LayerWritten}
 use Rattle.plane_layers.proofs.Parts.{put-length, put-before, put-behind, put-in, part-at, part-long, numbered-as}
 use Rattle.plane_layers.proofs.Rows.{below-next, rows-first, rows-words-length, rows-offsets-length, marked-none, marked-more, marked-all-few}
@@ -103,14 +103,14 @@ module _ (layer : Layer) (work₀ work : List ℕ) (long : length work ≡ lengt
   pub ready-same : {plane : List ℕ} → LayerReady layer work₀ plane → LayerReady layer work plane
   ready-same r = record { limits = r .limits; inside = r .inside; threshold = r .threshold; few = r .few; plane-long = r .plane-long; room = omega (arith, r .room) }
 
-  low-same : (i : ℕ) → i < planeSize (layer .size) → lowAt work i ≡ lowAt work₀ i
-  low-same i h = ap (λ (x : ℕ). x % 65536) (front i h)
+  low-same : (i : ℕ) → i < planeSize (layer .size) → sampleIn work i ≡ sampleIn work₀ i
+  low-same i h = ap (λ (x : ℕ). halfOf x (i % 2)) (front (i / 2) (omega arith))
 
   pub signs-same : {plane a b : List ℕ} → SignsReady layer work₀ plane a b → SignsReady layer work plane a b
   signs-same {plane} {a} g = record {
     a-long = g .a-long;
     b-long = g .b-long;
-    lower = signed-same (layer .size .nx) (layer .size .ny) (lowAt work₀) (lowAt work) (layer .cut) a (λ i h. sym (low-same i h)) (g .lower);
+    lower = signed-same (layer .size .nx) (layer .size .ny) (sampleIn work₀) (sampleIn work) (layer .cut) a (λ i h. sym (low-same i h)) (g .lower);
     upper = g .upper;
   }
 

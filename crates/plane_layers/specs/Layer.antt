@@ -14,6 +14,7 @@ use Rattle.block.specs.declared.Cut.{Cut}
 use Rattle.block.specs.declared.Refusal.{Refusal}
 use Rattle.block.specs.declared.Size.{Size}
 use Rattle.block.specs.Answer.{accepted, refused, inOrder, judged, written}
+use Rattle.block.specs.Grey.{SixteenBit}
 use Rattle.block.specs.Numbering.{X, Y, Z}
 use Rattle.block.specs.Rows.{thresholdRow}
 use Rattle.block.specs.Size.{Limits}
@@ -28,7 +29,7 @@ use Rattle.mesh.specs.Answer.{saidCounts, bufferRows}
 use Rattle.mesh.specs.Steps.{RowMoved}
 use Rattle.mesh.specs.Writes.{RowRoomy, TablesReady, RowMore}
 use Rattle.plane_layers.specs.declared.Layer.{Layer}
-use Rattle.plane_layers.specs.Memory.{SignedTo, lowAt, itemAt, Shown, tableAt, LayerTables}
+use Rattle.plane_layers.specs.Memory.{SignedTo, sampleIn, itemAt, Shown, tableAt, LayerTables}
 
 module _ (loopsOf : Cut → List ℕ → List ℕ) (n : Size) (s : List ℕ) (cut : Cut) (k : ℕ) where
   -- the first j rows of the layer: the masks, words and offsets of their vertices, and the quads from their samples along an axis
@@ -91,7 +92,7 @@ pub record LayerReady (layer : Layer) (work plane : List ℕ) : Type 0 where
 pub record SignsReady (layer : Layer) (work plane a b : List ℕ) : Type 0 where
   pub a-long : length a ≡ 1280
   pub b-long : length b ≡ 1280
-  pub lower : SignedTo (layer .size .nx) (lowAt work) (layer .cut) (layer .size .ny) a
+  pub lower : SignedTo (layer .size .nx) (sampleIn work) (layer .cut) (layer .size .ny) a
   pub upper : SignedTo (layer .size .nx) (itemAt plane) (layer .cut) (layer .size .ny) b
 
 -- whatever block has these two planes, its layer is counted
@@ -176,7 +177,7 @@ pub record PartGrown (loopsOf : Cut → List ℕ → List ℕ) (v : Checked) (n 
   pub words : w′ ≡ written v (layerWords loopsOf n s cut k) w
   pub offsets : o′ ≡ written v (layerOffsets loopsOf n s cut k) o
   pub quads : q′ ≡ written v (layerQuads loopsOf n s cut k) q
-  pub front : v ≡ Passes → (i : ℕ) → i < planeSize n → getD work′ i 0 ≡ getD plane i 0
+  pub front : v ≡ Passes → SixteenBit plane → (i : ℕ) → i < planeSize n → sampleIn work′ i ≡ getD plane i 0
   pub noted : v ≡ Passes → LayerTables loopsOf n s cut k work′
 
 -- whatever was remembered: a refusal keeps all, and what is written keeps to its room; and what is so of a block whose planes are at hand and whose last

@@ -6,12 +6,12 @@ use block::Size;
 use layers::Marks;
 use mesh::Counted;
 ghost use mathlib.Core.Path.{_≡_};
-ghost use Prim.Native.Nat.{_+_, _*_, _≤_};
+ghost use Prim.Native.Nat.{_+_, _*_, _/_, _%_, _≤_};
 ghost use lib.ListN.{length};
 ghost use Rattle.laws.specs.Below.{over};
 ghost use Rattle.cube_rule.specs.Decider.{loopsOf};
 ghost use Rattle.plane_layers.specs.Layer.{LayerReady, SignsReady, LayerCounted, StepReady, RowTaken, LayerRoomy, LayerWritten, Grown};
-ghost use Rattle.plane_layers.specs.Memory.{Windowed, SignedTo, lowAt, itemAt};
+ghost use Rattle.plane_layers.specs.Memory.{Windowed, SignedTo, sampleIn, itemAt, packed, pairOf};
 
 // A layer of a block: the block's size and threshold, the number of the layer's first vertex, and the layer's number.
 pub struct Layer {
@@ -21,20 +21,33 @@ pub struct Layer {
     pub k: usize,
 }
 
-// The low halves of the words of a part, at the front of a window: a loop that the compiler takes some words at a time.
-fn window(part: &[u32]) -> [u16; 512]
-    requires { ⌜ length (now part) ≤ 512 ⌝ }
-    ensures { λ r. ⌜ Windowed (now (part .entry)) (length (now (part .entry))) r ⌝ }
-    ensures { λ r. ⌜ length r ≡ 512 ⌝ }
+// The samples of a part of words, at the front of a window: a loop that is compiled to a copy.
+fn unpack(part: &[u32], window: &mut [u16])
+    requires { ⌜ 2 * length (now part) ≤ length (now window) ⌝ }
+    ensures { λ _. ⌜ Windowed (now (part .entry)) (2 * length (now (part .entry))) (now (window .exit)) ⌝ }
 {
     let n = part.len();
-    let mut w = [0u16; 512];
     let mut i: usize = 0;
     while i < n {
-        w[i] = (part[i] % 65536) as u16;
+        let w = part[i];
+        window[2 * i] = low(w);
+        window[2 * i + 1] = high(w);
         i += 1;
     }
-    w
+}
+
+// The low half of a word.
+fn low(w: u32) -> u16
+    ensures { λ r. ⌜ r ≡ w % 65536 ⌝ }
+{
+    (w % 65536) as u16
+}
+
+// The high half of a word.
+fn high(w: u32) -> u16
+    ensures { λ r. ⌜ r ≡ w / 65536 ⌝ }
+{
+    (w / 65536) as u16
 }
 
 // Copies words into a part of the same length.
@@ -50,29 +63,42 @@ fn copy(source: &[u32], target: &mut [u32])
     }
 }
 
-// Remembers a plane at the front of the buffer, a word each sample.
+// Remembers a plane at the front of the buffer, two samples to a word.
 pub fn keep_plane(plane: &[u16], work: &mut [u32])
     requires { ⌜ length (now plane) ≤ length (now work) ⌝ }
-    ensures { λ _. ⌜ now (work .exit) ≡ over (now (plane .entry)) (now (work .entry)) ⌝ }
+    ensures { λ _. ⌜ now (work .exit) ≡ over (packed (now (plane .entry))) (now (work .entry)) ⌝ }
 {
     let n = plane.len();
+    let pairs = n / 2;
     let mut i: usize = 0;
-    while i < n {
-        work[i] = wide(plane[i]);
+    while i < pairs {
+        work[i] = pair(plane[2 * i], plane[2 * i + 1]);
         i += 1;
     }
+    if n % 2 == 1 {
+        work[pairs] = pair(plane[n - 1], 0);
+    }
+}
+
+// Two samples as a word.
+fn pair(a: u16, b: u16) -> u32
+    ensures { λ r. ⌜ r ≡ pairOf a b ⌝ }
+{
+    a as u32 + 65536 * (b as u32)
 }
 
 // The signs of a plane that is remembered, five words to a row.
 fn old_signs(nx: usize, ny: usize, cut: Cut, work: &[u32], signs: &mut [u64])
     requires { ⌜ (nx ≤ 256) × (ny ≤ 256) × (nx * ny ≤ length (now work)) × (length (now signs) ≡ 1280) ⌝ }
-    ensures { λ _. ⌜ SignedTo nx (lowAt (now (work .entry))) cut ny (now (signs .exit)) ⌝ }
+    ensures { λ _. ⌜ SignedTo nx (sampleIn (now (work .entry))) cut ny (now (signs .exit)) ⌝ }
 {
+    let mut row = [0u16; 514];
     let mut j: usize = 0;
     while j < ny {
         let p = nx * j;
-        let row = window(&work[p..p + nx]);
-        signs::row_signs(&row[0..nx], cut, signs, j);
+        unpack(&work[p / 2..(p + nx + 1) / 2], &mut row);
+        let h = p % 2;
+        signs::row_signs(&row[h..h + nx], cut, signs, j);
         j += 1;
     }
 }
@@ -103,19 +129,21 @@ fn count_rows(layer: Layer, plane: &[u16], work: &[u32], a: &[u64], b: &[u64]) -
         y: 0,
         z: 0,
     };
+    let mut lo = [0u16; 514];
     let mut j: usize = 0;
     while j < rows {
         let nx = size.nx();
         let p = nx * j;
-        let lo = window(&work[p..p + 2 * nx]);
+        unpack(&work[p / 2..(p + 2 * nx + 1) / 2], &mut lo);
+        let h = p % 2;
         let row = mesh::row_of(size, layer.cut, layer.first, j, layer.k);
-        m = layers::row_counts(row, a, b, &lo[0..2 * nx], &plane[p..p + 2 * nx], m);
+        m = layers::row_counts(row, a, b, &lo[h..h + 2 * nx], &plane[p..p + 2 * nx], m);
         j += 1;
     }
     m
 }
 
-// Writes the row j of a layer: its vertices, and the quads from row j of its lower plane.
+// Writes the row j of a layer: its vertices, and the quads from row j of its lower plane. `lo` is room for the row's window.
 fn step_row(
     layer: Layer,
     plane: &[u16],
@@ -128,20 +156,22 @@ fn step_row(
     quads: &mut [u32],
     under: &[u32],
     tab: &mut [u32],
+    lo: &mut [u16],
     m: Marks,
 ) -> Marks
-    requires { ⌜ LayerReady layer (now work) (now plane) × SignsReady layer (now work) (now plane) (now a) (now b) × StepReady loopsOf layer (now work) (now plane) j m (now words) (now offsets) (now quads) (now under) (now tab) ⌝ }
+    requires { ⌜ (length (now lo) ≡ 514) × LayerReady layer (now work) (now plane) × SignsReady layer (now work) (now plane) (now a) (now b) × StepReady loopsOf layer (now work) (now plane) j m (now words) (now offsets) (now quads) (now under) (now tab) ⌝ }
     ensures { λ r. ⌜ RowTaken loopsOf layer (now (work .entry)) (now (plane .entry)) j m r (now (words .entry)) (now (words .exit)) (now (offsets .entry)) (now (offsets .exit)) (now (quads .entry)) (now (quads .exit)) (now (under .entry)) (now (tab .entry)) (now (tab .exit)) ⌝ }
 {
     let nx = layer.size.nx();
     let p = nx * j;
-    let lo = window(&work[p..p + 2 * nx]);
+    unpack(&work[p / 2..(p + 2 * nx + 1) / 2], lo);
+    let h = p % 2;
     let row = mesh::row_of(layer.size, layer.cut, layer.first, j, layer.k);
     layers::row_step(
         row,
         a,
         b,
-        &lo[0..2 * nx],
+        &lo[h..h + 2 * nx],
         &plane[p..p + 2 * nx],
         under,
         tab,
@@ -173,6 +203,7 @@ fn write_rows(
     let rows = ny - 1;
     let mut under = [0u32; 1024];
     let mut tab = [0u32; 1024];
+    let mut lo = [0u16; 514];
     let mut m = Marks {
         v: 0,
         x: 0,
@@ -196,6 +227,7 @@ fn write_rows(
             quads,
             &under,
             &mut tab,
+            &mut lo,
             m,
         );
         copy(&tab[h..h + 2 * nx], &mut work[at..at + 2 * nx]);
@@ -237,11 +269,4 @@ pub fn grow(
     write_rows(layer, t, plane, work, &a, &b, words, offsets, quads);
     keep_plane(plane, work);
     Counted::Counts(counts)
-}
-
-// A sample as a word.
-fn wide(x: u16) -> u32
-    ensures { λ r. ⌜ r ≡ x ⌝ }
-{
-    x as u32
 }

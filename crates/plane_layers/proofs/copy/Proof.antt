@@ -8,7 +8,7 @@ use denote.Ref.{now}
 use lib.ListN.{length, getD, length-set, length-replicate, replicate}
 use Rattle.laws.specs.Below.{over}
 use Rattle.laws.proofs.Over.{each, over-none, over-put, over-at, over-length}
-use Rattle.plane_layers.proofs.Copies.{copied-front, copied-all}
+use Rattle.plane_layers.proofs.Copies.{copied-all}
 use Rattle.plane_layers.proofs.copy.Statement.{statement}
 use Rattle.plane_layers.proofs.copy.Tie as tie
 

@@ -1,126 +1,115 @@
 -- `old_signs` meets its contract. The loop's invariant: the signs of the rows before j stand there. The measure is what is left of the rows.
 -- Assumes nothing.
-use Prim.Native.Nat.{ℕ, _+_, _*_, _-_, _%_, _≤_, _<_}
+use Prim.Native.Nat.{ℕ, _+_, _*_, _-_, _/_, _%_, _≤_, _<_}
 use mathlib.Core.Path.{_≡_, refl, ap, sym, _∙_}
 use native.Mathlib.Omega.{arith}
 use borrow.Author.Needs.{needs}
 use denote.Ref.{now}
-use lib.ListN.{length, getD, take, drop}
-use Rattle.plane_layers.specs.Memory.{SignedTo, lowAt}
-use Rattle.plane_layers.proofs.Signed.{signed-more, row-in, lent-row, lent-window}
+use lib.ListN.{length, getD}
+use Rattle.plane_layers.specs.Memory.{SignedTo, sampleIn}
+use Rattle.plane_layers.proofs.Signed.{signed-more, row-in, wordsFor, frontFor, words-long, lent-window}
 use Rattle.plane_layers.proofs.old_signs.Statement.{statement}
 use Rattle.plane_layers.proofs.old_signs.Tie as tie
-use Rattle.plane_layers.proofs.old_signs.Reads as reads
-use Rattle.plane_layers.proofs.old_signs.Lts as lts
-use Rattle.plane_layers.proofs.window.Reads as window-reads
-use Rattle.signs.proofs.row_signs.Reads as row-signs-reads
 
 abbrev Inv-loop : tie.InvT-loop
-Inv-loop nx ny cut work signs₀ j₀ signs j = (j ≤ ny) × (length signs ≡ 1280) × SignedTo nx (lowAt work) cut j signs
+Inv-loop nx ny cut work signs₀ row₀ j₀ signs row j = (j ≤ ny) × (length signs ≡ 1280) × (length row ≡ 514) × SignedTo nx (sampleIn work) cut j signs
 
 abbrev μ-loop : tie.MeasureT-loop
-μ-loop nx ny cut work signs₀ j₀ signs j = ny - j
+μ-loop nx ny cut work signs₀ row₀ j₀ signs row j = ny - j
 
--- the part that is lent
-lent : (d : tie.In-loop Inv-loop μ-loop) → let s = d .before .before .before .before in let p = s .args .nx * d .before .loop .j in
-    (length (take (p + s .args .nx - p) (drop p (now (s .args .work)))) ≡ s .args .nx) × ((x : ℕ) → x < s .args .nx → getD (take (p + s .args .nx - p) (drop p (now (s .args .work)))) x 0 ≡ getD (now (s .args .work)) (p + x) 0)
-lent d =
+-- the row is inside the plane
+inside : (d : tie.In-loop Inv-loop μ-loop) → let s = d .before .before .before .before in let p = s .args .nx * d .before .loop .j in (p + s .args .nx ≤ length (now (s .args .work))) × (p ≤ 65536) × ((p + s .args .nx + 1) / 2 ≤ length (now (s .args .work))) × (s .args .nx ≤ 512)
+inside d =
     let s = d .before .before .before .before in
-    lent-row (now (s .args .work)) (λ x. getD (now (s .args .work)) x 0) (s .args .nx) (s .args .nx * d .before .loop .j)
-    (omega (arith, row-in _ _ _ (s .pre .0) (s .pre .1) (d .loop-test .taken), s .pre .2)) (λ x l. refl)
+    let f = row-in (s .args .nx) (s .args .ny) (d .before .loop .j) (s .pre .0) (s .pre .1) (d .loop-test .taken) in
+    (omega (arith, f .0, s .pre .2), omega (arith, f), omega (arith, f .0, s .pre .2), omega (arith, s .pre .0))
 
 -- the row in its window
-converted : (w : tie.After-window Inv-loop μ-loop) → let d = w .before .before in let s = d .before .before .before .before in let p = s .args .nx * d .before .loop .j in let front = take (s .args .nx - 0) (w .window .result) in
-    (length front ≡ s .args .nx) × ((x : ℕ) → x < s .args .nx → getD front x 0 ≡ getD (take (p + s .args .nx - p) (drop p (now (s .args .work)))) x 0 % 65536)
-converted w =
-    let d = w .before .before in
+front : (u : tie.After-unpack Inv-loop μ-loop) → let d = u .before .before .before in let s = d .before .before .before .before in let p = s .args .nx * d .before .loop .j in let row = u .unpack .last .1 .0 in
+    (length (frontFor row p (s .args .nx)) ≡ s .args .nx) × ((x : ℕ) → x < s .args .nx → getD (frontFor row p (s .args .nx)) x 0 ≡ sampleIn (now (s .args .work)) (p + x))
+front u =
+    let d = u .before .before .before in
     let s = d .before .before .before .before in
-    let p = s .args .nx * d .before .loop .j in
-    lent-window (take (p + s .args .nx - p) (drop p (now (s .args .work)))) (w .window .result) (s .args .nx) (lent d .0) (omega (arith, s .pre .0)) (w .window .ensures .1) (w .window .ensures .0)
+    let f = inside d in
+    lent-window (now (s .args .work)) (s .args .nx * d .before .loop .j) (s .args .nx) (f .0) (f .3) (u .unpack .last .1 .0) (f .2) (u .unpack .kept .1 .0 ∙ d .before .loop .inv .2) (u .unpack .ensures)
 
--- src/lib.rt:57:5
 loop-holds : tie.Need-loop-holds Inv-loop μ-loop
-loop-holds c = (omega arith, c .before .before .pre .3, λ i w h. absurd (omega arith))
+loop-holds c = (omega arith, c .before .before .pre .3, refl, λ i w h. absurd (omega arith))
 
--- src/lib.rt:58:17
 mul-p : tie.Need-mul-p Inv-loop μ-loop
-mul-p c = let s = c .before .before .before .before in omega (arith, row-in _ _ _ (s .pre .0) (s .pre .1) (c .loop-test .taken), s .pre .0)
+mul-p c = omega (arith, inside c)
 
--- src/lib.rt:59:35
-add-window : tie.Need-add-window Inv-loop μ-loop
-add-window c = let s = c .before .before .before .before in omega (arith, row-in _ _ _ (s .pre .0) (s .pre .1) (c .loop-test .taken), s .pre .0)
+add-unpack : tie.Need-add-unpack Inv-loop μ-loop
+add-unpack c = omega (arith, inside c)
 
--- src/lib.rt:59:26
-mul-window : tie.Need-mul-window Inv-loop μ-loop
-mul-window c = let s = c .before .before .before .before in omega (arith, row-in _ _ _ (s .pre .0) (s .pre .1) (c .loop-test .taken), s .pre .0)
+add-unpack-2 : tie.Need-add-unpack-2 Inv-loop μ-loop
+add-unpack-2 c = omega (arith, inside c)
 
--- src/lib.rt:59:26
-sub-window : tie.Need-sub-window Inv-loop μ-loop
-sub-window c = let s = c .before .before .before .before in omega (arith, row-in _ _ _ (s .pre .0) (s .pre .1) (c .loop-test .taken), s .pre .0)
+mul-unpack : tie.Need-mul-unpack Inv-loop μ-loop
+mul-unpack c = omega (arith, inside c)
 
--- src/lib.rt:59:26
-part-window-start : tie.Need-part-window-start Inv-loop μ-loop
-part-window-start c = let s = c .before .before .before .before in omega (arith, row-in _ _ _ (s .pre .0) (s .pre .1) (c .loop-test .taken), s .pre .0)
+sub-unpack : tie.Need-sub-unpack Inv-loop μ-loop
+sub-unpack c = omega (arith, inside c)
 
--- src/lib.rt:59:26
-part-window-end : tie.Need-part-window-end Inv-loop μ-loop
-part-window-end c = let s = c .before .before .before .before in omega (arith, row-in _ _ _ (s .pre .0) (s .pre .1) (c .loop-test .taken), s .pre .2)
+part-unpack-start : tie.Need-part-unpack-start Inv-loop μ-loop
+part-unpack-start c = omega (arith, inside c)
 
--- src/lib.rt:59:19
-window-requires : tie.Need-window-requires Inv-loop μ-loop
-window-requires c κs = let d = c .before in omega (arith, lent d .0, d .before .before .before .before .pre .0)
+part-unpack-end : tie.Need-part-unpack-end Inv-loop μ-loop
+part-unpack-end c = omega (arith, inside c)
 
--- src/lib.rt:60:26
+slice-aggregate-unpack : tie.Need-slice-aggregate-unpack Inv-loop μ-loop
+slice-aggregate-unpack c = sym (c .before .before .before .loop .inv .2)
+
+unpack-requires : tie.Need-unpack-requires Inv-loop μ-loop
+unpack-requires c κs = let d = c .before .before in let f = inside d in let s = d .before .before .before .before in omega (arith, words-long (now (s .args .work)) (s .args .nx * d .before .loop .j) (s .args .nx) (f .0) (f .3) (f .2), d .before .loop .inv .2, s .pre .0)
+
+add-row-signs : tie.Need-add-row-signs Inv-loop μ-loop
+add-row-signs c = omega (arith, inside (c .before .before .before .before))
+
+mul-row-signs : tie.Need-mul-row-signs Inv-loop μ-loop
+mul-row-signs c = omega (arith, inside (c .before .before .before .before))
+
 sub-row-signs : tie.Need-sub-row-signs Inv-loop μ-loop
-sub-row-signs c = search needs
+sub-row-signs c = omega (arith, inside (c .before .before .before .before))
 
--- src/lib.rt:60:26
 part-row-signs-start : tie.Need-part-row-signs-start Inv-loop μ-loop
-part-row-signs-start c = search needs
+part-row-signs-start c = let d = c .before .before .before .before .before in omega (arith, inside d, c .before .before .unpack .kept .1 .0, d .before .loop .inv .2, d .before .before .before .before .pre .0)
 
--- src/lib.rt:60:26
 part-row-signs-end : tie.Need-part-row-signs-end Inv-loop μ-loop
-part-row-signs-end c = omega (arith, c .before .before .before .before .before .before .before .pre .0)
+part-row-signs-end c = let d = c .before .before .before .before .before in omega (arith, inside d, c .before .before .unpack .kept .1 .0, d .before .loop .inv .2, d .before .before .before .before .pre .0)
 
--- src/lib.rt:60:9
 row-signs-requires : tie.Need-row-signs-requires Inv-loop μ-loop
 row-signs-requires c κs =
-    let w = c .before .before .before in
-    let d = w .before .before in
+    let u = c .before .before .before .before in
+    let d = u .before .before .before in
     let s = d .before .before .before .before in
-    let l = lent d in
-    (omega (arith, converted w .0, s .pre .0), omega (arith, d .before .loop .inv .1, d .loop-test .taken, s .pre .1))
+    (omega (arith, front u .0, s .pre .0), omega (arith, d .before .loop .inv .1, d .loop-test .taken, s .pre .1))
 
--- src/lib.rt:61:9
 add-j : tie.Need-add-j Inv-loop μ-loop
-add-j c = let d = c .before .before .before .before .before .before .before .before in omega (arith, d .loop-test .taken, d .before .before .before .before .pre .1)
+add-j c = let d = c .before .before .before .before .before .before .before .before .before .before in omega (arith, d .loop-test .taken, d .before .before .before .before .pre .1)
 
--- src/lib.rt:57:5
 loop-less : tie.Need-loop-less Inv-loop μ-loop
-loop-less c = omega (arith, c .before .before .before .before .before .before .before .before .loop-test .taken)
+loop-less c = omega (arith, c .before .before .before .before .before .before .before .before .before .before .loop-test .taken)
 
--- src/lib.rt:57:5
 loop-again : tie.Need-loop-again Inv-loop μ-loop
 loop-again c =
     let r = c .before .before in
-    let w = r .before .before .before .before in
-    let d = w .before .before in
+    let u = c .before .before .before .before .before .before .before in
+    let d = u .before .before .before in
     let h = d .before .loop in
     let s = d .before .before .before .before in
-    let l = lent d in
-    let v = converted w in (
+    let v = front u in (
       omega (arith, d .loop-test .taken),
       r .row-signs .kept .1 .1 .0 ∙ h .inv .1,
-      signed-more (s .args .nx) (h .j) (lowAt (now (s .args .work))) (s .args .cut) _ (h .signs) _ (v .0) (λ x b. v .1 x b ∙ ap (λ (y : ℕ). y % 65536) (l .1 x b)) (omega (arith, h .inv .1, d .loop-test .taken, s .pre .1)) (r .row-signs .ensures) (h .inv .2),
+      u .unpack .kept .1 .0 ∙ h .inv .2,
+      signed-more (s .args .nx) (h .j) (sampleIn (now (s .args .work))) (s .args .cut) _ (h .signs) _ (v .0) (v .1) (omega (arith, h .inv .1, d .loop-test .taken, s .pre .1)) (r .row-signs .ensures) (h .inv .3),
     )
 
--- src/lib.rt:52:1
 same-length : tie.Need-same-length Inv-loop μ-loop
 same-length c = omega (arith, c .before .loop .inv .1, c .before .before .before .before .pre .3)
 
--- src/lib.rt:52:1
 returns : tie.Need-returns Inv-loop μ-loop
-returns c = let h = c .before .loop in λ i w hi hw. h .inv .2 i w (omega (arith, c .loop-test .left)) hw
+returns c = let h = c .before .loop in λ i w hi hw. h .inv .3 i w (omega (arith, c .loop-test .left)) hw
 
 pub old-signs-spec : {M : Type 1} → statement M
 old-signs-spec =
@@ -130,12 +119,16 @@ old-signs-spec =
     μ-loop
     loop-holds
     mul-p
-    add-window
-    mul-window
-    sub-window
-    part-window-start
-    part-window-end
-    window-requires
+    add-unpack
+    add-unpack-2
+    mul-unpack
+    sub-unpack
+    part-unpack-start
+    part-unpack-end
+    slice-aggregate-unpack
+    unpack-requires
+    add-row-signs
+    mul-row-signs
     sub-row-signs
     part-row-signs-start
     part-row-signs-end

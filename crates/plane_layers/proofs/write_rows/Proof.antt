@@ -15,10 +15,10 @@ use Rattle.plane_layers.proofs.write_rows.Statement.{statement}
 use Rattle.plane_layers.proofs.write_rows.Tie as tie
 
 abbrev Inv-loop : tie.InvT-loop
-Inv-loop layer plane work₀ a b words₀ offsets₀ quads₀ nx ny rows under₀ tab₀ m₀ j₀ work words offsets quads under tab m j = (j ≤ layer .size .ny - 1) × RowsState loopsOf layer (m₀ .y) (m₀ .z) plane work₀ words₀ offsets₀ quads₀ under tab work words offsets quads m j
+Inv-loop layer plane work₀ a b words₀ offsets₀ quads₀ nx ny rows under₀ tab₀ lo₀ m₀ j₀ work words offsets quads under tab lo m j = (j ≤ layer .size .ny - 1) × (length lo ≡ 514) × RowsState loopsOf layer (m₀ .y) (m₀ .z) plane work₀ words₀ offsets₀ quads₀ under tab work words offsets quads m j
 
 abbrev μ-loop : tie.MeasureT-loop
-μ-loop layer plane work₀ a b words₀ offsets₀ quads₀ nx ny rows under₀ tab₀ m₀ j₀ work words offsets quads under tab m j = layer .size .ny - 1 - j
+μ-loop layer plane work₀ a b words₀ offsets₀ quads₀ nx ny rows under₀ tab₀ lo₀ m₀ j₀ work words offsets quads under tab lo m j = layer .size .ny - 1 - j
 
 -- the places that the proof names: the entry, the lengths read, the numbers fetched, the row written
 abbrev sized : tie.In-loop Inv-loop μ-loop → tie.After-ny Inv-loop μ-loop
@@ -31,7 +31,7 @@ abbrev fetched : tie.After-copy Inv-loop μ-loop → tie.In-loop Inv-loop μ-loo
 fetched f = f .before .before .before .before
 
 abbrev asked : tie.After-step-row Inv-loop μ-loop → tie.After-copy Inv-loop μ-loop
-asked t = t .before .before .before .before .before .before .before .before
+asked t = t .before .before .before .before .before .before .before .before .before
 
 -- a row of the layer
 in-layer : (d : tie.In-loop Inv-loop μ-loop) → d .before .loop .j + 1 < start d .args .layer .size .ny
@@ -57,16 +57,16 @@ wide-is d = ap (λ (x : ℕ). 2 * x) (sized d .before .nx .ensures)
 small : (d : tie.In-loop Inv-loop μ-loop) → let nx = sized d .before .nx .result in (nx * sized d .ny .result ≤ 65536) × (nx * d .before .loop .j ≤ 65536) × (nx ≤ 256) × (at d + wide d ≤ length (d .before .loop .work)) × (half d + wide d ≤ 1024) × (nx * sized d .ny .result + 2 * (nx * d .before .loop .j) ≤ 196608)
 small d =
     let s = start d in
-    table-small (s .pre .0) (s .pre .2) (s .pre .3) (d .before .loop .inv .1) (in-layer d) _ _ (sized d .before .nx .ensures) (sized d .ny .ensures)
+    table-small (s .pre .0) (s .pre .2) (s .pre .3) (d .before .loop .inv .2) (in-layer d) _ _ (sized d .before .nx .ensures) (sized d .ny .ensures)
 
 sub-rows : tie.Need-sub-rows Inv-loop μ-loop
 sub-rows c = omega (arith, c .ny .ensures, c .before .before .before .before .before .before .before .before .before .pre .0 .limits .y-low)
 
-add-t19 : tie.Need-add-t19 Inv-loop μ-loop
-add-t19 c = let s = c .before .before .before .before .before .before .before .before .before .before in omega (arith, s .pre .3 .quads, s .good)
+add-t20 : tie.Need-add-t20 Inv-loop μ-loop
+add-t20 c = let s = c .before .before .before .before .before .before .before .before .before .before in omega (arith, s .pre .3 .quads, s .good)
 
 loop-holds : tie.Need-loop-holds Inv-loop μ-loop
-loop-holds c = (omega arith, state-none _ _ _ _ refl refl)
+loop-holds c = (omega arith, refl, state-none _ _ _ _ refl refl)
 
 mul-at : tie.Need-mul-at Inv-loop μ-loop
 mul-at c = omega (arith, small c)
@@ -120,103 +120,107 @@ part-under-end : tie.Need-part-under-end Inv-loop μ-loop
 part-under-end c = omega (arith, small (c .before .before))
 
 copy-requires : tie.Need-copy-requires Inv-loop μ-loop
-copy-requires c κs = let d = c .before .before .before in let s = start d in fetch-fits (s .pre .0) (s .pre .2) (s .pre .3) (d .before .loop .inv .1) (in-layer d) _ _ _ (at-is d) refl (wide-is d)
+copy-requires c κs = let d = c .before .before .before in let s = start d in fetch-fits (s .pre .0) (s .pre .2) (s .pre .3) (d .before .loop .inv .2) (in-layer d) _ _ _ (at-is d) refl (wide-is d)
 
 slice-aggregate-step-row : tie.Need-slice-aggregate-step-row Inv-loop μ-loop
 slice-aggregate-step-row c =
     let f = c .before .before .before .before .before .before in
     let d = fetched f in
     let s = start d in
-    sym (under-long (s .pre .0) (s .pre .2) (s .pre .3) (d .before .loop .inv .1) (in-layer d) _ _ _ (at-is d) refl (wide-is d) _ (f .copy .ensures))
+    sym (under-long (s .pre .0) (s .pre .2) (s .pre .3) (d .before .loop .inv .2) (in-layer d) _ _ _ (at-is d) refl (wide-is d) _ (f .copy .ensures))
 
 slice-aggregate-step-row-2 : tie.Need-slice-aggregate-step-row-2 Inv-loop μ-loop
-slice-aggregate-step-row-2 c = sym (fetched (c .before .before .before .before .before .before .before) .before .loop .inv .1 .tab-long)
+slice-aggregate-step-row-2 c = sym (fetched (c .before .before .before .before .before .before .before) .before .loop .inv .2 .tab-long)
+
+slice-aggregate-step-row-3 : tie.Need-slice-aggregate-step-row-3 Inv-loop μ-loop
+slice-aggregate-step-row-3 c = sym (fetched (c .before .before .before .before .before .before .before .before) .before .loop .inv .1)
 
 step-row-requires : tie.Need-step-row-requires Inv-loop μ-loop
 step-row-requires c κs =
-    let f = c .before .before .before .before .before .before .before in
+    let f = c .before .before .before .before .before .before .before .before in
     let d = fetched f in
     let s = start d in
-    let st = d .before .loop .inv .1 in
-    (ready-same _ _ _ (st .kept .work-long) (st .front) (s .pre .0), signs-same _ _ _ (st .kept .work-long) (st .front) (s .pre .1), row-ready (s .pre .0) (s .pre .2) (s .pre .3) st (in-layer d) _ _ _ (at-is d) refl (wide-is d) _ (f .copy .ensures))
+    let st = d .before .loop .inv .2 in
+    (d .before .loop .inv .1, ready-same _ _ _ (st .kept .work-long) (st .front) (s .pre .0), signs-same _ _ _ (st .kept .work-long) (st .front) (s .pre .1), row-ready (s .pre .0) (s .pre .2) (s .pre .3) st (in-layer d) _ _ _ (at-is d) refl (wide-is d) _ (f .copy .ensures))
 
 mul-copy-4 : tie.Need-mul-copy-4 Inv-loop μ-loop
-mul-copy-4 c = omega (arith, small (fetched (asked (c .before .before .before .before .before .before .before))))
+mul-copy-4 c = omega (arith, small (fetched (asked (c .before .before .before .before .before .before .before .before))))
 
 add-copy-3 : tie.Need-add-copy-3 Inv-loop μ-loop
-add-copy-3 c = omega (arith, small (fetched (asked (c .before .before .before .before .before .before .before))))
+add-copy-3 c = omega (arith, small (fetched (asked (c .before .before .before .before .before .before .before .before))))
 
 mul-copy-5 : tie.Need-mul-copy-5 Inv-loop μ-loop
-mul-copy-5 c = omega (arith, small (fetched (asked (c .before .before .before .before .before .before .before))))
+mul-copy-5 c = omega (arith, small (fetched (asked (c .before .before .before .before .before .before .before .before))))
 
 sub-copy-3 : tie.Need-sub-copy-3 Inv-loop μ-loop
-sub-copy-3 c = omega (arith, small (fetched (asked (c .before .before .before .before .before .before .before))))
+sub-copy-3 c = omega (arith, small (fetched (asked (c .before .before .before .before .before .before .before .before))))
 
 part-copy-start-2 : tie.Need-part-copy-start-2 Inv-loop μ-loop
-part-copy-start-2 c = omega (arith, small (fetched (asked (c .before .before .before .before .before .before .before .before))), c .before .before .before .before .before .before .before .before .step-row .ensures .tab-long)
+part-copy-start-2 c = omega (arith, small (fetched (asked (c .before .before .before .before .before .before .before .before .before))), c .before .before .before .before .before .before .before .before .before .step-row .ensures .tab-long)
 
 part-copy-end-2 : tie.Need-part-copy-end-2 Inv-loop μ-loop
-part-copy-end-2 c = omega (arith, small (fetched (asked (c .before .before .before .before .before .before .before .before))), c .before .before .before .before .before .before .before .before .step-row .ensures .tab-long)
+part-copy-end-2 c = omega (arith, small (fetched (asked (c .before .before .before .before .before .before .before .before .before))), c .before .before .before .before .before .before .before .before .before .step-row .ensures .tab-long)
 
 mul-copy-6 : tie.Need-mul-copy-6 Inv-loop μ-loop
-mul-copy-6 c = omega (arith, small (fetched (asked (c .before .before .before .before .before .before .before .before .before))))
+mul-copy-6 c = omega (arith, small (fetched (asked (c .before .before .before .before .before .before .before .before .before .before))))
 
 add-copy-4 : tie.Need-add-copy-4 Inv-loop μ-loop
-add-copy-4 c = omega (arith, small (fetched (asked (c .before .before .before .before .before .before .before .before .before))))
+add-copy-4 c = omega (arith, small (fetched (asked (c .before .before .before .before .before .before .before .before .before .before))))
 
 mul-copy-7 : tie.Need-mul-copy-7 Inv-loop μ-loop
-mul-copy-7 c = omega (arith, small (fetched (asked (c .before .before .before .before .before .before .before .before .before))))
+mul-copy-7 c = omega (arith, small (fetched (asked (c .before .before .before .before .before .before .before .before .before .before))))
 
 sub-copy-4 : tie.Need-sub-copy-4 Inv-loop μ-loop
-sub-copy-4 c = omega (arith, small (fetched (asked (c .before .before .before .before .before .before .before .before .before))))
+sub-copy-4 c = omega (arith, small (fetched (asked (c .before .before .before .before .before .before .before .before .before .before))))
 
 part-copy-start-3 : tie.Need-part-copy-start-3 Inv-loop μ-loop
-part-copy-start-3 c = omega (arith, small (fetched (asked (c .before .before .before .before .before .before .before .before .before))))
+part-copy-start-3 c = omega (arith, small (fetched (asked (c .before .before .before .before .before .before .before .before .before .before))))
 
 part-copy-end-3 : tie.Need-part-copy-end-3 Inv-loop μ-loop
-part-copy-end-3 c = omega (arith, small (fetched (asked (c .before .before .before .before .before .before .before .before .before))))
+part-copy-end-3 c = omega (arith, small (fetched (asked (c .before .before .before .before .before .before .before .before .before .before))))
 
 copy-requires-2 : tie.Need-copy-requires-2 Inv-loop μ-loop
 copy-requires-2 c κs =
-    let t = c .before .before .before .before .before .before .before .before .before .before in
+    let t = c .before .before .before .before .before .before .before .before .before .before .before in
     let d = fetched (asked t) in
     let s = start d in
-    keep-fits (s .pre .0) (s .pre .2) (s .pre .3) (d .before .loop .inv .1) (in-layer d) _ _ _ (at-is d) refl (wide-is d) _ (t .step-row .ensures .tab-long)
+    keep-fits (s .pre .0) (s .pre .2) (s .pre .3) (d .before .loop .inv .2) (in-layer d) _ _ _ (at-is d) refl (wide-is d) _ (t .step-row .ensures .tab-long)
 
 add-j : tie.Need-add-j Inv-loop μ-loop
-add-j c = let d = fetched (asked (c .before .before .before .before .before .before .before .before .before .before .before .before .before)) in omega (arith, in-layer d, start d .pre .0 .limits .y-high)
+add-j c = let d = fetched (asked (c .before .before .before .before .before .before .before .before .before .before .before .before .before .before)) in omega (arith, in-layer d, start d .pre .0 .limits .y-high)
 
 loop-less : tie.Need-loop-less Inv-loop μ-loop
-loop-less c = omega (arith, in-layer (fetched (asked (c .before .before .before .before .before .before .before .before .before .before .before .before .before))))
+loop-less c = omega (arith, in-layer (fetched (asked (c .before .before .before .before .before .before .before .before .before .before .before .before .before .before))))
 
 loop-again : tie.Need-loop-again Inv-loop μ-loop
 loop-again c =
-    let t = c .before .before .before .before .before .before .before .before .before .before .before .before .before in
+    let t = c .before .before .before .before .before .before .before .before .before .before .before .before .before .before in
     let f = asked t in
     let d = fetched f in
     let s = start d in (
       omega (arith, in-layer d),
-      state-more (s .pre .0) (s .pre .2) (s .pre .3) (d .before .loop .inv .1) (in-layer d) _ _ _ (at-is d) refl (wide-is d) _ (f .copy .ensures) (t .step-row .ensures) _ (c .before .before .copy2 .ensures) (t .step-row .kept .1 .1 .1 .1 .1 .1 .0) (t .step-row .kept .1 .1 .1 .1 .1 .1 .1 .0) (t .step-row .kept .1 .1 .1 .1 .1 .1 .1 .1 .0),
+      t .step-row .kept .1 .1 .1 .1 .1 .1 .1 .1 .1 .1 .1 .0 ∙ d .before .loop .inv .1,
+      state-more (s .pre .0) (s .pre .2) (s .pre .3) (d .before .loop .inv .2) (in-layer d) _ _ _ (at-is d) refl (wide-is d) _ (f .copy .ensures) (t .step-row .ensures) _ (c .before .before .copy2 .ensures) (t .step-row .kept .1 .1 .1 .1 .1 .1 .0) (t .step-row .kept .1 .1 .1 .1 .1 .1 .1 .0) (t .step-row .kept .1 .1 .1 .1 .1 .1 .1 .1 .0),
     )
 
 same-length : tie.Need-same-length Inv-loop μ-loop
-same-length c = c .before .loop .inv .1 .kept .work-long
+same-length c = c .before .loop .inv .2 .kept .work-long
 
 same-length-2 : tie.Need-same-length-2 Inv-loop μ-loop
-same-length-2 c = c .before .loop .inv .1 .kept .words-long
+same-length-2 c = c .before .loop .inv .2 .kept .words-long
 
 same-length-3 : tie.Need-same-length-3 Inv-loop μ-loop
-same-length-3 c = c .before .loop .inv .1 .kept .offsets-long
+same-length-3 c = c .before .loop .inv .2 .kept .offsets-long
 
 same-length-4 : tie.Need-same-length-4 Inv-loop μ-loop
-same-length-4 c = c .before .loop .inv .1 .kept .quads-long
+same-length-4 c = c .before .loop .inv .2 .kept .quads-long
 
 returns : tie.Need-returns Inv-loop μ-loop
 returns c =
     let h = c .before .loop in
     let y = c .before .before .before in
     let s = c .before .before .before .before .before .before .before .before .before .before .before .before in
-    state-all (s .pre .0) (s .pre .2) (omega (arith, c .loop-test .left, y .ny .ensures, h .inv .0)) (h .inv .1)
+    state-all (s .pre .0) (s .pre .2) (omega (arith, c .loop-test .left, y .ny .ensures, h .inv .0)) (h .inv .2)
 
 pub write-rows-spec : {M : Type 1} → statement M
 write-rows-spec =
@@ -227,7 +231,7 @@ write-rows-spec =
     (λ c κs. search needs)
     (λ c κs. search needs)
     sub-rows
-    add-t19
+    add-t20
     loop-holds
     mul-at
     mul-at-2
@@ -249,6 +253,7 @@ write-rows-spec =
     copy-requires
     slice-aggregate-step-row
     slice-aggregate-step-row-2
+    slice-aggregate-step-row-3
     step-row-requires
     mul-copy-4
     add-copy-3
