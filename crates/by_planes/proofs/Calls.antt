@@ -7,9 +7,11 @@ use mathlib.Core.List.{List, [], _∷_, _++_}
 use native.Mathlib.Nat.{add-zero, mod-eq-of-lt, mul-assoc, mul-le-mul-left}
 use native.Mathlib.Numerals.{add-one}
 use native.Mathlib.Omega.{arith}
+use borrow.Author.Tests.{le-leb}
+use lib.Dec.{leb}
 use lib.Ieee.{Float, nan}
-use lib.ListN.{length, getD, take, drop, length-append, List·getD-eq-default}
-use lib.Seq.{getD-take, getD-drop}
+use lib.ListN.{length, getD, take, drop, length-append, length-drop, List·getD-eq-default}
+use lib.Seq.{getD-take, getD-drop, length-take-le}
 use Rattle.laws.specs.Below.{over}
 use Rattle.laws.proofs.Over.{over-length}
 use Rattle.laws.proofs.Tests.{lt-or-ge}
@@ -23,6 +25,7 @@ use Rattle.block.specs.Grey.{SixteenBit}
 use Rattle.block.specs.Numbering.{Axis, X, Y, Z, sampleCount}
 use Rattle.block.specs.Size.{Limits}
 use Rattle.block.proofs.Order.{orders-refuse, orders-pass, judged-refused, judged-passed, written-refused, written-passed, passes-refuses, refused-says, accepted-says}
+use Rattle.block.proofs.Rows.{unless-passes}
 use Rattle.cube_rule.specs.Decider.{joined, loopsOf}
 use Rattle.cube_rule.proofs.Laws.{cube-laws}
 use Rattle.mesh_rule.specs.Layers.{planeSize, layerSize, layerFirst, planeQuads}
@@ -46,10 +49,10 @@ use Rattle.by_planes.specs.declared.Stream.{Stream}
 use Rattle.by_planes.specs.declared.Growth.{Growth}
 use Rattle.by_planes.specs.declared.Taken.{Taken}
 use Rattle.by_planes.specs.declared.Taken.the-variants as taken
-use Rattle.by_planes.specs.Answer.{sizeIn, planeOf, partWords, partOffsets, partQuads, partTotals, further, callRows, takeVerdict, saidTaken}
+use Rattle.by_planes.specs.Answer.{sizeIn, planeOf, partWords, partOffsets, partQuads, partTotals, further, grownBy, callRows, takeVerdict, saidTaken}
 use Rattle.by_planes.specs.Left.{Left, PartTaken, PlaneTaken}
-use Rattle.by_planes.specs.Steps.{Sizes, firstOf, grownBy}
-use Rattle.by_planes.proofs.Rows.{plane-is, laterRows, passed, first-small}
+use Rattle.by_planes.specs.Steps.{Sizes, firstOf}
+use Rattle.by_planes.proofs.Rows.{plane-is, laterRows, call-axes, call-room, passed, first-small}
 
 none-over : {A : Type 0} (b : List A) → b ≡ over [] b
 unfolding over
@@ -65,6 +68,28 @@ in-cubes a b c k h = omega (arith, mul-assoc a b c, mul-le-mul-left (a * b) h)
 some-quads : (n : Size) (s : List ℕ) (cut : Cut) (a : Axis) (k : ℕ) → k ≤ n .nz → length (quadsUpTo loopsOf n s cut a (planeSize n * k)) ≤ length (quadsUpTo loopsOf n s cut a (sampleCount n))
 some-quads n s cut a k h = below-le _ (planeSize n * k) (sampleCount n) (in-cubes (n .nx) (n .ny) (n .nz) k h)
 
+abbrev nothing : Totals
+nothing = record { vertices = 0; quads = 0 }
+
+-- ---- a state and a work buffer as last left pass the rows that need no count, while planes are to come
+
+pub plane-length : {s : List ℕ} {st : Stream} {work : List ℕ} → Left s st work → st .planes < st .nz → length (planeOf (sizeIn st) s (st .planes)) ≡ st .nx * st .ny
+plane-length {s} {st} left more =
+    length-take-le (planeSize (sizeIn st)) (drop (planeSize (sizeIn st) * st .planes) s)
+    (omega (arith, length-drop (planeSize (sizeIn st) * st .planes) s, left .block .samples, inside (st .nx) (st .ny) (st .nz) (st .planes) more))
+  where
+    inside : (a b c k : ℕ) → k < c → a * b * k + a * b ≤ a * (b * c)
+    inside a b c k h = omega (arith, mul-assoc a b c, mul-le-mul-left (a * b) (next h))
+      where
+        next : k < c → k + 1 ≤ c
+        next q = omega arith
+
+pub left-early : {s : List ℕ} {st : Stream} {work : List ℕ} → Left s st work → st .planes < st .nz → (plane : List ℕ) → plane ≡ planeOf (sizeIn st) s (st .planes) → inOrder (callRows st (length plane) (length work)) ≡ Passes
+left-early {s} {st} {work} left more plane is =
+    call-axes st (length plane) (length work) (left .block .limits)
+    ∙ sym (call-room st (length plane) (length work) (left .threshold) more (ap length is ∙ plane-length left more))
+    ∙ sym (unless-passes (leb (6 * (st .nx * st .ny)) (length work)) 15 (6 * (st .nx * st .ny)) (le-leb (6 * (st .nx * st .ny)) (length work) (left .room)))
+
 -- ---- a row that needs no count refuses
 
 module _ (st : Stream) (plane work w : List ℕ) (o : List Float) (q : List ℕ) where
@@ -72,21 +97,15 @@ module _ (st : Stream) (plane work w : List ℕ) (o : List Float) (q : List ℕ)
   early = inOrder (callRows st (length plane) (length work))
 
   pub taken-refused : (x : Refusal) → early ≡ Refuses x → PlaneTaken st plane work w o q (taken.Refused x) work w o q
-  taken-refused x e = record {
-    early = λ y f. same y f;
-    refusal-keeps = λ y f. (refl, refl, refl, refl);
-    kept = λ g f. absurd (wrote-refused (sym f));
-    part = λ s left is. let k = orders-refuse (callRows st (length plane) (length work)) _ x e in record {
-      answer = judged-refused _ _ x k;
-      words = sym (written-refused _ _ w x k);
-      offsets = sym (written-refused _ _ o x k);
-      quads = sym (written-refused _ _ q x k);
-      left = λ p. absurd (passes-refuses (sym p ∙ k));
-    };
-  }
-    where
-      same : (y : Refusal) → early ≡ Refuses y → saidTaken (taken.Refused x) ≡ saidTaken (taken.Refused y)
-      same y f = let z : Refuses x ≡ Refuses y = sym e ∙ f in cc
+  taken-refused x e =
+      let k : takeVerdict st (length plane) (length work) nothing (length w) (length o) (length q) ≡ Refuses x = orders-refuse (callRows st (length plane) (length work)) _ x e in
+      record {
+        counted = nothing;
+        answer = judged-refused _ _ x k;
+        refusal-keeps = λ y f. (refl, refl, refl, refl);
+        kept = λ g f. absurd (wrote-refused (sym f));
+        part = λ s left more is. absurd (passes-refuses (sym (left-early left more plane is) ∙ e));
+      }
 
   -- ---- they pass
 
@@ -125,21 +144,14 @@ module _ (st : Stream) (plane work w : List ℕ) (o : List Float) (q : List ℕ)
       few-q : st .quads ≤ 49354740
       few-q = omega (arith, left .quads-are, some-quads n s (st .cut) X (st .planes - 1) (omega arith), some-quads n s (st .cut) Y (st .planes - 1) (omega arith), some-quads n s (st .cut) Z (st .planes - 1) (omega arith), all-quads n s (st .cut), most-quads loopsOf n s (st .cut) (left .block .limits))
 
-      abbrev part : Totals
-      part = partTotals n s (st .cut) (st .planes)
-
-      growth-is : (c : Totals) → c ≡ part → c .vertices ≤ 66325500 → c .quads ≤ 49354740 → grownBy st c ≡ record { stream = further st part; counts = part }
-      growth-is c e hv hq =
+      growth-is : (c : Totals) → c .vertices ≤ 66325500 → c .quads ≤ 49354740 → grownBy st c ≡ record { stream = further st c; counts = c }
+      growth-is c hv hq =
           ap₂ (λ (v u : ℕ). record { stream = record { nx = st .nx; ny = st .ny; nz = st .nz; cut = st .cut; vertices = v; quads = u; planes = st .planes + 1 }; counts = c })
           (mod-eq-of-lt (omega (arith, left .vertices-are, few-v))) (mod-eq-of-lt (omega (arith, few-q)))
-          ∙ ap (λ (d : Totals). record { stream = further st d; counts = d }) e
 
     -- ---- the first plane
 
     module _ (none : st .planes ≡ 0) (work′ : List ℕ) (keeps : work′ ≡ over (packed plane) work) where
-      abbrev nothing : Totals
-      nothing = record { vertices = 0; quads = 0 }
-
       fits : length plane ≤ length work
       fits = omega arith
 
@@ -156,34 +168,33 @@ module _ (st : Stream) (plane work w : List ℕ) (o : List Float) (q : List ℕ)
       }
 
       pub taken-first : PlaneTaken st plane work w o q (taken.Wrote (grownBy st nothing)) work′ w o q
-      taken-first = record {
-        early = λ x e. absurd (no-early x e);
-        refusal-keeps = λ x e. absurd (wrote-refused e);
-        kept = λ g e. subst (λ (c : Totals). KeptBehind (c .vertices) (4 * c .quads) (6 * (st .nx * st .ny)) w w o o q q work work′) (counts-same e) first-kept;
-        part = λ s left is. first-part left is;
-      }
+      taken-first =
+          let k : takeVerdict st (length plane) (length work) nothing (length w) (length o) (length q) ≡ Passes = late-decides nothing ∙ roomy 0 0 (length w) (length o) (length q) (omega arith) (omega arith) (omega arith) in
+          record {
+            counted = nothing;
+            answer = judged-passed _ (grownBy st nothing) _ k refl;
+            refusal-keeps = λ x e. absurd (wrote-refused e);
+            kept = λ g e. first-kept;
+            part = λ s left more is. first-part k left is;
+          }
         where
-          counts-same : {g : Growth} → saidTaken (taken.Wrote (grownBy st nothing)) ≡ saidTaken (taken.Wrote g) → nothing ≡ g .counts
-          counts-same {g} e = let z : grownBy st nothing ≡ g = cc in ap (λ (x : Growth). x .counts) z
-
-          first-part : {s : List ℕ} → Left s st work → plane ≡ planeOf (sizeIn st) s (st .planes)
-              → PartTaken (takeVerdict st (length plane) (length work) (partTotals (sizeIn st) s (st .cut) (st .planes)) (length w) (length o) (length q)) s st w o q (taken.Wrote (grownBy st nothing)) work′ w o q
-          first-part {s} left is =
-              let e : nothing ≡ partTotals (sizeIn st) s (st .cut) (st .planes) = ap (partTotals (sizeIn st) s (st .cut)) (sym none) in
-              let k : takeVerdict st (length plane) (length work) (partTotals (sizeIn st) s (st .cut) (st .planes)) (length w) (length o) (length q) ≡ Passes = late-decides (partTotals (sizeIn st) s (st .cut) (st .planes)) ∙ ap (λ (c : Totals). inOrder (bufferRows c (length w) (length o) (length q))) (sym e) ∙ roomy 0 0 (length w) (length o) (length q) (omega arith) (omega arith) (omega arith) in
+          first-part : takeVerdict st (length plane) (length work) nothing (length w) (length o) (length q) ≡ Passes → {s : List ℕ} → Left s st work → plane ≡ planeOf (sizeIn st) s (st .planes)
+              → PartTaken (takeVerdict st (length plane) (length work) nothing (length w) (length o) (length q)) s st nothing w o q work′ w o q
+          first-part k {s} left is =
               record {
-                answer = judged-passed _ (grownBy st nothing) _ k (growth-is left is nothing e (omega arith) (omega arith));
+                counts-are = ap (partTotals (sizeIn st) s (st .cut)) (sym none);
                 words = over-nothing w (ap (partWords (sizeIn st) s (st .cut)) none) ∙ sym (written-passed _ _ w k);
                 offsets = over-nothing o (ap (partOffsets (sizeIn st) s (st .cut)) none) ∙ sym (written-passed _ _ o k);
                 quads = over-nothing q (ap (partQuads (sizeIn st) s (st .cut)) none) ∙ sym (written-passed _ _ q k);
-                left = λ p. first-left left is e;
+                uncut = growth-is left is nothing (omega arith) (omega arith);
+                left = λ p. first-left left is;
               }
             where
               over-nothing : {A : Type 0} (b : List A) {xs : List A} → xs ≡ [] → b ≡ over xs b
               over-nothing b h = rw h (none-over b)
 
-              first-left : Left s st work → plane ≡ planeOf (sizeIn st) s (st .planes) → nothing ≡ partTotals (sizeIn st) s (st .cut) (st .planes) → Left s (further st (partTotals (sizeIn st) s (st .cut) (st .planes))) work′
-              first-left left is e = subst (λ (c : Totals). Left s (further st c) work′) e (record {
+              first-left : Left s st work → plane ≡ planeOf (sizeIn st) s (st .planes) → Left s (further st nothing) work′
+              first-left left is = record {
                 block = left .block;
                 grey = left .grey;
                 threshold = left .threshold;
@@ -193,7 +204,7 @@ module _ (st : Stream) (plane work w : List ℕ) (o : List Float) (q : List ℕ)
                 quads-are = ap (λ (x : ℕ). 4 * x) (add-zero (st .quads)) ∙ left .quads-are ∙ ap (λ (k : ℕ). length (quadsUpTo loopsOf (sizeIn st) s (st .cut) X (planeSize (sizeIn st) * k)) + length (quadsUpTo loopsOf (sizeIn st) s (st .cut) Y (planeSize (sizeIn st) * k)) + length (quadsUpTo loopsOf (sizeIn st) s (st .cut) Z (planeSize (sizeIn st) * k))) before;
                 plane = λ h i l. ap (λ (b : List ℕ). sampleIn b i) keeps ∙ packed-sample plane work (plane-grey left is) i (omega arith) ∙ item left is i l ∙ ap (λ (k : ℕ). getD s (planeSize (sizeIn st) * k + i) 0) here;
                 tables = λ h. absurd (omega arith);
-              })
+              }
                 where
                   before : st .planes - 1 ≡ st .planes + 1 - 1
                   before = omega arith
@@ -226,17 +237,11 @@ module _ (st : Stream) (plane work w : List ℕ) (o : List Float) (q : List ℕ)
             two : 0 < k → st .planes - 2 ≡ k - 1
             two h = omega arith
 
-        abbrev layer : PartGrown loopsOf (inOrder (bufferRows (layerTotals loopsOf (sizeIn st) s (st .cut) k) (length w) (length o) (length q))) (sizeIn st) s (st .cut) k plane work′ w o q r w′ o′ q′
+        abbrev layer : PartGrown loopsOf (inOrder (bufferRows (grown .counted) (length w) (length o) (length q))) (sizeIn st) s (st .cut) k plane work′ (grown .counted) w o q w′ o′ q′
         layer = grown .part s shown known
 
         next : suc k ≡ st .planes
         next = sym (add-one k) ∙ some
-
-        totals : layerTotals loopsOf (sizeIn st) s (st .cut) k ≡ partTotals (sizeIn st) s (st .cut) (st .planes)
-        totals = ap (partTotals (sizeIn st) s (st .cut)) next
-
-        verdict : takeVerdict st (length plane) (length work) (partTotals (sizeIn st) s (st .cut) (st .planes)) (length w) (length o) (length q) ≡ inOrder (bufferRows (layerTotals loopsOf (sizeIn st) s (st .cut) k) (length w) (length o) (length q))
-        verdict = late-decides (partTotals (sizeIn st) s (st .cut) (st .planes)) ∙ ap (λ (c : Totals). inOrder (bufferRows c (length w) (length o) (length q))) (sym totals)
 
         -- the part is some of the mesh
         part-v : layerTotals loopsOf (sizeIn st) s (st .cut) k .vertices ≤ 66325500
@@ -266,8 +271,8 @@ module _ (st : Stream) (plane work w : List ℕ) (o : List Float) (q : List ℕ)
               most-quads loopsOf (sizeIn st) s (st .cut) (left .block .limits),
             )
 
-        new-left : inOrder (bufferRows (layerTotals loopsOf (sizeIn st) s (st .cut) k) (length w) (length o) (length q)) ≡ Passes → length work′ ≡ length work → Left s (further st (partTotals (sizeIn st) s (st .cut) (st .planes))) work′
-        new-left p long = subst (λ (c : Totals). Left s (further st c) work′) totals (record {
+        new-left : inOrder (bufferRows (grown .counted) (length w) (length o) (length q)) ≡ Passes → length work′ ≡ length work → Left s (further st (grown .counted)) work′
+        new-left p long = subst (λ (c : Totals). Left s (further st c) work′) (sym (layer .counts-are)) (record {
           block = left .block;
           grey = left .grey;
           threshold = left .threshold;
@@ -292,48 +297,49 @@ module _ (st : Stream) (plane work w : List ℕ) (o : List Float) (q : List ℕ)
             before z =
                 length (quadsUpTo loopsOf (sizeIn st) s (st .cut) X (planeSize (sizeIn st) * z)) + length (quadsUpTo loopsOf (sizeIn st) s (st .cut) Y (planeSize (sizeIn st) * z)) + length (quadsUpTo loopsOf (sizeIn st) s (st .cut) Z (planeSize (sizeIn st) * z))
 
+      abbrev verdict : Checked
+      verdict = takeVerdict st (length plane) (length work) (grown .counted) (length w) (length o) (length q)
+
+      decides : verdict ≡ inOrder (bufferRows (grown .counted) (length w) (length o) (length q))
+      decides = late-decides (grown .counted)
+
+      further-part : {s : List ℕ} → Left s st work → plane ≡ planeOf (sizeIn st) s (st .planes) → (verdict ≡ Passes → length work′ ≡ length work) → PartTaken verdict s st (grown .counted) w o q work′ w′ o′ q′
+      further-part {s} left is long =
+          let g = layer left is in
+          record {
+            counts-are = g .counts-are ∙ ap (partTotals (sizeIn st) s (st .cut)) (next left is);
+            words = g .words ∙ ap₂ (λ (v : Checked) (z : ℕ). written v (partWords (sizeIn st) s (st .cut) z) w) (sym decides) (next left is);
+            offsets = g .offsets ∙ ap₂ (λ (v : Checked) (z : ℕ). written v (partOffsets (sizeIn st) s (st .cut) z) o) (sym decides) (next left is);
+            quads = g .quads ∙ ap₂ (λ (v : Checked) (z : ℕ). written v (partQuads (sizeIn st) s (st .cut) z) q) (sym decides) (next left is);
+            uncut = growth-is left is (grown .counted) (omega (arith, ap (λ (t : Totals). t .vertices) (g .counts-are), part-v left is)) (omega (arith, ap (λ (t : Totals). t .quads) (g .counts-are), part-q left is));
+            left = λ p. new-left left is (sym decides ∙ p) (long p);
+          }
+
       -- rows 5 and 6 refuse
       pub taken-short : (x : Refusal) → r ≡ counted.Refused x → PlaneTaken st plane work w o q (taken.Refused x) work′ w′ o′ q′
-      taken-short x e = record {
-        early = λ y f. absurd (no-early y f);
-        refusal-keeps = λ y f. grown .refusal-keeps x (ap saidCounts e);
-        kept = λ g f. absurd (wrote-refused (sym f));
-        part = λ s left is.
-            let g = layer left is in
-            let v = refused-says _ _ x (sym (ap saidCounts e) ∙ g .answer) in
-            let k = verdict left is ∙ v in
-            record {
-              answer = judged-refused _ _ x k;
-              words = g .words ∙ written-refused _ _ w x v ∙ sym (written-refused _ _ w x k);
-              offsets = g .offsets ∙ written-refused _ _ o x v ∙ sym (written-refused _ _ o x k);
-              quads = g .quads ∙ written-refused _ _ q x v ∙ sym (written-refused _ _ q x k);
-              left = λ p. absurd (passes-refuses (sym p ∙ k));
-            };
-      }
+      taken-short x e =
+          let v = refused-says _ _ x (sym (ap saidCounts e) ∙ grown .answer) in
+          record {
+            counted = grown .counted;
+            answer = judged-refused _ _ x (decides ∙ v);
+            refusal-keeps = λ y f. grown .refusal-keeps x v;
+            kept = λ g f. absurd (wrote-refused (sym f));
+            part = λ s left more is. further-part left is (λ p. absurd (passes-refuses (sym p ∙ decides ∙ v)));
+          }
 
       -- they pass
       pub taken-further : (c : Totals) → r ≡ counted.Counts c → PlaneTaken st plane work w o q (taken.Wrote (grownBy st c)) work′ w′ o′ q′
-      taken-further c e = record {
-        early = λ x f. absurd (no-early x f);
-        refusal-keeps = λ x f. absurd (wrote-refused f);
-        kept = λ g f. subst (λ (d : Totals). KeptBehind (d .vertices) (4 * d .quads) (6 * (st .nx * st .ny)) w w′ o o′ q q′ work work′) (counts-same f) (deeper (grown .kept c (ap saidCounts e)));
-        part = λ s left is.
-            let g = layer left is in
-            let a = accepted-says _ _ c (sym (ap saidCounts e) ∙ g .answer) in
-            let k = verdict left is ∙ a .0 in
-            record {
-              answer = judged-passed _ (grownBy st c) _ k (growth-is left is c (a .1 ∙ totals left is) (omega (arith, ap (λ (t : Totals). t .vertices) (a .1), part-v left is)) (omega (arith, ap (λ (t : Totals). t .quads) (a .1), part-q left is)));
-              words = g .words ∙ written-passed _ _ w (a .0) ∙ ap (λ (z : ℕ). over (partWords (sizeIn st) s (st .cut) z) w) (next left is) ∙ sym (written-passed _ _ w k);
-              offsets = g .offsets ∙ written-passed _ _ o (a .0) ∙ ap (λ (z : ℕ). over (partOffsets (sizeIn st) s (st .cut) z) o) (next left is) ∙ sym (written-passed _ _ o k);
-              quads = g .quads ∙ written-passed _ _ q (a .0) ∙ ap (λ (z : ℕ). over (partQuads (sizeIn st) s (st .cut) z) q) (next left is) ∙ sym (written-passed _ _ q k);
-              left = λ p. new-left left is (a .0) (grown .kept c (ap saidCounts e) .work-long);
-            };
-      }
+      taken-further c e =
+          let a = accepted-says _ _ c (sym (ap saidCounts e) ∙ grown .answer) in
+          record {
+            counted = grown .counted;
+            answer = judged-passed _ (grownBy st c) _ (decides ∙ a .0) (ap (grownBy st) (a .1));
+            refusal-keeps = λ x f. absurd (wrote-refused f);
+            kept = λ g f. deeper (grown .kept (a .0));
+            part = λ s left more is. further-part left is (λ p. grown .kept (a .0) .work-long);
+          }
         where
-          counts-same : {g : Growth} → saidTaken (taken.Wrote (grownBy st c)) ≡ saidTaken (taken.Wrote g) → c ≡ g .counts
-          counts-same {g} f = let z : grownBy st c ≡ g = cc in ap (λ (x : Growth). x .counts) z
-
-          deeper : KeptBehind (c .vertices) (4 * c .quads) (3 * planeSize (sizeIn st)) w w′ o o′ q q′ work work′ → KeptBehind (c .vertices) (4 * c .quads) (6 * (st .nx * st .ny)) w w′ o o′ q q′ work work′
+          deeper : KeptBehind (grown .counted .vertices) (4 * grown .counted .quads) (3 * planeSize (sizeIn st)) w w′ o o′ q q′ work work′ → KeptBehind (grown .counted .vertices) (4 * grown .counted .quads) (6 * (st .nx * st .ny)) w w′ o o′ q q′ work work′
           deeper h = record {
             words-long = h .words-long;
             offsets-long = h .offsets-long;

@@ -1,6 +1,6 @@
 -- A mesh plane by plane (document 02, Nine): "Hand over the planes of a block by rising z and get the mesh as it grows". What each call refuses, what it
 -- answers, and which part of the mesh it writes.
-use Prim.Native.Nat.{ℕ, zero, suc, _+_, _*_}
+use Prim.Native.Nat.{ℕ, zero, suc, _+_, _*_, _%_}
 use mathlib.Core.Path.{_≡_}
 use mathlib.Core.Bool.{cond}
 use mathlib.Core.List.{List, [], _∷_, _++_}
@@ -65,6 +65,13 @@ begun nx ny nz cut = record { nx = nx; ny = ny; nz = nz; cut = cut; vertices = 0
 -- one plane further, which wrote so much
 abbrev pub further : Stream → Totals → Stream
 further st c = record { nx = st .nx; ny = st .ny; nz = st .nz; cut = st .cut; vertices = st .vertices + c .vertices; quads = st .quads + c .quads; planes = st .planes + 1 }
+
+-- what a call gives that wrote so much, with any state: the sums are numbers of 32 bits
+abbrev pub grownBy : Stream → Totals → Growth
+grownBy st c = record {
+  stream = record { nx = st .nx; ny = st .ny; nz = st .nz; cut = st .cut; vertices = (st .vertices + c .vertices) % 4294967296; quads = (st .quads + c .quads) % 4294967296; planes = st .planes + 1 };
+  counts = c;
+}
 
 -- ---- refusals
 

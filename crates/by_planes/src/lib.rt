@@ -15,9 +15,9 @@ ghost use lib.ListN.{length};
 ghost use Rattle.block.specs.Answer.{inOrder, judged};
 ghost use Rattle.block.specs.Rows.{thresholdRow};
 ghost use Rattle.block.specs.Size.{Limits};
-ghost use Rattle.by_planes.specs.Answer.{sizeIn, begun, workRow, pastRow, planeRow, saidStart, StartAnswered, FinishAnswered};
+ghost use Rattle.by_planes.specs.Answer.{workRow, pastRow, planeRow, grownBy, saidStart, StartAnswered, FinishAnswered};
 ghost use Rattle.by_planes.specs.Left.{PlaneTaken};
-ghost use Rattle.by_planes.specs.Steps.{firstOf, grownBy, Sizes};
+ghost use Rattle.by_planes.specs.Steps.{firstOf, Sizes};
 
 // Where a run stands: the block's size and threshold, how many vertices and quads were written so far, and how many planes were taken.
 pub struct Stream {

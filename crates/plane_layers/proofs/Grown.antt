@@ -16,7 +16,7 @@ use Rattle.block.specs.declared.Size.{Size}
 use Rattle.block.specs.declared.Refusal.{Refusal}
 use Rattle.block.specs.declared.Checked.{Checked}
 use Rattle.block.specs.declared.Checked.the-variants.{Passes, Refuses}
-use Rattle.block.specs.Answer.{accepted, refused, inOrder, judged, written}
+use Rattle.block.specs.Answer.{inOrder}
 use Rattle.block.specs.Numbering.{Axis, X, Y, Z}
 use Rattle.block.proofs.Order.{judged-refused, judged-passed, written-passed, written-refused, passes-refuses}
 use Rattle.cube_rule.specs.Decider.{loopsOf}
@@ -39,9 +39,6 @@ use Rattle.plane_layers.proofs.Copies.{packed-fits, packed-sample, pack
 use Rattle.plane_layers.proofs.Parts.{numbered-as}
 use Rattle.plane_layers.proofs.Rows.{layer-masks, layer-words, layer-offsets, plane-quads, rows-words-length, rows-offsets-length, marked-all-few}
 use Rattle.plane_layers.proofs.Shown.{made, made-shown}
-
-accepted-refused : {A : Type 0} {a : A} {r : Refusal} → accepted a ≡ refused r → ⊥
-accepted-refused {a} {r} e = let z : _≡_ {A = ℕ} 0 1 = cc in omega arith
 
 -- ---- the counts
 
@@ -162,18 +159,18 @@ module _ {layer : Layer} {work plane : List ℕ} (r : LayerReady layer work plan
 
       pub grown-refused : (x : Totals) → x ≡ totalsOf t → (y : Refusal) → late x ≡ Refuses y → Grown loopsOf layer plane work w o q (counted.Refused y) work w o q
       grown-refused x e y h = record {
+        counted = x;
+        answer = judged-refused (late x) x y h;
         refusal-keeps = λ z f. (refl, refl, refl, refl);
-        kept = λ z f. absurd (accepted-refused (sym f));
-        part = λ s sh known.
-            let v : late (layerTotals loopsOf (layer .size) s (layer .cut) (layer .k)) ≡ Refuses y = ap late (sym (e ∙ totals-are (layer .size) s (layer .cut) (layer .k) (r .limits .y-low) (c s sh))) ∙ h in
-            record {
-              answer = judged-refused _ _ y v;
-              words = sym (written-refused _ _ w y v);
-              offsets = sym (written-refused _ _ o y v);
-              quads = sym (written-refused _ _ q y v);
-              front = λ p. absurd (passes-refuses (sym p ∙ v));
-              noted = λ p. absurd (passes-refuses (sym p ∙ v));
-            };
+        kept = λ p. absurd (passes-refuses (sym p ∙ h));
+        part = λ s sh known. record {
+          counts-are = e ∙ totals-are (layer .size) s (layer .cut) (layer .k) (r .limits .y-low) (c s sh);
+          words = sym (written-refused (late x) _ w y h);
+          offsets = sym (written-refused (late x) _ o y h);
+          quads = sym (written-refused (late x) _ q y h);
+          front = λ p. absurd (passes-refuses (sym p ∙ h));
+          noted = λ p. absurd (passes-refuses (sym p ∙ h));
+        };
       }
 
       -- ---- they pass
@@ -188,10 +185,12 @@ module _ {layer : Layer} {work plane : List ℕ} (r : LayerReady layer work plan
       pub grown-passed : (x : Totals) → x ≡ totalsOf t → late x ≡ Passes → (work′ work″ w′ : List ℕ) (o′ : List Float) (q′ : List ℕ) → LayerWritten loopsOf layer t plane work work′ w w′ o o′ q q′ → work″ ≡ over (packed plane) work′
           → Grown loopsOf layer plane work w o q (counted.Counts x) work″ w′ o′ q′
       grown-passed x e h work′ work″ w′ o′ q′ l f = record {
-        refusal-keeps = λ y g. absurd (accepted-refused g);
-        kept = λ y g.
-            let v : y .vertices ≡ t .v = ap (λ (z : Totals). z .vertices) (sym (same g) ∙ e) in
-            let u : y .quads ≡ totalsOf t .quads = ap (λ (z : Totals). z .quads) (sym (same g) ∙ e) in
+        counted = x;
+        answer = judged-passed (late x) x x h refl;
+        refusal-keeps = λ y g. absurd (passes-refuses (sym h ∙ g));
+        kept = λ p.
+            let v : x .vertices ≡ t .v = ap (λ (z : Totals). z .vertices) e in
+            let u : x .quads ≡ totalsOf t .quads = ap (λ (z : Totals). z .quads) e in
             record {
               words-long = l .kept .words-long;
               offsets-long = l .kept .offsets-long;
@@ -204,21 +203,17 @@ module _ {layer : Layer} {work plane : List ℕ} (r : LayerReady layer work plan
             };
         part = λ s sh known.
             let m = c s sh in
-            let v : late (layerTotals loopsOf (layer .size) s (layer .cut) (layer .k)) ≡ Passes = ap late (sym (e ∙ totals-are (layer .size) s (layer .cut) (layer .k) (r .limits .y-low) m)) ∙ h in
             record {
-              answer = judged-passed _ x _ v (e ∙ totals-are (layer .size) s (layer .cut) (layer .k) (r .limits .y-low) m);
-              words = words-over (layer .size) s (layer .cut) (layer .k) (r .limits .y-low) m (layer-roomy x e h) (l .written s sh known) ∙ sym (written-passed _ _ w v);
-              offsets = offsets-over (layer .size) s (layer .cut) (layer .k) (r .limits .y-low) m (layer-roomy x e h) (l .written s sh known) ∙ sym (written-passed _ _ o v);
-              quads = quads-over (layer .size) s (layer .cut) (layer .k) (r .limits .y-low) m (layer-roomy x e h) (l .written s sh known) ∙ sym (written-passed _ _ q v);
+              counts-are = e ∙ totals-are (layer .size) s (layer .cut) (layer .k) (r .limits .y-low) m;
+              words = words-over (layer .size) s (layer .cut) (layer .k) (r .limits .y-low) m (layer-roomy x e h) (l .written s sh known) ∙ sym (written-passed (late x) _ w h);
+              offsets = offsets-over (layer .size) s (layer .cut) (layer .k) (r .limits .y-low) m (layer-roomy x e h) (l .written s sh known) ∙ sym (written-passed (late x) _ o h);
+              quads = quads-over (layer .size) s (layer .cut) (layer .k) (r .limits .y-low) m (layer-roomy x e h) (l .written s sh known) ∙ sym (written-passed (late x) _ q h);
               front = λ p grey i b. ap (λ (z : List ℕ). sampleIn z i) f ∙ packed-sample plane work′ grey i (omega (arith, r .plane-long));
               noted = λ p j b. numbered-as (drop (tableAt (layer .size) j) work′) (drop (tableAt (layer .size) j) work″)
                   (λ i d. getD-drop (tableAt (layer .size) j) work″ i 0 ∙ behind (tableAt (layer .size) j + i) (omega arith) ∙ sym (getD-drop (tableAt (layer .size) j) work′ i 0)) (l .noted s sh known j b);
             };
       }
         where
-          same : {y : Totals} → accepted x ≡ accepted y → x ≡ y
-          same g = cc
-
           fits : length plane ≤ length work′
           fits = omega (arith, r .plane-long, r .room, l .kept .work-long)
 

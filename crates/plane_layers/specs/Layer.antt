@@ -9,11 +9,11 @@ use lib.Seq.{sets}
 use lib.Ieee.{Float, nan}
 use Rattle.laws.specs.Below.{below}
 use Rattle.block.specs.declared.Checked.{Checked}
-use Rattle.block.specs.declared.Checked.the-variants.{Passes}
+use Rattle.block.specs.declared.Checked.the-variants.{Passes, Refuses}
 use Rattle.block.specs.declared.Cut.{Cut}
 use Rattle.block.specs.declared.Refusal.{Refusal}
 use Rattle.block.specs.declared.Size.{Size}
-use Rattle.block.specs.Answer.{accepted, refused, inOrder, judged, written}
+use Rattle.block.specs.Answer.{inOrder, judged, written}
 use Rattle.block.specs.Grey.{SixteenBit}
 use Rattle.block.specs.Numbering.{X, Y, Z}
 use Rattle.block.specs.Rows.{thresholdRow}
@@ -171,19 +171,21 @@ pub record LayerWritten (loopsOf : Cut → List ℕ → List ℕ) (layer : Layer
 
 -- ---- the promise of `grow`
 
--- of a block: the answer and the three buffers, where rows 5 and 6 say v
-pub record PartGrown (loopsOf : Cut → List ℕ → List ℕ) (v : Checked) (n : Size) (s : List ℕ) (cut : Cut) (k : ℕ) (plane work′ w : List ℕ) (o : List Float) (q : List ℕ) (r : Counted) (w′ : List ℕ) (o′ : List Float) (q′ : List ℕ) : Type 0 where
-  pub answer : saidCounts r ≡ judged v (layerTotals loopsOf n s cut k)
+-- of a block, where the call counted c and rows 5 and 6 say v: its counts, the three buffers, and what is remembered
+pub record PartGrown (loopsOf : Cut → List ℕ → List ℕ) (v : Checked) (n : Size) (s : List ℕ) (cut : Cut) (k : ℕ) (plane work′ : List ℕ) (c : Totals) (w : List ℕ) (o : List Float) (q w′ : List ℕ) (o′ : List Float) (q′ : List ℕ) : Type 0 where
+  pub counts-are : c ≡ layerTotals loopsOf n s cut k
   pub words : w′ ≡ written v (layerWords loopsOf n s cut k) w
   pub offsets : o′ ≡ written v (layerOffsets loopsOf n s cut k) o
   pub quads : q′ ≡ written v (layerQuads loopsOf n s cut k) q
   pub front : v ≡ Passes → SixteenBit plane → (i : ℕ) → i < planeSize n → sampleIn work′ i ≡ getD plane i 0
   pub noted : v ≡ Passes → LayerTables loopsOf n s cut k work′
 
--- whatever was remembered: a refusal keeps all, and what is written keeps to its room; and what is so of a block whose planes are at hand and whose last
--- layer is remembered
+-- Whatever was remembered: rows 5 and 6 decide by what the call counts, a refusal keeps all, and what is written keeps to its room. And what is so of a
+-- block whose planes are at hand and whose last layer is remembered.
 pub record Grown (loopsOf : Cut → List ℕ → List ℕ) (layer : Layer) (plane work w : List ℕ) (o : List Float) (q : List ℕ) (r : Counted) (work′ w′ : List ℕ) (o′ : List Float) (q′ : List ℕ) : Type 0 where
-  pub refusal-keeps : (x : Refusal) → saidCounts r ≡ refused x → (work′ ≡ work) × (w′ ≡ w) × (o′ ≡ o) × (q′ ≡ q)
-  pub kept : (c : Totals) → saidCounts r ≡ accepted c → KeptBehind (c .vertices) (4 * c .quads) (3 * planeSize (layer .size)) w w′ o o′ q q′ work work′
+  pub counted : Totals
+  pub answer : saidCounts r ≡ judged (inOrder (bufferRows counted (length w) (length o) (length q))) counted
+  pub refusal-keeps : (x : Refusal) → inOrder (bufferRows counted (length w) (length o) (length q)) ≡ Refuses x → (work′ ≡ work) × (w′ ≡ w) × (o′ ≡ o) × (q′ ≡ q)
+  pub kept : inOrder (bufferRows counted (length w) (length o) (length q)) ≡ Passes → KeptBehind (counted .vertices) (4 * counted .quads) (3 * planeSize (layer .size)) w w′ o o′ q q′ work work′
   pub part : (s : List ℕ) → Shown (layer .size) (layer .k) work plane s → Known loopsOf (layer .size) s (layer .cut) (layer .k) (layer .first) work
-      → PartGrown loopsOf (inOrder (bufferRows (layerTotals loopsOf (layer .size) s (layer .cut) (layer .k)) (length w) (length o) (length q))) (layer .size) s (layer .cut) (layer .k) plane work′ w o q r w′ o′ q′
+      → PartGrown loopsOf (inOrder (bufferRows counted (length w) (length o) (length q))) (layer .size) s (layer .cut) (layer .k) plane work′ counted w o q w′ o′ q′
