@@ -1,8 +1,9 @@
 -- What a C caller finds is fixed: any two outcomes that a promise allows are equal.
-use Prim.Native.Nat.{ℕ}
+use Prim.Native.Nat.{ℕ, _<_}
 use mathlib.Core.Path.{_≡_, ap, ap₂, sym, _∙_}
 use mathlib.Core.List.{List}
 use lib.Ieee.{Float}
+use lib.ListN.{length}
 use Rattle.laws.specs.Fixed.{Fixes}
 use Rattle.laws.proofs.Fixed.{equation-fixes}
 use Rattle.block.specs.Answer.{accepted}
@@ -31,11 +32,16 @@ use Rattle.ply.proofs.Fixed.{ply-fixed}
 use Rattle.room.specs.declared.Edged.{Edged}
 use Rattle.room.specs.Answer.{saidCrossed}
 use Rattle.room.proofs.Fixed.{crossed-fixed}
+use Rattle.by_planes.specs.declared.Started.{Started}
+use Rattle.by_planes.specs.declared.Taken.{Taken}
+use Rattle.by_planes.specs.Answer.{sizeIn, planeOf, saidStart, saidTaken}
+use Rattle.by_planes.specs.Left.{Left}
+use Rattle.by_planes.proofs.Fixed.{start-fixed, finish-fixed, plane-fixed}
 use Rattle.thresholds.specs.declared.RowAnswer.{RowAnswer}
 use Rattle.thresholds.specs.Answer.{saidRow}
 use Rattle.thresholds.proofs.Fixed.{row-fixed}
-use Rattle.parsniprow_c.specs.Told.{tellOver, CeilingsTold, EdgeTold, CubeTold, CrossedTold, CountsTold, RowTold, MeshTold, ClosedTold, ClosedWithTold, PiecesTold, PlyTold}
-use Rattle.told.specs.Numbers.{toldCeilings, toldEdge, toldFraction, toldNumber, toldClosed, toldPieces, toldLength, toldNothing}
+use Rattle.parsniprow_c.specs.Told.{tellOver, CeilingsTold, EdgeTold, CubeTold, CrossedTold, CountsTold, RowTold, MeshTold, stateAfter, growthAfter, StartTold, PlaneTold, EndTold, ClosedTold, ClosedWithTold, PiecesTold, PlyTold}
+use Rattle.told.specs.Numbers.{toldCeilings, toldEdge, toldFraction, toldNumber, toldClosed, toldPieces, toldLength, toldNothing, toldGrowth, stateOf}
 
 pub ceilings-told-fixed : (samples place : List ℕ) → Fixes (CeilingsTold samples place)
 ceilings-told-fixed samples place = equation-fixes (tellOver (toldCeilings (accepted (ceilingsIn samples))) place)
@@ -123,3 +129,32 @@ ply-told-fixed nx ny nz words offsets quads spacing file bytes place a b p q =
     ap₂ (λ (u v : List ℕ). (a .0, u, v)) (p .length-told) (p .is-told)
     ∙ ap (fileFound bytes place) (ply-fixed nx ny nz words offsets quads spacing file (p .answer, a .0) (q .answer, b .0) (p .written) (q .written))
     ∙ sym (ap₂ (λ (u v : List ℕ). (b .0, u, v)) (q .length-told) (q .is-told))
+
+-- ---- plane by plane
+
+-- the state and the answer
+pub start-told-fixed : (nx ny nz t : ℕ) (work state place : List ℕ) → Fixes (λ (f : List ℕ × List ℕ). StartTold nx ny nz t work state place (f .0) (f .1))
+start-told-fixed nx ny nz t work state place a b p q =
+    ap₂ (λ (u v : List ℕ). (u, v)) (p .state-told) (p .is-told)
+    ∙ ap (λ (x : Started). (stateAfter (saidStart x) state, tellOver (toldNothing (saidStart x)) place)) (start-fixed nx ny nz (cutOf t) (length work) (p .answer) (q .answer) (p .answered) (q .answered))
+    ∙ sym (ap₂ (λ (u v : List ℕ). (u, v)) (q .state-told) (q .is-told))
+
+-- for a state and a work buffer as last left: the state, the three buffers and the answer
+pub plane-told-fixed : (state plane work w : List ℕ) (o : List Float) (q place s : List ℕ) → Left s (stateOf state) work → stateOf state .planes < stateOf state .nz
+    → plane ≡ planeOf (sizeIn (stateOf state)) s (stateOf state .planes) → (state₁ state₂ work₁ work₂ w₁ w₂ : List ℕ) (o₁ o₂ : List Float) (q₁ q₂ place₁ place₂ : List ℕ)
+    → PlaneTold state plane work w o q place state₁ work₁ w₁ o₁ q₁ place₁ → PlaneTold state plane work w o q place state₂ work₂ w₂ o₂ q₂ place₂
+    → (state₁ ≡ state₂) × (w₁ ≡ w₂) × (o₁ ≡ o₂) × (q₁ ≡ q₂) × (place₁ ≡ place₂)
+plane-told-fixed state plane work w o q place s left more is state₁ state₂ work₁ work₂ w₁ w₂ o₁ o₂ q₁ q₂ place₁ place₂ a b =
+    let e = plane-fixed (stateOf state) plane work w o q s left more is (a .answer) (b .answer) work₁ work₂ w₁ w₂ o₁ o₂ q₁ q₂ (a .answered) (b .answered) in (
+      a .state-told ∙ ap (λ (x : Taken). growthAfter (saidTaken x) state) (e .0) ∙ sym (b .state-told),
+      e .1,
+      e .2,
+      e .3,
+      a .is-told ∙ ap (λ (x : Taken). tellOver (toldGrowth (saidTaken x)) place) (e .0) ∙ sym (b .is-told),
+    )
+
+pub end-told-fixed : (state place : List ℕ) → Fixes (EndTold state place)
+end-told-fixed state place a b p q =
+    p .is-told
+    ∙ ap (λ (x : Counted). tellOver (toldCounts (saidCounts x)) place) (finish-fixed (stateOf state) (p .answer) (q .answer) (p .answered) (q .answered))
+    ∙ sym (q .is-told)

@@ -6,3 +6,4 @@ pub mod Steps
 pub mod Parts
 pub mod Writes
 pub mod Grown
+pub mod Fixed
