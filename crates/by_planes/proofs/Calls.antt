@@ -52,7 +52,8 @@ use Rattle.by_planes.specs.declared.Taken.the-variants as taken
 use Rattle.by_planes.specs.Answer.{sizeIn, planeOf, partWords, partOffsets, partQuads, partTotals, further, grownBy, callRows, takeVerdict, saidTaken}
 use Rattle.by_planes.specs.Left.{Left, PartTaken, PlaneTaken}
 use Rattle.by_planes.specs.Steps.{Sizes, firstOf}
-use Rattle.by_planes.proofs.Rows.{plane-is, laterRows, call-axes, call-room, passed, first-small}
+use Rattle.by_planes.proofs.Lefts.{in-cubes, some-quads, left-early, left-few}
+use Rattle.by_planes.proofs.Rows.{plane-is, laterRows, passed, first-small}
 
 none-over : {A : Type 0} (b : List A) → b ≡ over [] b
 unfolding over
@@ -61,34 +62,8 @@ none-over b = refl
 wrote-refused : {g : Growth} {x : Refusal} → saidTaken (taken.Wrote g) ≡ saidTaken (taken.Refused x) → ⊥
 wrote-refused {g} {x} e = let z : _≡_ {A = ℕ} 0 1 = cc in omega arith
 
--- some layers are some of the cubes, and some planes some of the samples
-in-cubes : (a b c k : ℕ) → k ≤ c → a * b * k ≤ a * (b * c)
-in-cubes a b c k h = omega (arith, mul-assoc a b c, mul-le-mul-left (a * b) h)
-
-some-quads : (n : Size) (s : List ℕ) (cut : Cut) (a : Axis) (k : ℕ) → k ≤ n .nz → length (quadsUpTo loopsOf n s cut a (planeSize n * k)) ≤ length (quadsUpTo loopsOf n s cut a (sampleCount n))
-some-quads n s cut a k h = below-le _ (planeSize n * k) (sampleCount n) (in-cubes (n .nx) (n .ny) (n .nz) k h)
-
 abbrev nothing : Totals
 nothing = record { vertices = 0; quads = 0 }
-
--- ---- a state and a work buffer as last left pass the rows that need no count, while planes are to come
-
-pub plane-length : {s : List ℕ} {st : Stream} {work : List ℕ} → Left s st work → st .planes < st .nz → length (planeOf (sizeIn st) s (st .planes)) ≡ st .nx * st .ny
-plane-length {s} {st} left more =
-    length-take-le (planeSize (sizeIn st)) (drop (planeSize (sizeIn st) * st .planes) s)
-    (omega (arith, length-drop (planeSize (sizeIn st) * st .planes) s, left .block .samples, inside (st .nx) (st .ny) (st .nz) (st .planes) more))
-  where
-    inside : (a b c k : ℕ) → k < c → a * b * k + a * b ≤ a * (b * c)
-    inside a b c k h = omega (arith, mul-assoc a b c, mul-le-mul-left (a * b) (next h))
-      where
-        next : k < c → k + 1 ≤ c
-        next q = omega arith
-
-pub left-early : {s : List ℕ} {st : Stream} {work : List ℕ} → Left s st work → st .planes < st .nz → (plane : List ℕ) → plane ≡ planeOf (sizeIn st) s (st .planes) → inOrder (callRows st (length plane) (length work)) ≡ Passes
-left-early {s} {st} {work} left more plane is =
-    call-axes st (length plane) (length work) (left .block .limits)
-    ∙ sym (call-room st (length plane) (length work) (left .threshold) more (ap length is ∙ plane-length left more))
-    ∙ sym (unless-passes (leb (6 * (st .nx * st .ny)) (length work)) 15 (6 * (st .nx * st .ny)) (le-leb (6 * (st .nx * st .ny)) (length work) (left .room)))
 
 -- ---- a row that needs no count refuses
 
@@ -137,17 +112,14 @@ module _ (st : Stream) (plane work w : List ℕ) (o : List Float) (q : List ℕ)
           go (inl l) = omega (arith, item i l, left .grey (planeSize n * st .planes + i))
           go (inr g) = omega (arith, past g)
 
+      few : (st .vertices ≤ 66325500) × (st .quads ≤ 49354740)
+      few = left-few left
+
       -- nothing is cut
-      few-v : layerFirst loopsOf n s (st .cut) (st .planes - 1) ≤ 66325500
-      few-v = omega (arith, vertices-le n s (st .cut) (layerSize n * (st .planes - 1)) (in-cubes (st .nx - 1) (st .ny - 1) (st .nz - 1) (st .planes - 1) (omega arith)), most-vertices loopsOf n s (st .cut) (cube-laws joined) (left .block .limits))
-
-      few-q : st .quads ≤ 49354740
-      few-q = omega (arith, left .quads-are, some-quads n s (st .cut) X (st .planes - 1) (omega arith), some-quads n s (st .cut) Y (st .planes - 1) (omega arith), some-quads n s (st .cut) Z (st .planes - 1) (omega arith), all-quads n s (st .cut), most-quads loopsOf n s (st .cut) (left .block .limits))
-
       growth-is : (c : Totals) → c .vertices ≤ 66325500 → c .quads ≤ 49354740 → grownBy st c ≡ record { stream = further st c; counts = c }
       growth-is c hv hq =
           ap₂ (λ (v u : ℕ). record { stream = record { nx = st .nx; ny = st .ny; nz = st .nz; cut = st .cut; vertices = v; quads = u; planes = st .planes + 1 }; counts = c })
-          (mod-eq-of-lt (omega (arith, left .vertices-are, few-v))) (mod-eq-of-lt (omega (arith, few-q)))
+          (mod-eq-of-lt (omega (arith, few))) (mod-eq-of-lt (omega (arith, few)))
 
     -- ---- the first plane
 
@@ -230,7 +202,7 @@ module _ (st : Stream) (plane work w : List ℕ) (o : List Float) (q : List ℕ)
 
         known : Known loopsOf (sizeIn st) s (st .cut) k (firstOf (st .vertices)) work
         known = record {
-          first-is = sym (first-small (st .vertices) (omega (arith, left .vertices-are, few-v left is))) ∙ left .vertices-are ∙ ap (layerFirst loopsOf (sizeIn st) s (st .cut)) back;
+          first-is = sym (first-small (st .vertices) (left-few left .0)) ∙ left .vertices-are ∙ ap (layerFirst loopsOf (sizeIn st) s (st .cut)) back;
           tables = λ h. subst (λ (z : ℕ). LayerTables loopsOf (sizeIn st) s (st .cut) z work) (two h) (left .tables (omega arith));
         }
           where

@@ -1,3 +1,4 @@
 pub mod Rows
+pub mod Lefts
 pub mod Calls
 pub mod Fixed

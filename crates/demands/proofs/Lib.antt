@@ -13,6 +13,8 @@ pub mod Pieces
 pub mod Told
 pub mod Room
 pub mod Thresholds
+pub mod PlaneRows
+pub mod Runs
 pub mod Closing
 pub mod Four
 pub mod StandIn

@@ -51,13 +51,13 @@ axis-number nx ny nz = lowest-number 1 outOfLimits (nx ∷ ny ∷ nz ∷ [])
 pub count-number : (n : Size) (c : ℕ) (x : Refusal) → countRow n c ≡ Refuses x → x .number ≡ 2
 count-number n c = unless-number (eqb c (sampleCount n)) 2 (sampleCount n)
 
-threshold-number : (cut : Cut) (x : Refusal) → thresholdRow cut ≡ Refuses x → x .number ≡ 3
+pub threshold-number : (cut : Cut) (x : Refusal) → thresholdRow cut ≡ Refuses x → x .number ≡ 3
 threshold-number cut x e = ap (λ (r : Refusal). r .number) (holds-where (noThreshold cut) 3 (cut .t) x e)
 
-vertex-number : (v words offsets : ℕ) (x : Refusal) → vertexRow v words offsets ≡ Refuses x → x .number ≡ 5
+pub vertex-number : (v words offsets : ℕ) (x : Refusal) → vertexRow v words offsets ≡ Refuses x → x .number ≡ 5
 vertex-number v words offsets = unless-number (leb (2 * v) words && leb (3 * v) offsets) 5 v
 
-quad-number : (q room : ℕ) (x : Refusal) → quadRow q room ≡ Refuses x → x .number ≡ 6
+pub quad-number : (q room : ℕ) (x : Refusal) → quadRow q room ≡ Refuses x → x .number ≡ 6
 quad-number q room = unless-number (leb (4 * q) room) 6 q
 
 pub size-numbers : (nx ny nz : ℕ) (x : Refusal) → inOrder (axisRow nx ny nz ∷ []) ≡ Refuses x → x .number ≡ 1

@@ -19,11 +19,11 @@ use Rattle.mesh.specs.Steps.{quadsUpTo}
 use Rattle.mesh.proofs.Layers.{layer-next}
 use Rattle.mesh.proofs.Planes.{Outer, outer-inner, outer-last, plane-z}
 
-flat-append : (p q : List Quad) → flat (p ++ q) ≡ flat p ++ flat q
+pub flat-append : (p q : List Quad) → flat (p ++ q) ≡ flat p ++ flat q
 flat-append [] q = refl
 flat-append (a ∷ p) q = ap (λ (l : List ℕ). a .v0 ∷ a .v1 ∷ a .v2 ∷ a .v3 ∷ l) (flat-append p q)
 
-flat-below : (f : ℕ → List Quad) (m : ℕ) → flat (below f m) ≡ below (λ (p : ℕ). flat (f p)) m
+pub flat-below : (f : ℕ → List Quad) (m : ℕ) → flat (below f m) ≡ below (λ (p : ℕ). flat (f p)) m
 unfolding below
 flat-below f zero = refl
 flat-below f (suc m) = flat-append (below f m) (f m) ∙ ap (λ (l : List ℕ). l ++ flat (f m)) (flat-below f m)

@@ -7,6 +7,7 @@ pub mod Quads
 pub mod Counts
 pub mod Checkerboard
 pub mod Reading
+pub mod PutBack
 pub mod Joined
 pub mod StandIn
 pub mod Orientation

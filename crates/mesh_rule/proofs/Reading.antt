@@ -2,7 +2,7 @@
 -- Assumes nothing.
 use Prim.Native.Nat.{ℕ, _-_, _<_}
 use mathlib.Core.Path.{_≡_, refl}
-use mathlib.Core.Bool.{Bool, true, false, cond}
+use mathlib.Core.Bool.{Bool, true, false}
 use mathlib.Core.List.{List}
 use native.Mathlib.Omega.{arith}
 use lib.Dec.{eqb}
@@ -17,6 +17,7 @@ use Rattle.mesh_rule.specs.Grid.{crossedFrom}
 use Rattle.mesh_rule.specs.Mesh.{Quad, turned, vertexOf, Holder, around}
 use Rattle.mesh_rule.specs.Layers.{vertexAt}
 use Rattle.mesh_rule.specs.Orientation.{coordinate}
+use Rattle.mesh_rule.specs.Reading.{axisFor}
 use Rattle.mesh_rule.proofs.Inner.{Inner, CubeIn, OneLower, four-cubes, Round, map-round, crossed-round}
 use Rattle.mesh_rule.proofs.Numbers.{vertex-at}
 
@@ -42,18 +43,14 @@ module _ (n : Size) (cube : ℕ → ℕ) where
   abbrev cz : ℕ → ℕ
   cz v = coordinate n Z (cube v)
 
-  -- First and third cube agree in the axis' coordinate alone. Second and third agree in the coordinate of the next axis, x after z, if the
-  -- lower sample is positive.
+  -- Second and third cube agree in the coordinate of the next axis, x after z, if the lower sample is positive.
   abbrev signFor : Axis → Quad → Bool
   signFor X q = eqb (cy (q .v1)) (cy (q .v2))
   signFor Y q = eqb (cz (q .v1)) (cz (q .v2))
   signFor Z q = eqb (cx (q .v1)) (cx (q .v2))
 
-  abbrev axisFor : Quad → Axis
-  axisFor q = cond (eqb (cx (q .v0)) (cx (q .v2))) X (cond (eqb (cy (q .v0)) (cy (q .v2))) Y Z)
-
   abbrev pub read : Quad → Told
-  read q = told (axisFor q) (cx (q .v2)) (cy (q .v2)) (cz (q .v2)) (signFor (axisFor q) q)
+  read q = told (axisFor n cube q) (cx (q .v2)) (cy (q .v2)) (cz (q .v2)) (signFor (axisFor n cube q) q)
 
   -- vertex v is in the cube (x,y,z)
   pub record In (v x y z : ℕ) : Type 0 where

@@ -1,0 +1,148 @@
+-- A mesh plane by plane (document 02, Nine): what a start, a plane and an end refuse and accept, that a refused plane changes nothing, and which numbers they
+-- give. A state that a start gave, or a plane after it, never meets rows 1 and 3.
+use Prim.Native.Nat.{ℕ, _+_, _*_, _≤_, _<_}
+use mathlib.Core.Path.{_≡_, refl, ap, sym, _∙_, subst}
+use mathlib.Core.Logic.{_↔_, _⊎_, inl, inr}
+use mathlib.Core.List.{List, [], _∷_, _++_}
+use native.Mathlib.Omega.{arith}
+use lib.Dec.{leb, ltb, eqb}
+use lib.Ieee.{Float}
+use lib.ListN.{length}
+use Rattle.block.specs.declared.Checked.the-variants.{Passes, Refuses}
+use Rattle.block.specs.declared.Cut.{Cut}
+use Rattle.block.specs.declared.Refusal.{Refusal}
+use Rattle.block.specs.Answer.{Answer, accepted, refused, inOrder, First, judged}
+use Rattle.block.specs.Grey.{cutOf}
+use Rattle.block.specs.Rows.{axisRow, thresholdRow}
+use Rattle.block.proofs.Order.{accepted-exactly, refused-exactly, first-has}
+use Rattle.block.proofs.Sizes.{within-axes}
+use Rattle.block.proofs.Rows.{holds-where}
+use Rattle.mesh.specs.declared.Counted.{Counted}
+use Rattle.mesh.specs.declared.Counted.the-variants as counted
+use Rattle.mesh.specs.declared.Totals.{Totals}
+use Rattle.mesh.specs.Answer.{saidCounts, bufferRows, toldCounts}
+use Rattle.by_planes.specs.declared.Stream.{Stream}
+use Rattle.by_planes.specs.declared.Growth.{Growth}
+use Rattle.by_planes.specs.declared.Started.{Started}
+use Rattle.by_planes.specs.declared.Started.the-variants as started
+use Rattle.by_planes.specs.declared.Taken.{Taken}
+use Rattle.by_planes.specs.Answer.{sizeIn, planeOf, partTotals, begun, further, grownBy, startRows, callRows, takeVerdict, endRow, saidStart, saidTaken, StartAnswered, FinishAnswered}
+use Rattle.by_planes.specs.Left.{Left, PlaneTaken}
+use Rattle.parsniprow_c.specs.Told.{tellOver, stateAfter, StartTold, EndTold}
+use Rattle.told.specs.Numbers.{toldNothing, stateOf}
+use Rattle.demands.proofs.Numbers.{unless-number, axis-number, threshold-number, vertex-number, quad-number}
+use Rattle.demands.proofs.Refusals.{refuses-by}
+
+-- ---- there is an answer to every start and to every end
+
+start-of : (a : Answer Stream) → (r : Started) × (saidStart r ≡ a)
+start-of (accepted st) = (started.Begun st, refl)
+start-of (refused x) = (started.Refused x, refl)
+
+counts-of : (a : Answer Totals) → (r : Counted) × (saidCounts r ≡ a)
+counts-of (accepted c) = (counted.Counts c, refl)
+counts-of (refused x) = (counted.Refused x, refl)
+
+pub start-allows : (nx ny nz : ℕ) (cut : Cut) (room : ℕ) → (r : Started) × StartAnswered nx ny nz cut room r
+start-allows nx ny nz cut room = start-of (judged (inOrder (startRows nx ny nz cut room)) (begun nx ny nz cut))
+
+pub finish-allows : (st : Stream) → (r : Counted) × FinishAnswered st r
+finish-allows st = counts-of (judged (inOrder (endRow st ∷ [])) (record { vertices = st .vertices; quads = st .quads }))
+
+pub start-told-allows : (nx ny nz t : ℕ) (work state place : List ℕ) → (state′ : List ℕ) × (place′ : List ℕ) × StartTold nx ny nz t work state place state′ place′
+start-told-allows nx ny nz t work state place =
+    let r = start-allows nx ny nz (cutOf t) (length work) in
+    (stateAfter (saidStart (r .0)) state, tellOver (toldNothing (saidStart (r .0))) place, record { answer = r .0; answered = r .1; state-told = refl; is-told = refl })
+
+pub end-told-allows : (state place : List ℕ) → (place′ : List ℕ) × EndTold state place place′
+end-told-allows state place =
+    let r = finish-allows (stateOf state) in (tellOver (toldCounts (saidCounts (r .0))) place, record { answer = r .0; answered = r .1; is-told = refl })
+
+-- ---- a start
+
+module _ (nx ny nz : ℕ) (cut : Cut) (room : ℕ) where
+  -- the numbers 1, 3 and 15
+  pub start-numbers : (x : Refusal) → inOrder (startRows nx ny nz cut room) ≡ Refuses x → (x .number ≡ 1) ⊎ ((x .number ≡ 3) ⊎ (x .number ≡ 15))
+  start-numbers =
+      first-has (λ (x : Refusal). (x .number ≡ 1) ⊎ ((x .number ≡ 3) ⊎ (x .number ≡ 15))) _ (
+        λ x e. inl (axis-number nx ny nz x e),
+        (λ x e. inr (inl (threshold-number cut x e)), (λ x e. inr (inr (unless-number (leb (6 * (nx * ny)) room) 15 (6 * (nx * ny)) x e)), tt)),
+      )
+
+  module _ (r : Started) (promise : StartAnswered nx ny nz cut room r) where
+    pub start-refuses : (x : Refusal) → (saidStart r ≡ refused x) ↔ First (startRows nx ny nz cut room) x
+    start-refuses = refuses-by _ _ _ promise
+
+    pub start-accepts : (st : Stream) → (saidStart r ≡ accepted st) ↔ ((inOrder (startRows nx ny nz cut room) ≡ Passes) × (st ≡ begun nx ny nz cut))
+    start-accepts = accepted-exactly _ _ _ promise
+
+-- ---- a plane
+
+-- the numbers 1 to 3, 5, 6, 15 and 17
+abbrev pub PlaneNumber : ℕ → Type 0
+PlaneNumber n = ((1 ≤ n) × (n ≤ 3)) ⊎ (((5 ≤ n) × (n ≤ 6)) ⊎ ((n ≡ 15) ⊎ (n ≡ 17)))
+
+pub verdict-numbers : (st : Stream) (count room : ℕ) (c : Totals) (words offsets lent : ℕ) (x : Refusal) → takeVerdict st count room c words offsets lent ≡ Refuses x → PlaneNumber (x .number)
+verdict-numbers st count room c words offsets lent =
+    first-has (λ (x : Refusal). PlaneNumber (x .number)) _ (
+      λ x e. let n = axis-number (st .nx) (st .ny) (st .nz) x e in inl (omega (arith, n), omega (arith, n)),
+      (
+        λ x e. let n = threshold-number (st .cut) x e in inl (omega (arith, n), omega (arith, n)),
+        (
+          λ x e. inr (inr (inr (unless-number (ltb (st .planes) (st .nz)) 17 (st .nz) x e))),
+          (
+            λ x e. let n = unless-number (eqb count (st .nx * st .ny)) 2 (st .nx * st .ny) x e in inl (omega (arith, n), omega (arith, n)),
+            (
+              λ x e. inr (inr (inl (unless-number (leb (6 * (st .nx * st .ny)) room) 15 (6 * (st .nx * st .ny)) x e))),
+              (
+                λ x e. let n = vertex-number (c .vertices) words offsets x e in inr (inl (omega (arith, n), omega (arith, n))),
+                (λ x e. let n = quad-number (c .quads) lent x e in inr (inl (omega (arith, n), omega (arith, n))), tt),
+              ),
+            ),
+          ),
+        ),
+      ),
+    )
+
+module _ {st : Stream} {plane work w : List ℕ} {o : List Float} {q : List ℕ} {r : Taken} {work′ w′ : List ℕ} {o′ : List Float} {q′ : List ℕ} (promise : PlaneTaken st plane work w o q r work′ w′ o′ q′) where
+  -- with any state and any work buffer
+  pub plane-numbers : (x : Refusal) → saidTaken r ≡ refused x → PlaneNumber (x .number)
+  plane-numbers x e = verdict-numbers st (length plane) (length work) (promise .counted) (length w) (length o) (length q) x (refused-exactly _ _ _ (promise .answer) x .0 e)
+
+  pub plane-keeps : (x : Refusal) → saidTaken r ≡ refused x → (work′ ≡ work) × (w′ ≡ w) × (o′ ≡ o) × (q′ ≡ q)
+  plane-keeps = promise .refusal-keeps
+
+  -- a state and a work buffer as last left: 17, 2, 15, 5, 6 with what this call needs
+  module _ {s : List ℕ} (left : Left s st work) (more : st .planes < st .nz) (is : plane ≡ planeOf (sizeIn st) s (st .planes)) where
+    abbrev needed : Totals
+    needed = partTotals (sizeIn st) s (st .cut) (st .planes)
+
+    needs : promise .counted ≡ needed
+    needs = promise .part s left more is .counts-are
+
+    pub plane-refuses : (x : Refusal) → (saidTaken r ≡ refused x) ↔ First (callRows st (length plane) (length work) ++ bufferRows needed (length w) (length o) (length q)) x
+    plane-refuses =
+        refuses-by _ _ _ (subst (λ (c : Totals). saidTaken r ≡ judged (takeVerdict st (length plane) (length work) c (length w) (length o) (length q)) (grownBy st c)) needs (promise .answer))
+
+    pub plane-accepts : (g : Growth) → (saidTaken r ≡ accepted g) ↔ ((takeVerdict st (length plane) (length work) needed (length w) (length o) (length q) ≡ Passes) × (g ≡ record { stream = further st needed; counts = needed }))
+    plane-accepts =
+        accepted-exactly _ _ _
+        (subst (λ (c : Totals). saidTaken r ≡ judged (takeVerdict st (length plane) (length work) c (length w) (length o) (length q)) (record { stream = further st c; counts = c })) needs
+        (promise .answer ∙ ap (judged (takeVerdict st (length plane) (length work) (promise .counted) (length w) (length o) (length q))) (promise .part s left more is .uncut)))
+
+-- a state that was started never meets rows 1 and 3
+pub begun-passes : {s : List ℕ} {st : Stream} {work : List ℕ} → Left s st work → (axisRow (st .nx) (st .ny) (st .nz) ≡ Passes) × (thresholdRow (st .cut) ≡ Passes)
+begun-passes {s} {st} left = (within-axes (st .nx) (st .ny) (st .nz) (left .block .limits), left .threshold)
+
+-- ---- an end
+
+module _ (st : Stream) where
+  pub end-numbers : (x : Refusal) → inOrder (endRow st ∷ []) ≡ Refuses x → x .number ≡ 18
+  end-numbers = first-has (λ (x : Refusal). x .number ≡ 18) _ (λ x e. ap (λ (y : Refusal). y .number) (holds-where (ltb (st .planes) (st .nz)) 18 (st .planes) x e), tt)
+
+  module _ (r : Counted) (promise : FinishAnswered st r) where
+    pub end-refuses : (x : Refusal) → (saidCounts r ≡ refused x) ↔ First (endRow st ∷ []) x
+    end-refuses = refuses-by _ _ _ promise
+
+    pub end-gives : (c : Totals) → (saidCounts r ≡ accepted c) ↔ ((inOrder (endRow st ∷ []) ≡ Passes) × (c ≡ record { vertices = st .vertices; quads = st .quads }))
+    end-gives = accepted-exactly _ _ _ promise
