@@ -38,6 +38,15 @@ use Rattle.demands.proofs.Pieces.{PiecesNumber, pieces-numbers}
 use Rattle.demands.proofs.Places.{four-untold}
 use Rattle.demands.proofs.Refusals.{run-refuses}
 use Rattle.demands.proofs.Room.{crossed-numbers}
+use Rattle.block.specs.declared.Cut.{Cut}
+use Rattle.mesh.specs.declared.Counted.{Counted}
+use Rattle.by_planes.specs.declared.Stream.{Stream}
+use Rattle.by_planes.specs.declared.Started.{Started}
+use Rattle.by_planes.specs.declared.Taken.{Taken}
+use Rattle.by_planes.specs.Answer.{saidStart, saidTaken, StartAnswered, FinishAnswered}
+use Rattle.by_planes.specs.Left.{PlaneTaken}
+use Rattle.told.specs.Numbers.{stateOf}
+use Rattle.demands.proofs.PlaneRows.{PlaneNumber, start-numbers, plane-numbers, end-numbers}
 use Rattle.demands.proofs.Thresholds.{RowNumber, row-numbers, row-is-one-by-one, row-told-answered}
 
 edge-other : (p q t : ℕ) (r : Crossing) → EdgeAnswered p q t r → NotFour (saidEdge r)
@@ -98,6 +107,26 @@ ply-other : (nx ny nz : ℕ) (words : List ℕ) (offsets : List Float) (quads : 
     → PlyWritten nx ny nz words offsets quads s file r file′ → NotFour (saidFile r)
 ply-other nx ny nz words offsets quads s file r file′ m x e = of-ply (x .number) (ply-numbers nx ny nz words offsets quads s (length file) x (refused-exactly _ _ _ (m .answer) x .0 e))
 
+of-start : (n : ℕ) → (n ≡ 1) ⊎ ((n ≡ 3) ⊎ (n ≡ 15)) → n ≡ 4 → ⊥
+of-start n (inl h) e = omega (arith, h, e)
+of-start n (inr (inl h)) e = omega (arith, h, e)
+of-start n (inr (inr h)) e = omega (arith, h, e)
+
+start-other : (nx ny nz : ℕ) (cut : Cut) (room : ℕ) (r : Started) → StartAnswered nx ny nz cut room r → NotFour (saidStart r)
+start-other nx ny nz cut room r m x e = of-start (x .number) (start-numbers nx ny nz cut room x (refused-exactly _ _ _ m x .0 e))
+
+of-plane : (n : ℕ) → PlaneNumber n → n ≡ 4 → ⊥
+of-plane n (inl h) e = omega (arith, h .1, e)
+of-plane n (inr (inl h)) e = omega (arith, h .0, e)
+of-plane n (inr (inr (inl h))) e = omega (arith, h, e)
+of-plane n (inr (inr (inr h))) e = omega (arith, h, e)
+
+plane-other : {st : Stream} {plane work w : List ℕ} {o : List Float} {q : List ℕ} {r : Taken} {work′ w′ : List ℕ} {o′ : List Float} {q′ : List ℕ} → PlaneTaken st plane work w o q r work′ w′ o′ q′ → NotFour (saidTaken r)
+plane-other m x e = of-plane (x .number) (plane-numbers m x e)
+
+finish-other : (st : Stream) (r : Counted) → FinishAnswered st r → NotFour (saidCounts r)
+finish-other st r m x e f = omega (arith, f, end-numbers st x (refused-exactly _ _ _ m x .0 e))
+
 pub four-never : FourNever
 four-never = record {
   size = λ nx ny nz r m x e f. omega (arith, f, size-numbers nx ny nz x (refused-exactly _ _ _ m x .0 e));
@@ -107,6 +136,9 @@ four-never = record {
   counts = λ nx ny nz s cut r m x e f. omega (arith, f, counts-numbers nx ny nz s cut x (refused-exactly _ _ _ m x .0 e) .1);
   row = λ nx ny nz s ts b r b′ m. (row-other nx ny nz s ts b r b′ m, row-each nx ny nz s ts b r b′ m);
   mesh = λ nx ny nz s cut w o q r w′ o′ q′ m x e. of-mesh (x .number) (mesh-numbers nx ny nz s cut (length w) (length o) (length q) x (refused-exactly _ _ _ (m .answer) x .0 e));
+  start = start-other;
+  plane = λ st plane work w o q r work′ w′ o′ q′ m. plane-other m;
+  finish = finish-other;
   closed = λ quads r m x e f. omega (arith, f, closed-numbers quads x (refused-exactly _ _ _ m x .0 e));
   closed-with = closed-with-other;
   pieces = pieces-other;
@@ -122,6 +154,9 @@ four-never = record {
     λ z. row-each nx ny nz s ts b (m .answer) b′ (m .answered) (row-told-answered nx ny nz s ts b place b′ place′ m z),
   );
   mesh-told = λ nx ny nz s t w o q place w′ o′ q′ place′ m. four-untold 3 _ (saidCounts (m .answer)) place place′ (m .is-told) (λ x e. of-mesh (x .number) (mesh-numbers nx ny nz s (cutOf t) (length w) (length o) (length q) x (refused-exactly _ _ _ (m .meshed .answer) x .0 e)));
+  start-told = λ nx ny nz t work state place state′ place′ m. four-untold 3 _ (saidStart (m .answer)) place place′ (m .is-told) (start-other nx ny nz (cutOf t) (length work) (m .answer) (m .answered));
+  plane-told = λ state plane work w o q place state′ work′ w′ o′ q′ place′ m. four-untold 3 _ (saidTaken (m .answer)) place place′ (m .is-told) (plane-other (m .answered));
+  end-told = λ state place place′ m. four-untold 3 _ (saidCounts (m .answer)) place place′ (m .is-told) (finish-other (stateOf state) (m .answer) (m .answered));
   closed-told = λ quads place place′ m. four-untold 4 _ (saidClosure (m .answer)) place place′ (m .is-told) (λ x e f. omega (arith, f, closed-numbers quads x (refused-exactly _ _ _ (m .answered) x .0 e)));
   closed-with-told = λ quads work place work′ place′ m. four-untold 4 _ (saidClosure (m .answer)) place place′ (m .is-told) (closed-with-other quads work (m .answer) work′ (m .answered));
   pieces-told = λ n quads piece size place piece′ size′ place′ m. four-untold 3 _ (saidPieces (m .answer)) place place′ (m .is-told) (pieces-other n quads piece size (m .answer) piece′ size′ (m .answered));

@@ -30,10 +30,15 @@ use Rattle.ply.specs.declared.Filed.{Filed}
 use Rattle.ply.specs.Answer.{saidFile, PlyWritten}
 use Rattle.room.specs.declared.Edged.{Edged}
 use Rattle.room.specs.Answer.{saidCrossed, CrossedAnswered}
+use Rattle.by_planes.specs.declared.Stream.{Stream}
+use Rattle.by_planes.specs.declared.Started.{Started}
+use Rattle.by_planes.specs.declared.Taken.{Taken}
+use Rattle.by_planes.specs.Answer.{saidStart, saidTaken, StartAnswered, FinishAnswered}
+use Rattle.by_planes.specs.Left.{PlaneTaken}
 use Rattle.thresholds.specs.declared.RowAnswer.{RowAnswer}
 use Rattle.thresholds.specs.Answer.{saidRow, RowAnswered}
 use Rattle.lines.specs.Output.{refusalLine, Prints, Ran}
-use Rattle.parsniprow_c.specs.Told.{CeilingsTold, EdgeTold, CubeTold, CrossedTold, CountsTold, RowTold, MeshTold, ClosedTold, ClosedWithTold, PiecesTold, PlyTold}
+use Rattle.parsniprow_c.specs.Told.{CeilingsTold, EdgeTold, CubeTold, CrossedTold, CountsTold, RowTold, MeshTold, StartTold, PlaneTold, EndTold, ClosedTold, ClosedWithTold, PiecesTold, PlyTold}
 use Rattle.demands.specs.Answers.{MeshCall}
 
 -- the mark of a vertex is bit 12 of its word
@@ -78,6 +83,10 @@ pub record FourNever : Type 0 where
       → NotFour (saidRow r) × (saidRow r ≡ accepted tt → (i : ℕ) → i < length ts → getD b′ (3 * i) 0 ≡ 4 → ⊥)
   pub mesh : (nx ny nz : ℕ) (s : List ℕ) (cut : Cut) (w : List ℕ) (o : List Float) (q : List ℕ) (r : Counted) (w′ : List ℕ) (o′ : List Float) (q′ : List ℕ)
       → Meshed nx ny nz s cut w o q r w′ o′ q′ → NotFour (saidCounts r)
+  pub start : (nx ny nz : ℕ) (cut : Cut) (room : ℕ) (r : Started) → StartAnswered nx ny nz cut room r → NotFour (saidStart r)
+  pub plane : (st : Stream) (plane work w : List ℕ) (o : List Float) (q : List ℕ) (r : Taken) (work′ w′ : List ℕ) (o′ : List Float) (q′ : List ℕ)
+      → PlaneTaken st plane work w o q r work′ w′ o′ q′ → NotFour (saidTaken r)
+  pub finish : (st : Stream) (r : Counted) → FinishAnswered st r → NotFour (saidCounts r)
   pub closed : (quads : List ℕ) (r : Closure) → ClosedAnswered quads r → NotFour (saidClosure r)
   pub closed-with : (quads work : List ℕ) (r : Closure) (work′ : List ℕ) → ClosedWith quads work r work′ → NotFour (saidClosure r)
   pub pieces : (n : ℕ) (quads piece size : List ℕ) (r : Pieced) (piece′ size′ : List ℕ) → PiecesFound n quads piece size r piece′ size′ → NotFour (saidPieces r)
@@ -94,6 +103,10 @@ pub record FourNever : Type 0 where
       → (getD place′ 0 0 ≡ 4 → ⊥) × (getD place′ 0 1 ≡ 0 → (i : ℕ) → i < length ts → getD b′ (3 * i) 0 ≡ 4 → ⊥)
   pub mesh-told : (nx ny nz : ℕ) (s : List ℕ) (t : ℕ) (w : List ℕ) (o : List Float) (q place w′ : List ℕ) (o′ : List Float) (q′ place′ : List ℕ)
       → MeshTold nx ny nz s t w o q place w′ o′ q′ place′ → getD place′ 0 0 ≡ 4 → ⊥
+  pub start-told : (nx ny nz t : ℕ) (work state place state′ place′ : List ℕ) → StartTold nx ny nz t work state place state′ place′ → getD place′ 0 0 ≡ 4 → ⊥
+  pub plane-told : (state plane work w : List ℕ) (o : List Float) (q place state′ work′ w′ : List ℕ) (o′ : List Float) (q′ place′ : List ℕ)
+      → PlaneTold state plane work w o q place state′ work′ w′ o′ q′ place′ → getD place′ 0 0 ≡ 4 → ⊥
+  pub end-told : (state place place′ : List ℕ) → EndTold state place place′ → getD place′ 0 0 ≡ 4 → ⊥
   pub closed-told : (quads place place′ : List ℕ) → ClosedTold quads place place′ → getD place′ 0 0 ≡ 4 → ⊥
   pub closed-with-told : (quads work place work′ place′ : List ℕ) → ClosedWithTold quads work place work′ place′ → getD place′ 0 0 ≡ 4 → ⊥
   pub pieces-told : (n : ℕ) (quads piece size place piece′ size′ place′ : List ℕ) → PiecesTold n quads piece size place piece′ size′ place′ → getD place′ 0 0 ≡ 4 → ⊥
