@@ -691,7 +691,8 @@ static void note_ceilings(const struct request *request, const struct block *blo
                "where they are.\n");
     else
         printf("note A marked vertex has a corner of its cube at the ceiling, so the surface there is not certain. "
-               "With --mesh its mask begins with 1.\n");
+               "%s its mask begins with 1.\n", request->is_by_planes ? "In a run with --mesh, which does not go with "
+               "--by-planes," : "With --mesh");
     if (outs[PLY_FILE].name && mesh->marked_count > 0)
         printf("note The PLY file does not show which vertices are marked.\n");
     printf("note If a marked vertex or a value at the ceiling is where the claim is judged, do not judge by the mesh "

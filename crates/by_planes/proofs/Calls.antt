@@ -42,7 +42,8 @@ use Rattle.mesh.proofs.Rows.{below-le, vertices-le}
 use Rattle.mesh.proofs.Tallies.{all-quads}
 use Rattle.plane_layers.specs.declared.Layer.{Layer}
 use Rattle.plane_layers.specs.Memory.{sampleIn, packed, Shown, LayerTables}
-use Rattle.plane_layers.specs.Layer.{layerTotals, layerQuads, LayerReady, Known, PartGrown, Grown, KeptBehind}
+use Rattle.plane_layers.specs.Parts.{layerTotals, KeptBehind}
+use Rattle.plane_layers.specs.Layer.{LayerReady, Known, PartGrown, Grown}
 use Rattle.plane_layers.proofs.Copies.{packed-fits, packed-sample, packed-behind}
 use Rattle.plane_layers.proofs.Grown.{quads-length, quads-four}
 use Rattle.by_planes.specs.declared.Stream.{Stream}

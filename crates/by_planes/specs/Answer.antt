@@ -16,11 +16,11 @@ use Rattle.block.specs.Numbering.{X, Y, Z}
 use Rattle.block.specs.Rows.{axisRow, thresholdRow, roomRow}
 use Rattle.block.specs.Size.{sizeOf}
 use Rattle.cube_rule.specs.Decider.{loopsOf}
-use Rattle.mesh_rule.specs.Layers.{planeSize, layerWords}
+use Rattle.mesh_rule.specs.Layers.{planeSize, layerWords, layerOffsets, layerQuads}
 use Rattle.mesh.specs.declared.Counted.{Counted}
 use Rattle.mesh.specs.declared.Totals.{Totals}
 use Rattle.mesh.specs.Answer.{saidCounts, bufferRows}
-use Rattle.plane_layers.specs.Layer.{layerOffsets, layerQuads, layerTotals}
+use Rattle.plane_layers.specs.Parts.{layerTotals}
 use Rattle.by_planes.specs.declared.Stream.{Stream}
 use Rattle.by_planes.specs.declared.Growth.{Growth}
 use Rattle.by_planes.specs.declared.Started.{Started}

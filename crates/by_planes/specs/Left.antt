@@ -18,7 +18,7 @@ use Rattle.mesh_rule.specs.Layers.{planeSize, layerFirst}
 use Rattle.mesh.specs.declared.Totals.{Totals}
 use Rattle.mesh.specs.Steps.{quadsUpTo}
 use Rattle.plane_layers.specs.Memory.{sampleIn, LayerTables}
-use Rattle.plane_layers.specs.Layer.{KeptBehind}
+use Rattle.plane_layers.specs.Parts.{KeptBehind}
 use Rattle.by_planes.specs.declared.Stream.{Stream}
 use Rattle.by_planes.specs.declared.Growth.{Growth}
 use Rattle.by_planes.specs.declared.Taken.{Taken}

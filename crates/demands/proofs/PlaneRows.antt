@@ -4,10 +4,13 @@ use Prim.Native.Nat.{ℕ, _+_, _*_, _≤_, _<_}
 use mathlib.Core.Path.{_≡_, refl, ap, sym, _∙_, subst}
 use mathlib.Core.Logic.{_↔_, _⊎_, inl, inr}
 use mathlib.Core.List.{List, [], _∷_, _++_}
+use native.Mathlib.Nat.{mod-eq-of-lt}
 use native.Mathlib.Omega.{arith}
 use lib.Dec.{leb, ltb, eqb}
 use lib.Ieee.{Float}
 use lib.ListN.{length}
+use lib.Seq.{take-all}
+use Rattle.laws.specs.Below.{over}
 use Rattle.block.specs.declared.Checked.the-variants.{Passes, Refuses}
 use Rattle.block.specs.declared.Cut.{Cut}
 use Rattle.block.specs.declared.Refusal.{Refusal}
@@ -29,7 +32,7 @@ use Rattle.by_planes.specs.declared.Taken.{Taken}
 use Rattle.by_planes.specs.Answer.{sizeIn, planeOf, partTotals, begun, further, grownBy, startRows, callRows, takeVerdict, endRow, saidStart, saidTaken, StartAnswered, FinishAnswered}
 use Rattle.by_planes.specs.Left.{Left, PlaneTaken}
 use Rattle.parsniprow_c.specs.Told.{tellOver, stateAfter, StartTold, EndTold}
-use Rattle.told.specs.Numbers.{toldNothing, stateOf}
+use Rattle.told.specs.Numbers.{toldNothing, stateNumbers, stateOf}
 use Rattle.demands.proofs.Numbers.{unless-number, axis-number, threshold-number, vertex-number, quad-number}
 use Rattle.demands.proofs.Refusals.{refuses-by}
 
@@ -105,7 +108,10 @@ verdict-numbers st count room c words offsets lent =
     )
 
 module _ {st : Stream} {plane work w : List ℕ} {o : List Float} {q : List ℕ} {r : Taken} {work′ w′ : List ℕ} {o′ : List Float} {q′ : List ℕ} (promise : PlaneTaken st plane work w o q r work′ w′ o′ q′) where
-  -- with any state and any work buffer
+  -- with any state and any work buffer the first row that holds decides, rows 5 and 6 by what the call counts
+  pub plane-decides : (x : Refusal) → (saidTaken r ≡ refused x) ↔ First (callRows st (length plane) (length work) ++ bufferRows (promise .counted) (length w) (length o) (length q)) x
+  plane-decides = refuses-by _ _ _ (promise .answer)
+
   pub plane-numbers : (x : Refusal) → saidTaken r ≡ refused x → PlaneNumber (x .number)
   plane-numbers x e = verdict-numbers st (length plane) (length work) (promise .counted) (length w) (length o) (length q) x (refused-exactly _ _ _ (promise .answer) x .0 e)
 
@@ -146,3 +152,12 @@ module _ (st : Stream) where
 
     pub end-gives : (c : Totals) → (saidCounts r ≡ accepted c) ↔ ((inOrder (endRow st ∷ []) ≡ Passes) × (c ≡ record { vertices = st .vertices; quads = st .quads }))
     end-gives = accepted-exactly _ _ _ promise
+
+-- ---- a C caller
+
+-- a place of seven items or more gives back the state that was told there
+pub state-comes-back : (st : Stream) (place : List ℕ) → 7 ≤ length place → st .cut .t < 65536 → stateOf (tellOver (stateNumbers st) place) ≡ st
+unfolding over
+state-comes-back st place room small =
+    ap (λ (l : List ℕ). stateOf (over l place)) (take-all (length place) (stateNumbers st) room)
+    ∙ ap (λ (t : ℕ). record { nx = st .nx; ny = st .ny; nz = st .nz; cut = cutOf t; vertices = st .vertices; quads = st .quads; planes = st .planes }) (mod-eq-of-lt small)

@@ -31,7 +31,7 @@ use Rattle.cube_rule.specs.Decider.{joined, loopsOf}
 use Rattle.cube_rule.proofs.Laws.{cube-laws}
 use Rattle.mesh_rule.specs.Buffers.{meshWords, meshOffsets, meshQuads}
 use Rattle.mesh_rule.specs.Grid.{metal, OffEdges, AtLeastThree}
-use Rattle.mesh_rule.specs.Layers.{planeSize, layerSize, layerWords, layerCount, layerFirst, cubeWords, cubeOffsets, planeQuads, quadsFrom}
+use Rattle.mesh_rule.specs.Layers.{planeSize, layerSize, layerWords, layerOffsets, cubeWords, cubeOffsets, planeQuads}
 use Rattle.mesh_rule.specs.Mesh.{Vertex, Quad, flat, vertices, verticesBefore, quadAt, quadsBefore, quads}
 use Rattle.mesh_rule.specs.Reading.{inFours, telling, putBack}
 use Rattle.mesh_rule.proofs.Counts.{most-vertices, most-quads}
@@ -47,7 +47,6 @@ use Rattle.mesh.specs.Steps.{quadsUpTo}
 use Rattle.mesh.proofs.Layers.{layers-all, words-length}
 use Rattle.mesh.proofs.PlaneQuads.{flat-append, flat-below, quads-flat, planes-quads-all}
 use Rattle.mesh.proofs.Tallies.{all-quads, vertices-are}
-use Rattle.plane_layers.specs.Layer.{layerOffsets, layerQuads}
 use Rattle.plane_layers.proofs.Grown.{quads-four}
 use Rattle.plane_layers.proofs.Rows.{run-words-length, run-offsets-length}
 use Rattle.by_planes.specs.declared.Stream.{Stream}
@@ -55,7 +54,7 @@ use Rattle.by_planes.specs.declared.Growth.{Growth}
 use Rattle.by_planes.specs.Answer.{planeOf, partWords, partOffsets, partQuads, partTotals, begun, further, workRow, startRows, endRow, takeVerdict, FinishAnswered}
 use Rattle.by_planes.specs.Left.{Left, PartTaken, PlaneTaken}
 use Rattle.by_planes.proofs.Lefts.{begun-left, left-few}
-use Rattle.demands.specs.Runs.{Run, allWords, allOffsets, allQuads, cubeIn, quadsBack}
+use Rattle.demands.specs.Runs.{PlaneRun, allWords, allOffsets, allQuads, cubeIn, quadsBack}
 
 -- ---- the parts of a mesh, one behind the other
 
@@ -95,7 +94,7 @@ part-quads-length n s cut (suc k) = quads-four n s cut k
 
 -- ---- a run
 
-module _ {nx ny nz : ℕ} {s : List ℕ} {cut : Cut} {m : ℕ} (r : Run nx ny nz s cut m) where
+module _ {nx ny nz : ℕ} {s : List ℕ} {cut : Cut} {m : ℕ} (r : PlaneRun nx ny nz s cut m) where
   abbrev n : Size
   n = sizeOf nx ny nz
 
@@ -158,42 +157,42 @@ module _ {nx ny nz : ℕ} {s : List ℕ} {cut : Cut} {m : ℕ} (r : Run nx ny nz
   at (suc k) h = next-at k (omega arith) (at k (omega arith))
 
   -- what was left is left: the state and the work buffer after k planes
-  pub run-left : (k : ℕ) → k ≤ m → Left s (r .state k) (r .work k)
-  run-left k h = subst (λ (st : Stream). Left s st (r .work k)) (sym (at k h .is)) (at k h .left)
+  pub planes-left : (k : ℕ) → k ≤ m → Left s (r .state k) (r .work k)
+  planes-left k h = subst (λ (st : Stream). Left s st (r .work k)) (sym (at k h .is)) (at k h .left)
 
   -- in a run nothing wraps
-  pub run-few : (k : ℕ) → k ≤ m → (r .state k .vertices ≤ 66325500) × (r .state k .quads ≤ 49354740)
-  run-few k h = left-few (run-left k h)
+  pub planes-few : (k : ℕ) → k ≤ m → (r .state k .vertices ≤ 66325500) × (r .state k .quads ≤ 49354740)
+  planes-few k h = left-few (planes-left k h)
 
   -- each call writes exactly its part, with the numbers of the whole block
   module _ (k : ℕ) (h : k < m) where
     abbrev here : At k
     here = at k (omega arith)
 
-    pub run-counts : r .counts k ≡ partTotals n s cut k
-    run-counts = counts-at k h here
+    pub planes-counts : r .counts k ≡ partTotals n s cut k
+    planes-counts = counts-at k h here
 
-    pub run-words : r .words-after k ≡ over (partWords n s cut k) (r .words k)
-    run-words = part k h here .words ∙ written-passed _ _ (r .words k) (gave k h here .0)
+    pub planes-words : r .words-after k ≡ over (partWords n s cut k) (r .words k)
+    planes-words = part k h here .words ∙ written-passed _ _ (r .words k) (gave k h here .0)
 
-    pub run-offsets : r .offsets-after k ≡ over (partOffsets n s cut k) (r .offsets k)
-    run-offsets = part k h here .offsets ∙ written-passed _ _ (r .offsets k) (gave k h here .0)
+    pub planes-offsets : r .offsets-after k ≡ over (partOffsets n s cut k) (r .offsets k)
+    planes-offsets = part k h here .offsets ∙ written-passed _ _ (r .offsets k) (gave k h here .0)
 
-    pub run-quads : r .quads-after k ≡ over (partQuads n s cut k) (r .quads k)
-    run-quads = part k h here .quads ∙ written-passed _ _ (r .quads k) (gave k h here .0)
+    pub planes-quads : r .quads-after k ≡ over (partQuads n s cut k) (r .quads k)
+    planes-quads = part k h here .quads ∙ written-passed _ _ (r .quads k) (gave k h here .0)
 
     -- so a form that holds all back falls: a call that has a vertex to write, and whose buffer does not hold it yet, does not leave the buffer
     pub held-back-falls : 0 < length (partWords n s cut k) → (getD (r .words k) 0 0 ≡ getD (partWords n s cut k) 0 0 → ⊥) → r .words-after k ≡ r .words k → ⊥
-    held-back-falls some other kept = other (ap (λ (l : List ℕ). getD l 0 0) (sym kept ∙ run-words) ∙ over-front (partWords n s cut k) (r .words k) 0 0 some)
+    held-back-falls some other kept = other (ap (λ (l : List ℕ). getD l 0 0) (sym kept ∙ planes-words) ∙ over-front (partWords n s cut k) (r .words k) 0 0 some)
 
     words-front : take (2 * r .counts k .vertices) (r .words-after k) ≡ partWords n s cut k
-    words-front = ap (take (2 * r .counts k .vertices)) run-words ∙ over-take (partWords n s cut k) (r .words k) (2 * r .counts k .vertices) (part-words-length n s cut k ∙ ap (λ (c : Totals). 2 * c .vertices) (sym run-counts))
+    words-front = ap (take (2 * r .counts k .vertices)) planes-words ∙ over-take (partWords n s cut k) (r .words k) (2 * r .counts k .vertices) (part-words-length n s cut k ∙ ap (λ (c : Totals). 2 * c .vertices) (sym planes-counts))
 
     offsets-front : take (3 * r .counts k .vertices) (r .offsets-after k) ≡ partOffsets n s cut k
-    offsets-front = ap (take (3 * r .counts k .vertices)) run-offsets ∙ over-take (partOffsets n s cut k) (r .offsets k) (3 * r .counts k .vertices) (part-offsets-length n s cut k ∙ ap (λ (c : Totals). 3 * c .vertices) (sym run-counts))
+    offsets-front = ap (take (3 * r .counts k .vertices)) planes-offsets ∙ over-take (partOffsets n s cut k) (r .offsets k) (3 * r .counts k .vertices) (part-offsets-length n s cut k ∙ ap (λ (c : Totals). 3 * c .vertices) (sym planes-counts))
 
     quads-front : take (4 * r .counts k .quads) (r .quads-after k) ≡ partQuads n s cut k
-    quads-front = ap (take (4 * r .counts k .quads)) run-quads ∙ over-take (partQuads n s cut k) (r .quads k) (4 * r .counts k .quads) (part-quads-length n s cut k ∙ ap (λ (c : Totals). 4 * c .quads) (sym run-counts))
+    quads-front = ap (take (4 * r .counts k .quads)) planes-quads ∙ over-take (partQuads n s cut k) (r .quads k) (4 * r .counts k .quads) (part-quads-length n s cut k ∙ ap (λ (c : Totals). 4 * c .quads) (sym planes-counts))
 
 nothing-back : (n : Size) (cube : ℕ → ℕ) → putBack n cube [] ≡ []
 unfolding putBack telling
@@ -201,7 +200,7 @@ nothing-back n cube = refl
 
 -- ---- a whole run
 
-module _ {nx ny nz : ℕ} {s : List ℕ} {cut : Cut} (r : Run nx ny nz s cut nz) where
+module _ {nx ny nz : ℕ} {s : List ℕ} {cut : Cut} (r : PlaneRun nx ny nz s cut nz) where
   abbrev size : Size
   size = sizeOf nx ny nz
 
@@ -272,8 +271,8 @@ module _ {nx ny nz : ℕ} {s : List ℕ} {cut : Cut} (r : Run nx ny nz s cut nz)
       three p q r = cc
 
   -- an end gives the counts of the block
-  pub run-totals : (c : Counted) → FinishAnswered (r .state nz) c → saidCounts c ≡ accepted (countsOf size s cut)
-  run-totals c f =
+  pub planes-totals : (c : Counted) → FinishAnswered (r .state nz) c → saidCounts c ≡ accepted (countsOf size s cut)
+  planes-totals c f =
       subst (λ (st : Stream). FinishAnswered st c) (at r nz (omega arith) .is) f
       ∙ sym (judged-passed _ (countsOf size s cut) _ ended (ap₂ (λ (v q : ℕ). record { vertices = v; quads = q }) vertices-all quads-all))
     where
@@ -299,13 +298,13 @@ module _ {nx ny nz : ℕ} {s : List ℕ} {cut : Cut} (r : Run nx ny nz s cut nz)
 
 -- ---- demand 3
 
-module _ {nx ny nz : ℕ} {s : List ℕ} {cut : Cut} (r : Run nx ny nz s cut nz) (three : AtLeastThree (sizeOf nx ny nz)) where
+module _ {nx ny nz : ℕ} {s : List ℕ} {cut : Cut} (r : PlaneRun nx ny nz s cut nz) (three : AtLeastThree (sizeOf nx ny nz)) where
   -- no quad: the samples off the twelve edges are all alike
-  pub run-no-quad : allQuads r ≡ [] → (i j k i′ j′ k′ : ℕ) → OffEdges (sizeOf nx ny nz) i j k → OffEdges (sizeOf nx ny nz) i′ j′ k′ → metal (sizeOf nx ny nz) s cut i j k ≡ metal (sizeOf nx ny nz) s cut i′ j′ k′
-  run-no-quad none = demand3-alike loopsOf (sizeOf nx ny nz) three s cut (sym (put-back r) ∙ ap (λ (l : List ℕ). putBack (sizeOf nx ny nz) (cubeIn r) (inFours l)) none ∙ nothing-back (sizeOf nx ny nz) (cubeIn r))
+  pub planes-no-quad : allQuads r ≡ [] → (i j k i′ j′ k′ : ℕ) → OffEdges (sizeOf nx ny nz) i j k → OffEdges (sizeOf nx ny nz) i′ j′ k′ → metal (sizeOf nx ny nz) s cut i j k ≡ metal (sizeOf nx ny nz) s cut i′ j′ k′
+  planes-no-quad none = demand3-alike loopsOf (sizeOf nx ny nz) three s cut (sym (put-back r) ∙ ap (λ (l : List ℕ). putBack (sizeOf nx ny nz) (cubeIn r) (inFours l)) none ∙ nothing-back (sizeOf nx ny nz) (cubeIn r))
 
   -- two runs that wrote the same cube for every vertex and the same quads, put back, at least one: each of these samples is metal in both or hollow in both
-  pub runs-alike : {s′ : List ℕ} {cut′ : Cut} (b : Run nx ny nz s′ cut′ nz) → ((v : ℕ) → cubeIn r v ≡ cubeIn b v) → quadsBack r ≡ quadsBack b → 0 < length (quadsBack r)
+  pub planes-alike : {s′ : List ℕ} {cut′ : Cut} (b : PlaneRun nx ny nz s′ cut′ nz) → ((v : ℕ) → cubeIn r v ≡ cubeIn b v) → quadsBack r ≡ quadsBack b → 0 < length (quadsBack r)
       → (i j k : ℕ) → OffEdges (sizeOf nx ny nz) i j k → metal (sizeOf nx ny nz) s cut i j k ≡ metal (sizeOf nx ny nz) s′ cut′ i j k
-  runs-alike {s′} {cut′} b same back some =
+  planes-alike {s′} {cut′} b same back some =
       demand3 (cube-laws joined) (sizeOf nx ny nz) three s cut s′ cut′ (λ v. sym (cube-at r v) ∙ same v ∙ cube-at b v) (ap flat (sym (put-back r) ∙ back ∙ put-back b)) (omega (arith, some, ap length (put-back r)))

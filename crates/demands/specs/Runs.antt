@@ -23,7 +23,7 @@ use Rattle.by_planes.specs.Answer.{planeOf, saidStart, saidTaken, StartAnswered
 use Rattle.by_planes.specs.Left.{PlaneTaken}
 
 -- the planes before plane m of the block s were handed over
-pub record Run (nx ny nz : ℕ) (s : List ℕ) (cut : Cut) (m : ℕ) : Type 0 where
+pub record PlaneRun (nx ny nz : ℕ) (s : List ℕ) (cut : Cut) (m : ℕ) : Type 0 where
   pub block : length s ≡ sampleCount (sizeOf nx ny nz)
   pub grey : SixteenBit s
   pub some : m ≤ nz
@@ -46,7 +46,7 @@ pub record Run (nx ny nz : ℕ) (s : List ℕ) (cut : Cut) (m : ℕ) : Type 0 wh
       → PlaneTaken (state k) (planeOf (sizeOf nx ny nz) s k) (work k) (words k) (offsets k) (quads k) (answer k) (work (suc k)) (words-after k) (offsets-after k) (quads-after k)
   pub accepts : (k : ℕ) → k < m → saidTaken (answer k) ≡ accepted (record { stream = state (suc k); counts = counts k })
 
-module _ {nx ny nz : ℕ} {s : List ℕ} {cut : Cut} {m : ℕ} (r : Run nx ny nz s cut m) where
+module _ {nx ny nz : ℕ} {s : List ℕ} {cut : Cut} {m : ℕ} (r : PlaneRun nx ny nz s cut m) where
   -- what the calls wrote, one behind the other
   abbrev pub allWords : List ℕ
   allWords = below (λ (k : ℕ). take (2 * r .counts k .vertices) (r .words-after k)) m

@@ -1,13 +1,13 @@
 -- What the lent buffers hold of a mesh row by row and layer by layer, for the passes that write them. Layer k has the cubes (i,j,k), plane k the
 -- samples (i,j,k). Assumes nothing.
 use Prim.Native.Nat.{ℕ, _+_, _*_, _-_}
-use mathlib.Core.List.{List, [], _∷_, map}
+use mathlib.Core.List.{List, [], _∷_, _++_, map}
 use lib.ListN.{length}
 use lib.Ieee.{Float}
 use Rattle.laws.specs.Below.{below}
 use Rattle.block.specs.declared.Cut.{Cut}
 use Rattle.block.specs.declared.Size.{Size}
-use Rattle.block.specs.Numbering.{Axis, cubeNumber, atSample}
+use Rattle.block.specs.Numbering.{Axis, X, Y, Z, cubeNumber, atSample}
 use Rattle.place.specs.Place.{placeOf}
 use Rattle.cell.specs.Answer.{wordOf}
 use Rattle.mesh_rule.specs.Grid.{cornersOf}
@@ -55,9 +55,12 @@ module _ (loopsOf : Cut → List ℕ → List ℕ) (n : Size) (s : List ℕ) (cu
   abbrev pub runOffsets : ℕ → ℕ → List Float
   runOffsets c m = below (λ (x : ℕ). cubeOffsets (c + x)) m
 
-  -- of the layer k: its words, how many vertices it has, and the number of its first vertex
+  -- of the layer k: its words and offsets, how many vertices it has, and the number of its first vertex
   abbrev pub layerWords : ℕ → List ℕ
   layerWords k = runWords (layerSize n * k) (layerSize n)
+
+  abbrev pub layerOffsets : ℕ → List Float
+  layerOffsets k = runOffsets (layerSize n * k) (layerSize n)
 
   abbrev pub layerCount : ℕ → ℕ
   layerCount k = length (runMasks (layerSize n * k) (layerSize n))
@@ -74,3 +77,7 @@ module _ (loopsOf : Cut → List ℕ → List ℕ) (n : Size) (s : List ℕ) (cu
 
   abbrev pub planeQuads : Axis → ℕ → List ℕ
   planeQuads a k = runQuads a (planeSize n * k) (planeSize n)
+
+  -- and along all three axes, x before y before z
+  abbrev pub layerQuads : ℕ → List ℕ
+  layerQuads k = planeQuads X k ++ planeQuads Y k ++ planeQuads Z k

@@ -12,14 +12,14 @@ use Rattle.laws.proofs.Fixed.{equation-fixes}
 use Rattle.block.specs.declared.Checked.{Checked}
 use Rattle.block.specs.Answer.{inOrder, judged, written}
 use Rattle.cube_rule.specs.Decider.{loopsOf}
-use Rattle.mesh_rule.specs.Layers.{layerWords}
+use Rattle.mesh_rule.specs.Layers.{layerWords, layerOffsets, layerQuads}
 use Rattle.mesh.specs.declared.Counted.{Counted}
 use Rattle.mesh.specs.declared.Totals.{Totals}
 use Rattle.mesh.specs.Answer.{bufferRows}
 use Rattle.mesh.proofs.Verdicts.{said-counts-injective}
 use Rattle.plane_layers.specs.declared.Layer.{Layer}
 use Rattle.plane_layers.specs.Memory.{packed, Shown}
-use Rattle.plane_layers.specs.Layer.{layerOffsets, layerQuads, Known, Grown}
+use Rattle.plane_layers.specs.Layer.{Known, Grown}
 
 pub keep-plane-fixed : (plane work : List ℕ) → Fixes (λ (exit : List ℕ). exit ≡ over (packed plane) work)
 keep-plane-fixed plane work = equation-fixes (over (packed plane) work)

@@ -21,7 +21,7 @@ use Rattle.block.specs.Numbering.{Axis, X, Y, Z}
 use Rattle.block.proofs.Order.{judged-refused, judged-passed, written-passed, written-refused, passes-refuses}
 use Rattle.cube_rule.specs.Decider.{loopsOf}
 use Rattle.mesh_rule.specs.Mesh.{quadsBefore}
-use Rattle.mesh_rule.specs.Layers.{planeSize, layerWords, layerCount, planeQuads}
+use Rattle.mesh_rule.specs.Layers.{planeSize, layerWords, layerOffsets, layerCount, planeQuads, layerQuads}
 use Rattle.mesh_rule.proofs.Quads.{flat-length}
 use Rattle.layers.specs.declared.Marks.{Marks}
 use Rattle.mesh.specs.declared.Counted.{Counted}
@@ -34,7 +34,8 @@ use Rattle.mesh.proofs.PlaneQuads.{quads-flat, planes-quads-next}
 use Rattle.mesh.proofs.Regions.{all-full}
 use Rattle.plane_layers.specs.declared.Layer.{Layer}
 use Rattle.plane_layers.specs.Memory.{SignedTo, sampleIn, itemAt, packed, Shown, tableAt, LayerTables}
-use Rattle.plane_layers.specs.Layer.{rowsX, rowsY, rowsZ, layerQuads, layerOffsets, layerTotals, RowsMarked, RowsWritten, Known, LayerReady, SignsReady, LayerCounted, LayerRoomy, KeptBehind, LayerWritten, PartGrown, Grown}
+use Rattle.plane_layers.specs.Parts.{layerTotals, KeptBehind}
+use Rattle.plane_layers.specs.Layer.{rowsX, rowsY, rowsZ, RowsMarked, RowsWritten, Known, LayerReady, SignsReady, LayerCounted, LayerRoomy, LayerWritten, PartGrown, Grown}
 use Rattle.plane_layers.proofs.Copies.{packed-fits, packed-sample, packed-behind}
 use Rattle.plane_layers.proofs.Parts.{numbered-as}
 use Rattle.plane_layers.proofs.Rows.{layer-masks, layer-words, layer-offsets, plane-quads, rows-words-length, rows-offsets-length, marked-all-few}
@@ -134,9 +135,6 @@ module _ {layer : Layer} {work plane : List ℕ} (r : LayerReady layer work plan
     lower = subst (λ (x : ℕ). SignedTo x (sampleIn work) (layer .cut) (layer .size .ny) a) ex (subst (λ (y : ℕ). SignedTo nx (sampleIn work) (layer .cut) y a) ey sa);
     upper = subst (λ (x : ℕ). SignedTo x (itemAt plane) (layer .cut) (layer .size .ny) b) ex (subst (λ (y : ℕ). SignedTo nx (itemAt plane) (layer .cut) y b) ey sb);
   }
-
-  some : List ℕ
-  some = made (layer .size) (layer .k) work plane
 
   module _ {t : Marks} (c : LayerCounted loopsOf layer work plane t) where
     abbrev here : RowsMarked loopsOf (layer .size) (made (layer .size) (layer .k) work plane) (layer .cut) (layer .k) 0 0 (layer .size .ny - 1) t

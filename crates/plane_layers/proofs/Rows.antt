@@ -18,7 +18,7 @@ use Rattle.block.specs.Size.{Limits}
 use Rattle.cube_rule.specs.Decider.{joined, loopsOf}
 use Rattle.cube_rule.proofs.Laws.{cube-laws}
 use Rattle.mesh_rule.specs.Mesh.{cubeLoops, verticesBefore}
-use Rattle.mesh_rule.specs.Layers.{planeSize, layerSize, rowCube, rowSample, cubeWords, cubeOffsets, runMasks, runWords, runOffsets, layerWords, layerCount, layerFirst, planeQuads}
+use Rattle.mesh_rule.specs.Layers.{planeSize, layerSize, rowCube, rowSample, cubeWords, cubeOffsets, runMasks, runWords, runOffsets, layerWords, layerOffsets, layerCount, layerFirst, planeQuads}
 use Rattle.mesh_rule.proofs.Counts.{most-vertices, most-quads}
 use Rattle.quads.specs.Writing.{rowQuads}
 use Rattle.quads.proofs.Numbers.{number-run}
@@ -30,7 +30,7 @@ use Rattle.mesh.proofs.PlaneQuads.{planes-quads-next}
 use Rattle.mesh.proofs.Layers.{length-scaled, words-of-cube, offsets-of-cube}
 use Rattle.mesh.proofs.Rows.{below-le, cube-in, next-cube, row-next, row-last, quads-room, vertices-le}
 use Rattle.mesh.proofs.Tallies.{all-quads, counting-few}
-use Rattle.plane_layers.specs.Layer.{rowsMasks, rowsWords, rowsOffsets, rowsX, rowsY, rowsZ, layerQuads, layerOffsets, layerTotals, RowsMarked}
+use Rattle.plane_layers.specs.Layer.{rowsMasks, rowsWords, rowsOffsets, rowsX, rowsY, rowsZ, RowsMarked}
 
 -- one list more
 pub below-next : {A : Type 0} (f : ℕ → List A) (j : ℕ) → below f (j + 1) ≡ below f j ++ f j
@@ -83,9 +83,6 @@ module _ (n : Size) (s : List ℕ) (cut : Cut) (k : ℕ) where
 
   -- all rows are the layer
   module _ (j : ℕ) (e : j ≡ n .ny - 1) where
-    abbrev all : ℕ
-    all = w * j
-
     size-of : w * j ≡ layerSize n
     size-of = ap (λ (h : ℕ). w * h) e
 
@@ -174,7 +171,3 @@ module _ (n : Size) (s : List ℕ) (cut : Cut) (k : ℕ) where
       omega (arith, r .v-is, most-v j hj),
       omega (arith, r .x-is, r .y-is, r .z-is, rows-le X j hj (omega arith), rows-le Y j hj (omega arith), rows-le Z j hj (omega arith), all-quads n s cut, most-quads loopsOf n s cut l),
     )
-
-    -- with the vertices of the layers below
-    pub number-few : {j : ℕ} → j < n .ny → layerFirst loopsOf n s cut k + length (rowsMasks loopsOf n s cut k j) ≤ 66325500
-    number-few {j} hj = most-v j hj

@@ -29,7 +29,8 @@ use Rattle.mesh.proofs.Regions.{first-more, second-more, third-more}
 use Rattle.mesh.proofs.Writings.{store-next}
 use Rattle.plane_layers.specs.declared.Layer.{Layer}
 use Rattle.plane_layers.specs.Memory.{SignedTo, halfOf, sampleIn, Shown, tableAt}
-use Rattle.plane_layers.specs.Layer.{rowsMasks, rowsWords, rowsOffsets, rowsX, rowsY, rowsZ, RowsMarked, RowsWritten, Known, LayerReady, SignsReady, LayerCounted, StepReady, RowTaken, LayerRoomy, KeptBehind, RowsDone, RowsState, LayerWritten}
+use Rattle.plane_layers.specs.Parts.{KeptBehind}
+use Rattle.plane_layers.specs.Layer.{rowsMasks, rowsWords, rowsOffsets, rowsX, rowsY, rowsZ, RowsMarked, RowsWritten, Known, LayerReady, SignsReady, LayerCounted, StepReady, RowTaken, LayerRoomy, RowsDone, RowsState, LayerWritten}
 use Rattle.plane_layers.proofs.Parts.{put-length, put-before, put-behind, put-in, part-at, part-long, numbered-as}
 use Rattle.plane_layers.proofs.Rows.{below-next, rows-first, rows-words-length, rows-offsets-length, marked-none, marked-more, marked-all-few}
 use Rattle.plane_layers.proofs.Shown.{made, made-shown}
@@ -81,9 +82,6 @@ module _ (n : Size) (s : List ℕ) (cut : Cut) (k : ℕ) where
 -- ---- the place of a row's numbers
 
 module _ (n : Size) (j : ℕ) where
-  pub next-table : tableAt n (j + 1) ≡ tableAt n j + 2 * n .nx
-  next-table = omega arith
-
   -- it is inside what is remembered
   pub table-in : j + 1 < n .ny → tableAt n j + 2 * n .nx ≤ 3 * planeSize n
   table-in h = omega (arith, mul-le-mul-left (n .nx) (next h))

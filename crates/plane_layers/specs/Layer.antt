@@ -1,9 +1,9 @@
 -- One layer of cubes between the plane that is remembered and the plane that is lent: what stands in the buffers after some of its rows, and what the
 -- passes over it promise. `n` is the size of a block, `s` are its samples, `k` is the number of the layer.
 -- Assumes nothing.
-use Prim.Native.Nat.{ℕ, _+_, _*_, _-_, _/_, _≤_, _<_}
+use Prim.Native.Nat.{ℕ, _+_, _*_, _-_, _≤_, _<_}
 use mathlib.Core.Path.{_≡_}
-use mathlib.Core.List.{List, _++_}
+use mathlib.Core.List.{List}
 use lib.ListN.{length, getD, drop}
 use lib.Seq.{sets}
 use lib.Ieee.{Float, nan}
@@ -19,7 +19,7 @@ use Rattle.block.specs.Numbering.{X, Y, Z}
 use Rattle.block.specs.Rows.{thresholdRow}
 use Rattle.block.specs.Size.{Limits}
 use Rattle.mesh_rule.specs.Mesh.{verticesBefore}
-use Rattle.mesh_rule.specs.Layers.{planeSize, layerSize, rowCube, runMasks, runWords, runOffsets, layerWords, layerCount, layerFirst, planeQuads}
+use Rattle.mesh_rule.specs.Layers.{planeSize, rowCube, runMasks, runWords, runOffsets, layerWords, layerOffsets, layerFirst, layerQuads}
 use Rattle.quads.specs.Writing.{RowTable, rowQuads}
 use Rattle.layers.specs.declared.Marks.{Marks}
 use Rattle.layers.specs.Steps.{half}
@@ -29,6 +29,7 @@ use Rattle.mesh.specs.Answer.{saidCounts, bufferRows}
 use Rattle.mesh.specs.Steps.{RowMoved}
 use Rattle.mesh.specs.Writes.{RowRoomy, TablesReady, RowMore}
 use Rattle.plane_layers.specs.declared.Layer.{Layer}
+use Rattle.plane_layers.specs.Parts.{layerTotals, KeptBehind}
 use Rattle.plane_layers.specs.Memory.{SignedTo, sampleIn, itemAt, Shown, tableAt, LayerTables}
 
 module _ (loopsOf : Cut → List ℕ → List ℕ) (n : Size) (s : List ℕ) (cut : Cut) (k : ℕ) where
@@ -63,16 +64,6 @@ module _ (loopsOf : Cut → List ℕ → List ℕ) (n : Size) (s : List ℕ) (cu
     pub words : w ≡ sets w₀ 0 (rowsWords j)
     pub offsets : o ≡ sets o₀ 0 (rowsOffsets j)
     pub quads : q ≡ sets (sets (sets q₀ 0 (rowsX j)) y₀ (rowsY j)) z₀ (rowsZ j)
-
-  -- what the layer has: how many vertices and quads, and the words of its quads, along x, y and z
-  abbrev pub layerQuads : List ℕ
-  layerQuads = planeQuads loopsOf n s cut X k ++ planeQuads loopsOf n s cut Y k ++ planeQuads loopsOf n s cut Z k
-
-  abbrev pub layerOffsets : List Float
-  layerOffsets = runOffsets loopsOf n s cut (layerSize n * k) (layerSize n)
-
-  abbrev pub layerTotals : Totals
-  layerTotals = record { vertices = layerCount loopsOf n s cut k; quads = length layerQuads / 4 }
 
   -- what was remembered of the layers below: how many vertices they have, and the numbers of the last one's
   pub record Known (first : ℕ) (work : List ℕ) : Type 0 where
@@ -131,17 +122,6 @@ pub record LayerRoomy (t : Marks) (w : List ℕ) (o : List Float) (q : List ℕ)
   pub words : 2 * t .v ≤ length w
   pub offsets : 3 * t .v ≤ length o
   pub quads : t .x + t .y + t .z ≤ length q
-
--- the buffers are as long as they were, and what stands behind 2 v words, 3 v offsets, the end of the quads and the end of what is remembered is kept
-pub record KeptBehind (v e f : ℕ) (w w′ : List ℕ) (o o′ : List Float) (q q′ work work′ : List ℕ) : Type 0 where
-  pub words-long : length w′ ≡ length w
-  pub offsets-long : length o′ ≡ length o
-  pub quads-long : length q′ ≡ length q
-  pub work-long : length work′ ≡ length work
-  pub words-behind : (i : ℕ) → 2 * v ≤ i → getD w′ i 0 ≡ getD w i 0
-  pub offsets-behind : (i : ℕ) → 3 * v ≤ i → getD o′ i nan ≡ getD o i nan
-  pub quads-behind : (i : ℕ) → e ≤ i → getD q′ i 0 ≡ getD q i 0
-  pub work-behind : (i : ℕ) → f ≤ i → getD work′ i 0 ≡ getD work i 0
 
 -- the rows before row j of a block's layer are written, and their numbers are remembered
 pub record RowsDone (loopsOf : Cut → List ℕ → List ℕ) (layer : Layer) (s : List ℕ) (y₀ z₀ : ℕ) (w₀ : List ℕ) (o₀ : List Float) (q₀ under tab work w : List ℕ) (o : List Float) (q : List ℕ) (j : ℕ) : Type 0 where
