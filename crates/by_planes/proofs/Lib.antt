@@ -2,3 +2,4 @@ pub mod Rows
 pub mod Lefts
 pub mod Calls
 pub mod Fixed
+pub mod Example
