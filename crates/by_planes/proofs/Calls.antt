@@ -86,9 +86,6 @@ module _ (st : Stream) (plane work w : List ℕ) (o : List Float) (q : List ℕ)
   -- ---- they pass
 
   module _ (ok : early ≡ Passes) (count : length plane ≡ st .nx * st .ny) (room : 6 * (st .nx * st .ny) ≤ length work) (inside : st .planes < st .nz) where
-    no-early : (x : Refusal) → early ≡ Refuses x → ⊥
-    no-early x e = passes-refuses (sym ok ∙ e)
-
     -- then rows 5 and 6 decide
     late-decides : (c : Totals) → takeVerdict st (length plane) (length work) c (length w) (length o) (length q) ≡ inOrder (bufferRows c (length w) (length o) (length q))
     late-decides c = orders-pass (callRows st (length plane) (length work)) _ ok
