@@ -1,31 +1,27 @@
 -- A plane that is taken: refused by a row that needs no count, the first of its block, or one that finishes a layer.
 -- Assumes nothing.
-use Prim.Native.Nat.{ℕ, suc, _+_, _*_, _-_, _/_, _%_, _≤_, _<_}
+use Prim.Native.Nat.{ℕ, suc, _+_, _*_, _-_, _≤_, _<_}
 use mathlib.Core.Path.{_≡_, refl, ap, ap₂, sym, _∙_, subst}
 use mathlib.Core.Logic.{_⊎_, inl, inr}
-use mathlib.Core.List.{List, [], _∷_, _++_}
-use native.Mathlib.Nat.{add-zero, mod-eq-of-lt, mul-assoc, mul-le-mul-left}
+use mathlib.Core.List.{List, []}
+use native.Mathlib.Nat.{add-zero, mod-eq-of-lt}
 use native.Mathlib.Numerals.{add-one}
 use native.Mathlib.Omega.{arith}
-use borrow.Author.Tests.{le-leb}
-use lib.Dec.{leb}
-use lib.Ieee.{Float, nan}
-use lib.ListN.{length, getD, take, drop, length-append, length-drop, List·getD-eq-default}
-use lib.Seq.{getD-take, getD-drop, length-take-le}
+use lib.Ieee.{Float}
+use lib.ListN.{length, getD, drop, length-append, List·getD-eq-default}
+use lib.Seq.{getD-take, getD-drop}
 use Rattle.laws.specs.Below.{over}
 use Rattle.laws.proofs.Over.{over-length}
 use Rattle.laws.proofs.Tests.{lt-or-ge}
 use Rattle.block.specs.declared.Checked.{Checked}
 use Rattle.block.specs.declared.Checked.the-variants.{Passes, Refuses}
-use Rattle.block.specs.declared.Cut.{Cut}
 use Rattle.block.specs.declared.Refusal.{Refusal}
 use Rattle.block.specs.declared.Size.{Size}
-use Rattle.block.specs.Answer.{accepted, refused, inOrder, judged, written}
+use Rattle.block.specs.Answer.{inOrder, written}
 use Rattle.block.specs.Grey.{SixteenBit}
-use Rattle.block.specs.Numbering.{Axis, X, Y, Z, sampleCount}
+use Rattle.block.specs.Numbering.{Axis, X, Y, Z}
 use Rattle.block.specs.Size.{Limits}
-use Rattle.block.proofs.Order.{orders-refuse, orders-pass, judged-refused, judged-passed, written-refused, written-passed, passes-refuses, refused-says, accepted-says}
-use Rattle.block.proofs.Rows.{unless-passes}
+use Rattle.block.proofs.Order.{orders-refuse, orders-pass, judged-refused, judged-passed, written-passed, passes-refuses, refused-says, accepted-says}
 use Rattle.cube_rule.specs.Decider.{joined, loopsOf}
 use Rattle.cube_rule.proofs.Laws.{cube-laws}
 use Rattle.mesh_rule.specs.Layers.{planeSize, layerSize, layerFirst, planeQuads}
@@ -36,11 +32,10 @@ use Rattle.mesh.specs.declared.Totals.{Totals}
 use Rattle.mesh.specs.Answer.{saidCounts, bufferRows}
 use Rattle.mesh.specs.Steps.{quadsUpTo}
 use Rattle.mesh.proofs.BufferRows.{roomy}
-use Rattle.mesh.proofs.Layers.{layer-first-next, layers-all}
+use Rattle.mesh.proofs.Layers.{layer-first-next}
 use Rattle.mesh.proofs.PlaneQuads.{planes-quads-next}
-use Rattle.mesh.proofs.Rows.{below-le, vertices-le}
+use Rattle.mesh.proofs.Rows.{vertices-le}
 use Rattle.mesh.proofs.Tallies.{all-quads}
-use Rattle.plane_layers.specs.declared.Layer.{Layer}
 use Rattle.plane_layers.specs.Memory.{sampleIn, packed, Shown, LayerTables}
 use Rattle.plane_layers.specs.Parts.{layerTotals, KeptBehind}
 use Rattle.plane_layers.specs.Layer.{LayerReady, Known, PartGrown, Grown}
@@ -48,7 +43,6 @@ use Rattle.plane_layers.proofs.Copies.{packed-fits, packed-sample, packed-behin
 use Rattle.plane_layers.proofs.Grown.{quads-length, quads-four}
 use Rattle.by_planes.specs.declared.Stream.{Stream}
 use Rattle.by_planes.specs.declared.Growth.{Growth}
-use Rattle.by_planes.specs.declared.Taken.{Taken}
 use Rattle.by_planes.specs.declared.Taken.the-variants as taken
 use Rattle.by_planes.specs.Answer.{sizeIn, planeOf, partWords, partOffsets, partQuads, partTotals, further, grownBy, callRows, takeVerdict, saidTaken}
 use Rattle.by_planes.specs.Left.{Left, PartTaken, PlaneTaken}
@@ -78,6 +72,7 @@ module _ (st : Stream) (plane work w : List ℕ) (o : List Float) (q : List ℕ)
       record {
         counted = nothing;
         answer = judged-refused _ _ x k;
+        first = λ z. refl;
         refusal-keeps = λ y f. (refl, refl, refl, refl);
         kept = λ g f. absurd (wrote-refused (sym f));
         part = λ s left more is. absurd (passes-refuses (sym (left-early left more plane is) ∙ e));
@@ -143,6 +138,7 @@ module _ (st : Stream) (plane work w : List ℕ) (o : List Float) (q : List ℕ)
           record {
             counted = nothing;
             answer = judged-passed _ (grownBy st nothing) _ k refl;
+            first = λ z. refl;
             refusal-keeps = λ x e. absurd (wrote-refused e);
             kept = λ g e. first-kept;
             part = λ s left more is. first-part k left is;
@@ -292,6 +288,7 @@ module _ (st : Stream) (plane work w : List ℕ) (o : List Float) (q : List ℕ)
           record {
             counted = grown .counted;
             answer = judged-refused _ _ x (decides ∙ v);
+            first = λ z. absurd (omega arith);
             refusal-keeps = λ y f. grown .refusal-keeps x v;
             kept = λ g f. absurd (wrote-refused (sym f));
             part = λ s left more is. further-part left is (λ p. absurd (passes-refuses (sym p ∙ decides ∙ v)));
@@ -304,6 +301,7 @@ module _ (st : Stream) (plane work w : List ℕ) (o : List Float) (q : List ℕ)
           record {
             counted = grown .counted;
             answer = judged-passed _ (grownBy st c) _ (decides ∙ a .0) (ap (grownBy st) (a .1));
+            first = λ z. absurd (omega arith);
             refusal-keeps = λ x f. absurd (wrote-refused f);
             kept = λ g f. deeper (grown .kept (a .0));
             part = λ s left more is. further-part left is (λ p. grown .kept (a .0) .work-long);

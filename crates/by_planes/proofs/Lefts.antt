@@ -1,12 +1,14 @@
 -- A state and a work buffer as last left: they pass the rows that need no count, their numbers are small, and a start leaves the first.
+-- What a call promises of a state it promises of an equal one.
 -- Assumes nothing.
-use Prim.Native.Nat.{ℕ, zero, suc, _+_, _*_, _-_, _≤_, _<_}
-use mathlib.Core.Path.{_≡_, refl, ap, ap₂, sym, _∙_, subst}
+use Prim.Native.Nat.{ℕ, _+_, _*_, _-_, _≤_, _<_}
+use mathlib.Core.Path.{_≡_, ap, sym, _∙_, subst}
 use mathlib.Core.List.{List, []}
 use native.Mathlib.Nat.{mul-zero, mul-assoc, mul-le-mul-left}
 use native.Mathlib.Omega.{arith}
 use borrow.Author.Tests.{le-leb, leb-true}
 use lib.Dec.{leb}
+use lib.Ieee.{Float}
 use lib.ListN.{length, drop, length-drop}
 use lib.Seq.{length-take-le}
 use Rattle.laws.specs.Below.{below}
@@ -23,15 +25,16 @@ use Rattle.block.proofs.Rows.{unless-passes, unless-none}
 use Rattle.block.proofs.Sizes.{axes-within}
 use Rattle.cube_rule.specs.Decider.{joined, loopsOf}
 use Rattle.cube_rule.proofs.Laws.{cube-laws}
-use Rattle.mesh_rule.specs.Layers.{planeSize, layerSize, layerFirst}
+use Rattle.mesh_rule.specs.Layers.{planeSize, layerSize}
 use Rattle.mesh_rule.specs.Mesh.{verticesBefore}
 use Rattle.mesh_rule.proofs.Counts.{most-vertices, most-quads}
 use Rattle.mesh.specs.Steps.{quadsUpTo}
 use Rattle.mesh.proofs.Rows.{below-le, vertices-le}
 use Rattle.mesh.proofs.Tallies.{all-quads}
 use Rattle.by_planes.specs.declared.Stream.{Stream}
+use Rattle.by_planes.specs.declared.Taken.{Taken}
 use Rattle.by_planes.specs.Answer.{sizeIn, planeOf, begun, workRow, startRows, callRows}
-use Rattle.by_planes.specs.Left.{Left}
+use Rattle.by_planes.specs.Left.{Left, PlaneTaken}
 use Rattle.by_planes.proofs.Rows.{call-axes, call-room}
 
 -- some layers are some of the cubes, and some planes some of the samples
@@ -105,3 +108,8 @@ begun-left nx ny nz cut s work e count grey =
       plane = λ h. absurd (omega arith);
       tables = λ h. absurd (omega arith);
     }
+
+-- ---- a state, told in another way
+
+pub taken-as : {st st′ : Stream} {plane work w : List ℕ} {o : List Float} {q : List ℕ} {r : Taken} {work′ w′ : List ℕ} {o′ : List Float} {q′ : List ℕ} → st ≡ st′ → PlaneTaken st plane work w o q r work′ w′ o′ q′ → PlaneTaken st′ plane work w o q r work′ w′ o′ q′
+taken-as {st} {st′} {plane} {work} {w} {o} {q} {r} {work′} {w′} {o′} {q′} e h = subst (λ (x : Stream). PlaneTaken x plane work w o q r work′ w′ o′ q′) e h

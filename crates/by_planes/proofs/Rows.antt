@@ -1,6 +1,6 @@
 -- The rows of a start, of a plane and of an end, one after the other, as the code tries them.
 -- Assumes nothing.
-use Prim.Native.Nat.{ℕ, _+_, _*_, _≤_, _<_}
+use Prim.Native.Nat.{ℕ, _*_, _≤_, _<_}
 use mathlib.Core.Path.{_≡_, refl, ap, ap₂, sym, _∙_}
 use mathlib.Core.Bool.{Bool, cond}
 use mathlib.Core.List.{List, [], _∷_}
@@ -10,10 +10,9 @@ use borrow.Author.Tests.{ltb-true, leb-true, eqb-true, lt-ltb, le-ltb, le-leb, l
 use lib.Dec.{leb, ltb, eqb}
 use Rattle.block.specs.declared.Checked.{Checked}
 use Rattle.block.specs.declared.Checked.the-variants.{Passes, Refuses}
-use Rattle.block.specs.declared.Cut.{Cut}
 use Rattle.block.specs.declared.Refusal.{Refusal}
 use Rattle.block.specs.declared.Size.{Size}
-use Rattle.block.specs.Answer.{accepted, refused, refuses, inOrder, judged}
+use Rattle.block.specs.Answer.{refuses, inOrder, judged}
 use Rattle.block.specs.Rows.{axisRow, thresholdRow, roomRow}
 use Rattle.block.specs.Size.{Limits}
 use Rattle.block.proofs.Order.{order-refuses, order-passes, order-last, order-first, order-rest, judged-refused, judged-passed}
@@ -21,7 +20,6 @@ use Rattle.block.proofs.Rows.{given-small, unless-none, unless-passes, unless-r
 use Rattle.block.proofs.Sizes.{within-axes}
 use Rattle.mesh.specs.declared.Counted.the-variants as counted
 use Rattle.mesh.specs.declared.Totals.{Totals}
-use Rattle.mesh.specs.Answer.{saidCounts}
 use Rattle.by_planes.specs.declared.Stream.{Stream}
 use Rattle.by_planes.specs.declared.Started.the-variants as started
 use Rattle.by_planes.specs.Answer.{sizeIn, workRow, pastRow, planeRow, callRows, endRow, saidStart, FinishAnswered}

@@ -6,13 +6,12 @@ use mathlib.Core.Bool.{cond}
 use mathlib.Core.List.{List, [], _∷_, _++_}
 use lib.Dec.{ltb, eqb}
 use lib.Ieee.{Float}
-use lib.ListN.{length, take, drop}
+use lib.ListN.{take, drop}
 use Rattle.block.specs.declared.Checked.{Checked}
 use Rattle.block.specs.declared.Checked.the-variants.{Passes}
 use Rattle.block.specs.declared.Cut.{Cut}
 use Rattle.block.specs.declared.Size.{Size}
 use Rattle.block.specs.Answer.{Answer, accepted, refused, refuses, inOrder, judged}
-use Rattle.block.specs.Numbering.{X, Y, Z}
 use Rattle.block.specs.Rows.{axisRow, thresholdRow, roomRow}
 use Rattle.block.specs.Size.{sizeOf}
 use Rattle.cube_rule.specs.Decider.{loopsOf}

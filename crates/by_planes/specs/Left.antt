@@ -11,7 +11,6 @@ use Rattle.block.specs.Answer.{accepted, refused, judged, written}
 use Rattle.block.specs.Grey.{SixteenBit}
 use Rattle.block.specs.Numbering.{X, Y, Z}
 use Rattle.block.specs.Rows.{thresholdRow}
-use Rattle.block.specs.Size.{Limits}
 use Rattle.block.specs.Steps.{Sampled}
 use Rattle.cube_rule.specs.Decider.{loopsOf}
 use Rattle.mesh_rule.specs.Layers.{planeSize, layerFirst}
@@ -48,12 +47,13 @@ pub record PartTaken (k : Checked) (s : List ℕ) (st : Stream) (c : Totals) (w 
   pub uncut : grownBy st c ≡ record { stream = further st c; counts = c }
   pub left : k ≡ Passes → Left s (further st c) work′
 
--- The promise of `take`. With any state and any work buffer the rows decide, by what the call counts; a refusal keeps every buffer; and what is written
--- keeps to its room. "The mesh is promised if it and the state come back as last left": where they are, the call counts and writes the next part of the
+-- The promise of `take`. With any state and any work buffer the rows decide, by what the call counts; the first plane writes nothing; a refusal keeps every
+-- buffer; and what is written keeps to its room. "The mesh is promised if it and the state come back as last left": where they are, the call counts and writes the next part of the
 -- mesh of every block that has the planes taken so far and this one.
 pub record PlaneTaken (st : Stream) (plane work w : List ℕ) (o : List Float) (q : List ℕ) (r : Taken) (work′ w′ : List ℕ) (o′ : List Float) (q′ : List ℕ) : Type 0 where
   pub counted : Totals
   pub answer : saidTaken r ≡ judged (takeVerdict st (length plane) (length work) counted (length w) (length o) (length q)) (grownBy st counted)
+  pub first : st .planes ≡ 0 → counted ≡ record { vertices = 0; quads = 0 }
   pub refusal-keeps : (x : Refusal) → saidTaken r ≡ refused x → (work′ ≡ work) × (w′ ≡ w) × (o′ ≡ o) × (q′ ≡ q)
   pub kept : (g : Growth) → saidTaken r ≡ accepted g → KeptBehind (counted .vertices) (4 * counted .quads) (6 * (st .nx * st .ny)) w w′ o o′ q q′ work work′
   pub part : (s : List ℕ) → Left s st work → st .planes < st .nz → plane ≡ planeOf (sizeIn st) s (st .planes)

@@ -1,6 +1,6 @@
 -- A mesh plane by plane (document 02, Nine): what a start, a plane and an end refuse and accept, that a refused plane changes nothing, and which numbers they
 -- give. A state that a start gave, or a plane after it, never meets rows 1 and 3.
-use Prim.Native.Nat.{ℕ, _+_, _*_, _≤_, _<_}
+use Prim.Native.Nat.{ℕ, _*_, _≤_, _<_}
 use mathlib.Core.Path.{_≡_, refl, ap, sym, _∙_, subst}
 use mathlib.Core.Logic.{_↔_, _⊎_, inl, inr}
 use mathlib.Core.List.{List, [], _∷_, _++_}
@@ -11,13 +11,14 @@ use lib.Ieee.{Float}
 use lib.ListN.{length}
 use lib.Seq.{take-all}
 use Rattle.laws.specs.Below.{over}
+use Rattle.block.specs.declared.Checked.{Checked}
 use Rattle.block.specs.declared.Checked.the-variants.{Passes, Refuses}
 use Rattle.block.specs.declared.Cut.{Cut}
 use Rattle.block.specs.declared.Refusal.{Refusal}
 use Rattle.block.specs.Answer.{Answer, accepted, refused, inOrder, First, judged}
 use Rattle.block.specs.Grey.{cutOf}
 use Rattle.block.specs.Rows.{axisRow, thresholdRow}
-use Rattle.block.proofs.Order.{accepted-exactly, refused-exactly, first-has}
+use Rattle.block.proofs.Order.{orders-refuse, judged-refused, accepted-exactly, refused-exactly, first-has}
 use Rattle.block.proofs.Sizes.{within-axes}
 use Rattle.block.proofs.Rows.{holds-where}
 use Rattle.mesh.specs.declared.Counted.{Counted}
@@ -29,8 +30,9 @@ use Rattle.by_planes.specs.declared.Growth.{Growth}
 use Rattle.by_planes.specs.declared.Started.{Started}
 use Rattle.by_planes.specs.declared.Started.the-variants as started
 use Rattle.by_planes.specs.declared.Taken.{Taken}
-use Rattle.by_planes.specs.Answer.{sizeIn, planeOf, partTotals, begun, further, grownBy, startRows, callRows, takeVerdict, endRow, saidStart, saidTaken, StartAnswered, FinishAnswered}
+use Rattle.by_planes.specs.Answer.{sizeIn, planeOf, partTotals, begun, further, startRows, callRows, takeVerdict, endRow, saidStart, saidTaken, StartAnswered, FinishAnswered}
 use Rattle.by_planes.specs.Left.{Left, PlaneTaken}
+use Rattle.by_planes.proofs.Rows.{call-axes, passed}
 use Rattle.parsniprow_c.specs.Told.{tellOver, stateAfter, StartTold, EndTold}
 use Rattle.told.specs.Numbers.{toldNothing, stateNumbers, stateOf}
 use Rattle.demands.proofs.Numbers.{unless-number, axis-number, threshold-number, vertex-number, quad-number}
@@ -118,23 +120,33 @@ module _ {st : Stream} {plane work w : List ℕ} {o : List Float} {q : List ℕ}
   pub plane-keeps : (x : Refusal) → saidTaken r ≡ refused x → (work′ ≡ work) × (w′ ≡ w) × (o′ ≡ o) × (q′ ≡ q)
   plane-keeps = promise .refusal-keeps
 
-  -- a state and a work buffer as last left: 17, 2, 15, 5, 6 with what this call needs
-  module _ {s : List ℕ} (left : Left s st work) (more : st .planes < st .nz) (is : plane ≡ planeOf (sizeIn st) s (st .planes)) where
+  -- a state and a work buffer as last left, and any plane, which is the block's next one if it has its length: 17, 2, 15, 5, 6 with what this call needs
+  module _ {s : List ℕ} (left : Left s st work) (is : st .planes < st .nz → length plane ≡ st .nx * st .ny → plane ≡ planeOf (sizeIn st) s (st .planes)) where
     abbrev needed : Totals
     needed = partTotals (sizeIn st) s (st .cut) (st .planes)
 
-    needs : promise .counted ≡ needed
-    needs = promise .part s left more is .counts-are
+    abbrev verdict : Totals → Checked
+    verdict c = takeVerdict st (length plane) (length work) c (length w) (length o) (length q)
+
+    abbrev growth : Totals → Growth
+    growth c = record { stream = further st c; counts = c }
+
+    -- where a row refuses that needs no count, it does not matter what the call needs
+    needs : (e : Checked) → inOrder (callRows st (length plane) (length work)) ≡ e → saidTaken r ≡ judged (verdict needed) (growth needed)
+    needs (Refuses x) e = promise .answer ∙ sym (judged-refused _ _ x (early (promise .counted))) ∙ judged-refused _ _ x (early needed)
+      where
+        early : (c : Totals) → verdict c ≡ Refuses x
+        early c = orders-refuse (callRows st (length plane) (length work)) _ x e
+    needs Passes e =
+        let p = passed st (length plane) (length work) (sym (call-axes st (length plane) (length work) (left .block .limits)) ∙ e) in
+        let t = promise .part s left (p .1) (is (p .1) (p .2)) in
+        subst (λ (c : Totals). saidTaken r ≡ judged (verdict c) (growth c)) (t .counts-are) (promise .answer ∙ ap (judged (verdict (promise .counted))) (t .uncut))
 
     pub plane-refuses : (x : Refusal) → (saidTaken r ≡ refused x) ↔ First (callRows st (length plane) (length work) ++ bufferRows needed (length w) (length o) (length q)) x
-    plane-refuses =
-        refuses-by _ _ _ (subst (λ (c : Totals). saidTaken r ≡ judged (takeVerdict st (length plane) (length work) c (length w) (length o) (length q)) (grownBy st c)) needs (promise .answer))
+    plane-refuses = refuses-by _ _ _ (needs _ refl)
 
-    pub plane-accepts : (g : Growth) → (saidTaken r ≡ accepted g) ↔ ((takeVerdict st (length plane) (length work) needed (length w) (length o) (length q) ≡ Passes) × (g ≡ record { stream = further st needed; counts = needed }))
-    plane-accepts =
-        accepted-exactly _ _ _
-        (subst (λ (c : Totals). saidTaken r ≡ judged (takeVerdict st (length plane) (length work) c (length w) (length o) (length q)) (record { stream = further st c; counts = c })) needs
-        (promise .answer ∙ ap (judged (takeVerdict st (length plane) (length work) (promise .counted) (length w) (length o) (length q))) (promise .part s left more is .uncut)))
+    pub plane-accepts : (g : Growth) → (saidTaken r ≡ accepted g) ↔ ((verdict needed ≡ Passes) × (g ≡ growth needed))
+    plane-accepts = accepted-exactly _ _ _ (needs _ refl)
 
 -- a state that was started never meets rows 1 and 3
 pub begun-passes : {s : List ℕ} {st : Stream} {work : List ℕ} → Left s st work → (axisRow (st .nx) (st .ny) (st .nz) ≡ Passes) × (thresholdRow (st .cut) ≡ Passes)

@@ -1,11 +1,10 @@
 -- A run over the planes of a block: each call writes exactly its part of the mesh of the whole block, all parts one behind the other are the mesh, the quads
 -- put back into 01's order are 01's, and an end gives the counts. So demand 3 holds of what two runs wrote.
-use Prim.Native.Nat.{ℕ, zero, suc, _+_, _*_, _-_, _/_, _≤_, _<_}
+use Prim.Native.Nat.{ℕ, zero, suc, _+_, _*_, _-_, _≤_, _<_}
 use mathlib.Core.Path.{_≡_, refl, ap, ap₂, sym, _∙_, subst}
 use mathlib.Core.Bool.{Bool, cond}
 use mathlib.Core.Logic.{_⊎_, inl, inr}
-use mathlib.Core.List.{List, [], _∷_, _++_, append-nil}
-use native.Mathlib.Nat.{add-zero, mul-assoc}
+use mathlib.Core.List.{List, [], _∷_, _++_}
 use native.Mathlib.Numerals.{add-one}
 use native.Mathlib.Omega.{arith}
 use borrow.Author.Tests.{le-ltb}
@@ -19,22 +18,17 @@ use Rattle.block.specs.declared.Checked.{Checked}
 use Rattle.block.specs.declared.Checked.the-variants.{Passes}
 use Rattle.block.specs.declared.Cut.{Cut}
 use Rattle.block.specs.declared.Size.{Size}
-use Rattle.block.specs.Answer.{accepted, refuses, inOrder, judged}
-use Rattle.block.specs.Grey.{SixteenBit}
+use Rattle.block.specs.Answer.{accepted, refused, refuses, inOrder}
 use Rattle.block.specs.Numbering.{Axis, X, Y, Z, sampleCount, cubeCount, atSample}
-use Rattle.block.specs.Rows.{axisRow, thresholdRow}
-use Rattle.block.specs.Size.{sizeOf, Limits}
-use Rattle.block.proofs.Order.{accepted-says, written-passed, order-first, order-rest, judged-passed, order-last}
-use Rattle.block.proofs.Rows.{unless-none}
-use Rattle.block.proofs.Sizes.{axes-within}
+use Rattle.block.specs.Size.{sizeOf}
+use Rattle.block.proofs.Order.{accepted-says, written-passed, judged-passed, order-last}
 use Rattle.cube_rule.specs.Decider.{joined, loopsOf}
 use Rattle.cube_rule.proofs.Laws.{cube-laws}
-use Rattle.mesh_rule.specs.Buffers.{meshWords, meshOffsets, meshQuads}
+use Rattle.mesh_rule.specs.Buffers.{meshWords, meshOffsets}
 use Rattle.mesh_rule.specs.Grid.{metal, OffEdges, AtLeastThree}
 use Rattle.mesh_rule.specs.Layers.{planeSize, layerSize, layerWords, layerOffsets, cubeWords, cubeOffsets, planeQuads}
 use Rattle.mesh_rule.specs.Mesh.{Vertex, Quad, flat, vertices, verticesBefore, quadAt, quadsBefore, quads}
 use Rattle.mesh_rule.specs.Reading.{inFours, telling, putBack}
-use Rattle.mesh_rule.proofs.Counts.{most-vertices, most-quads}
 use Rattle.mesh_rule.proofs.PutBack.{fours-flat, planeList, callList, calls-back}
 use Rattle.mesh_rule.proofs.Quads.{flat-injective}
 use Rattle.mesh_rule.proofs.Reading.{cubes}
@@ -43,7 +37,6 @@ use Rattle.mesh_rule.proofs.Words.{words-by-cube, offsets-by-cube, words-at}
 use Rattle.mesh.specs.declared.Counted.{Counted}
 use Rattle.mesh.specs.declared.Totals.{Totals}
 use Rattle.mesh.specs.Answer.{vertexCount, quadCount, countsOf, saidCounts}
-use Rattle.mesh.specs.Steps.{quadsUpTo}
 use Rattle.mesh.proofs.Layers.{layers-all, words-length}
 use Rattle.mesh.proofs.PlaneQuads.{flat-append, flat-below, quads-flat, planes-quads-all}
 use Rattle.mesh.proofs.Tallies.{all-quads, vertices-are}
@@ -51,9 +44,12 @@ use Rattle.plane_layers.proofs.Grown.{quads-four}
 use Rattle.plane_layers.proofs.Rows.{run-words-length, run-offsets-length}
 use Rattle.by_planes.specs.declared.Stream.{Stream}
 use Rattle.by_planes.specs.declared.Growth.{Growth}
-use Rattle.by_planes.specs.Answer.{planeOf, partWords, partOffsets, partQuads, partTotals, begun, further, workRow, startRows, endRow, takeVerdict, FinishAnswered}
+use Rattle.by_planes.specs.declared.Taken.{Taken}
+use Rattle.by_planes.specs.Answer.{planeOf, partWords, partOffsets, partQuads, partTotals, begun, further, endRow, takeVerdict, saidTaken, FinishAnswered}
 use Rattle.by_planes.specs.Left.{Left, PartTaken, PlaneTaken}
-use Rattle.by_planes.proofs.Lefts.{begun-left, left-few}
+use Rattle.by_planes.proofs.Fixed.{plane-early-fixed}
+use Rattle.by_planes.proofs.Lefts.{begun-left, left-few, taken-as}
+use Rattle.by_planes.proofs.Rows.{call-axes, call-past, end-early}
 use Rattle.demands.specs.Runs.{PlaneRun, allWords, allOffsets, allQuads, cubeIn, quadsBack}
 
 -- ---- the parts of a mesh, one behind the other
@@ -122,7 +118,7 @@ module _ {nx ny nz : ℕ} {s : List ℕ} {cut : Cut} {m : ℕ} (r : PlaneRun nx 
   -- a call from there
   module _ (k : ℕ) (h : k < m) (at : At k) where
     taken : PlaneTaken (standing k) (planeOf n s k) (r .work k) (r .words k) (r .offsets k) (r .quads k) (r .answer k) (r .work (suc k)) (r .words-after k) (r .offsets-after k) (r .quads-after k)
-    taken = subst (λ (st : Stream). PlaneTaken st (planeOf n s k) (r .work k) (r .words k) (r .offsets k) (r .quads k) (r .answer k) (r .work (suc k)) (r .words-after k) (r .offsets-after k) (r .quads-after k)) (at .is) (r .promise k h)
+    taken = taken-as (at .is) (r .promise k h)
 
     abbrev verdict : Checked
     verdict = takeVerdict (standing k) (length (planeOf n s k)) (length (r .work k)) (taken .counted) (length (r .words k)) (length (r .offsets k)) (length (r .quads k))
@@ -160,6 +156,16 @@ module _ {nx ny nz : ℕ} {s : List ℕ} {cut : Cut} {m : ℕ} (r : PlaneRun nx 
   pub planes-left : (k : ℕ) → k ≤ m → Left s (r .state k) (r .work k)
   planes-left k h = subst (λ (st : Stream). Left s st (r .work k)) (sym (at k h .is)) (at k h .left)
 
+  -- so many planes were taken, of the block that was started
+  pub planes-taken : (k : ℕ) → k ≤ m → (r .state k .planes ≡ k) × (r .state k .nz ≡ nz)
+  planes-taken k h = (ap (λ (st : Stream). st .planes) (at k h .is), ap (λ (st : Stream). st .nz) (at k h .is))
+
+  -- an end before nz planes is refused with 18 and the planes taken
+  pub planes-end-early : (k : ℕ) → k ≤ m → k < nz → (c : Counted) → FinishAnswered (r .state k) c → saidCounts c ≡ refused (record { number = 18; value = k })
+  planes-end-early k h l c f =
+      subst (λ (st : Stream). FinishAnswered st c) (at k h .is) f
+      ∙ sym (end-early (standing k) (omega (arith, at k h .left .block .limits .z-high)) l)
+
   -- in a run nothing wraps
   pub planes-few : (k : ℕ) → k ≤ m → (r .state k .vertices ≤ 66325500) × (r .state k .quads ≤ 49354740)
   planes-few k h = left-few (planes-left k h)
@@ -171,6 +177,15 @@ module _ {nx ny nz : ℕ} {s : List ℕ} {cut : Cut} {m : ℕ} (r : PlaneRun nx 
 
     pub planes-counts : r .counts k ≡ partTotals n s cut k
     planes-counts = counts-at k h here
+
+    -- no sum is cut
+    pub planes-uncut : (r .state (suc k) .vertices ≡ r .state k .vertices + r .counts k .vertices) × (r .state (suc k) .quads ≡ r .state k .quads + r .counts k .quads)
+    planes-uncut =
+        let b = at k (omega arith) .is in
+        let a = at (suc k) (omega arith) .is in (
+          ap (λ (st : Stream). st .vertices) a ∙ sym (ap₂ (λ (st : Stream) (c : Totals). st .vertices + c .vertices) b planes-counts),
+          ap (λ (st : Stream). st .quads) a ∙ sym (ap₂ (λ (st : Stream) (c : Totals). st .quads + c .quads) b planes-counts),
+        )
 
     pub planes-words : r .words-after k ≡ over (partWords n s cut k) (r .words k)
     planes-words = part k h here .words ∙ written-passed _ _ (r .words k) (gave k h here .0)
@@ -184,6 +199,10 @@ module _ {nx ny nz : ℕ} {s : List ℕ} {cut : Cut} {m : ℕ} (r : PlaneRun nx 
     -- so a form that holds all back falls: a call that has a vertex to write, and whose buffer does not hold it yet, does not leave the buffer
     pub held-back-falls : 0 < length (partWords n s cut k) → (getD (r .words k) 0 0 ≡ getD (partWords n s cut k) 0 0 → ⊥) → r .words-after k ≡ r .words k → ⊥
     held-back-falls some other kept = other (ap (λ (l : List ℕ). getD l 0 0) (sym kept ∙ planes-words) ∙ over-front (partWords n s cut k) (r .words k) 0 0 some)
+
+    -- nor one that tells of no vertex there
+    pub held-back-tells : 0 < length (partWords n s cut k) → r .counts k .vertices ≡ 0 → ⊥
+    held-back-tells some none = omega (arith, some, none, part-words-length n s cut k, ap (λ (c : Totals). c .vertices) planes-counts)
 
     words-front : take (2 * r .counts k .vertices) (r .words-after k) ≡ partWords n s cut k
     words-front = ap (take (2 * r .counts k .vertices)) planes-words ∙ over-take (partWords n s cut k) (r .words k) (2 * r .counts k .vertices) (part-words-length n s cut k ∙ ap (λ (c : Totals). 2 * c .vertices) (sym planes-counts))
@@ -269,6 +288,16 @@ module _ {nx ny nz : ℕ} {s : List ℕ} {cut : Cut} (r : PlaneRun nx ny nz s cu
     where
       three : {x x′ y y′ z z′ : List Quad} → x ≡ x′ → y ≡ y′ → z ≡ z′ → x ++ y ++ z ≡ x′ ++ y′ ++ z′
       three p q r = cc
+
+  -- a plane past nz is refused with 17 and nz, whatever is lent
+  pub planes-past : {plane work w : List ℕ} {o : List Float} {q : List ℕ} {a : Taken} {work′ w′ : List ℕ} {o′ : List Float} {q′ : List ℕ} → PlaneTaken (r .state nz) plane work w o q a work′ w′ o′ q′
+      → saidTaken a ≡ refused (record { number = 17; value = nz })
+  planes-past {plane} {work} {w} {o} {q} {a} promise =
+      ap saidTaken (plane-early-fixed (taken-as (at r nz (omega arith) .is) promise) (record { number = 17; value = nz })
+      (call-axes (standing r nz) (length plane) (length work) (l .block .limits) ∙ sym (call-past (standing r nz) (length plane) (length work) (l .threshold) (omega (arith, l .block .limits .z-high)) (omega arith))) .0)
+    where
+      l : Left s (standing r nz) (r .work nz)
+      l = at r nz (omega arith) .left
 
   -- an end gives the counts of the block
   pub planes-totals : (c : Counted) → FinishAnswered (r .state nz) c → saidCounts c ≡ accepted (countsOf size s cut)

@@ -1,14 +1,13 @@
 -- A run over the planes of a block (document 02, Nine): one start, and a call for each of the first planes by rising z. Each call is one that its promise
 -- allows and that is no refusal; it gets the state and the work buffer as the last call left them, and any three buffers to write to. A refused call
 -- changes nothing, so a run with refused calls between is this run without them.
-use Prim.Native.Nat.{ℕ, suc, _+_, _*_, _≤_, _<_}
+use Prim.Native.Nat.{ℕ, suc, _*_, _≤_, _<_}
 use mathlib.Core.Path.{_≡_}
 use mathlib.Core.List.{List}
 use lib.Ieee.{Float}
 use lib.ListN.{length, getD, take}
 use Rattle.laws.specs.Below.{below}
 use Rattle.block.specs.declared.Cut.{Cut}
-use Rattle.block.specs.declared.Size.{Size}
 use Rattle.block.specs.Answer.{accepted}
 use Rattle.block.specs.Grey.{SixteenBit}
 use Rattle.block.specs.Numbering.{sampleCount}

@@ -1,5 +1,5 @@
 -- The promise of `keep_plane` fixes the buffer at exit. That of `grow` fixes the answer and the three buffers, for a block whose planes are at hand and whose
--- last layer is remembered; a refusal keeps the work buffer, too.
+-- last layer is remembered.
 -- Assumes nothing.
 use Prim.Native.Nat.{ℕ}
 use mathlib.Core.Path.{_≡_, sym, ap, _∙_}

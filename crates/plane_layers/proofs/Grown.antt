@@ -3,11 +3,10 @@
 use Prim.Native.Nat.{ℕ, _+_, _*_, _-_, _/_, _≤_, _<_}
 use mathlib.Core.Path.{_≡_, refl, ap, ap₂, sym, _∙_, subst}
 use mathlib.Core.List.{List, _++_}
-use native.Mathlib.Nat.{mul-le-mul-left}
 use native.Mathlib.Omega.{arith}
 use lib.ListN.{length, getD, drop, length-append}
 use lib.Seq.{sets, getD-drop}
-use lib.Ieee.{Float, nan}
+use lib.Ieee.{Float}
 use Rattle.laws.specs.Below.{over}
 use Rattle.laws.proofs.Over.{over-length}
 use Rattle.laws.proofs.Stores.{sets-over}
@@ -24,18 +23,17 @@ use Rattle.mesh_rule.specs.Mesh.{quadsBefore}
 use Rattle.mesh_rule.specs.Layers.{planeSize, layerWords, layerOffsets, layerCount, planeQuads, layerQuads}
 use Rattle.mesh_rule.proofs.Quads.{flat-length}
 use Rattle.layers.specs.declared.Marks.{Marks}
-use Rattle.mesh.specs.declared.Counted.{Counted}
 use Rattle.mesh.specs.declared.Counted.the-variants as counted
 use Rattle.mesh.specs.declared.Totals.{Totals}
-use Rattle.mesh.specs.Answer.{saidCounts, bufferRows}
+use Rattle.mesh.specs.Answer.{bufferRows}
 use Rattle.mesh.specs.Steps.{totalsOf, quadsUpTo, Few}
 use Rattle.mesh.proofs.BufferRows.{buffers-pass}
 use Rattle.mesh.proofs.PlaneQuads.{quads-flat, planes-quads-next}
 use Rattle.mesh.proofs.Regions.{all-full}
 use Rattle.plane_layers.specs.declared.Layer.{Layer}
-use Rattle.plane_layers.specs.Memory.{SignedTo, sampleIn, itemAt, packed, Shown, tableAt, LayerTables}
-use Rattle.plane_layers.specs.Parts.{layerTotals, KeptBehind}
-use Rattle.plane_layers.specs.Layer.{rowsX, rowsY, rowsZ, RowsMarked, RowsWritten, Known, LayerReady, SignsReady, LayerCounted, LayerRoomy, LayerWritten, PartGrown, Grown}
+use Rattle.plane_layers.specs.Memory.{SignedTo, sampleIn, itemAt, packed, tableAt}
+use Rattle.plane_layers.specs.Parts.{layerTotals}
+use Rattle.plane_layers.specs.Layer.{RowsMarked, RowsWritten, LayerReady, SignsReady, LayerCounted, LayerRoomy, LayerWritten, Grown}
 use Rattle.plane_layers.proofs.Copies.{packed-fits, packed-sample, packed-behind}
 use Rattle.plane_layers.proofs.Parts.{numbered-as}
 use Rattle.plane_layers.proofs.Rows.{layer-masks, layer-words, layer-offsets, plane-quads, rows-words-length, rows-offsets-length, marked-all-few}

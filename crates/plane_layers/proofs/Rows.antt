@@ -1,19 +1,18 @@
 -- The rows of one layer, one behind the other: how many they are, that they are some of the block's, and that all of them are the layer.
 -- Assumes nothing.
-use Prim.Native.Nat.{ℕ, zero, suc, _+_, _*_, _-_, _/_, _≤_, _<_}
-use mathlib.Core.Path.{_≡_, refl, ap, ap₂, sym, _∙_, subst}
+use Prim.Native.Nat.{ℕ, zero, suc, _+_, _*_, _-_, _≤_, _<_}
+use mathlib.Core.Path.{_≡_, refl, ap, sym, _∙_}
 use mathlib.Core.List.{List, [], _++_, append-nil, append-assoc}
 use native.Mathlib.Nat.{add-zero, mul-add, mul-assoc, mul-le-mul-left}
 use native.Mathlib.Numerals.{add-one}
 use native.Mathlib.Omega.{arith}
 use lib.ListN.{length, drop, length-append}
 use lib.Seq.{drop-append-seam}
-use lib.Ieee.{Float}
 use Rattle.laws.specs.Below.{below}
 use Rattle.laws.proofs.Below.{below-mul, below-same}
 use Rattle.block.specs.declared.Cut.{Cut}
 use Rattle.block.specs.declared.Size.{Size}
-use Rattle.block.specs.Numbering.{Axis, X, Y, Z, sampleCount, cubeCount}
+use Rattle.block.specs.Numbering.{Axis, X, Y, Z, sampleCount}
 use Rattle.block.specs.Size.{Limits}
 use Rattle.cube_rule.specs.Decider.{joined, loopsOf}
 use Rattle.cube_rule.proofs.Laws.{cube-laws}
@@ -24,13 +23,12 @@ use Rattle.quads.specs.Writing.{rowQuads}
 use Rattle.quads.proofs.Numbers.{number-run}
 use Rattle.layers.specs.declared.Marks.{Marks}
 use Rattle.layers.specs.Steps.{RowFew}
-use Rattle.mesh.specs.Answer.{vertexCount, quadCount}
 use Rattle.mesh.specs.Steps.{quadsUpTo, Few, RowMoved}
 use Rattle.mesh.proofs.PlaneQuads.{planes-quads-next}
 use Rattle.mesh.proofs.Layers.{length-scaled, words-of-cube, offsets-of-cube}
-use Rattle.mesh.proofs.Rows.{below-le, cube-in, next-cube, row-next, row-last, quads-room, vertices-le}
-use Rattle.mesh.proofs.Tallies.{all-quads, counting-few}
-use Rattle.plane_layers.specs.Layer.{rowsMasks, rowsWords, rowsOffsets, rowsX, rowsY, rowsZ, RowsMarked}
+use Rattle.mesh.proofs.Rows.{row-next, row-last, quads-room, vertices-le}
+use Rattle.mesh.proofs.Tallies.{all-quads}
+use Rattle.plane_layers.specs.Layer.{rowsMasks, rowsWords, rowsOffsets, RowsMarked}
 
 -- one list more
 pub below-next : {A : Type 0} (f : ℕ → List A) (j : ℕ) → below f (j + 1) ≡ below f j ++ f j

@@ -1,6 +1,6 @@
 -- A block whose two planes are at hand: there is one, and the signs and windows that the planes give are the block's.
 -- Assumes nothing.
-use Prim.Native.Nat.{ℕ, _+_, _*_, _-_, _/_, _%_, _≤_, _<_}
+use Prim.Native.Nat.{ℕ, _+_, _*_, _-_, _/_, _≤_, _<_}
 use mathlib.Core.Path.{_≡_, refl, ap, sym, _∙_}
 use mathlib.Core.Bool.{cond}
 use mathlib.Core.List.{List}
@@ -11,7 +11,6 @@ use lib.Dec.{ltb}
 use lib.ListN.{length, getD, take, drop}
 use Rattle.laws.proofs.Index.{pair-lt}
 use Rattle.laws.proofs.Over.{each, each-length, each-at}
-use Rattle.block.specs.declared.Cut.{Cut}
 use Rattle.block.specs.declared.Size.{Size}
 use Rattle.block.specs.Numbering.{sampleCount}
 use Rattle.mesh_rule.specs.Layers.{planeSize, rowSample}

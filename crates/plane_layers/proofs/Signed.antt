@@ -21,7 +21,6 @@ use Rattle.block.specs.Grey.{positive}
 use Rattle.mesh_rule.specs.Layers.{planeSize}
 use Rattle.signs.specs.Signs.{rowSign, Plane}
 use Rattle.signs.specs.Steps.{rowFrom, fiveWords}
-use Rattle.signs.specs.Windows.{Part}
 use Rattle.signs.proofs.Windows.{part-of}
 use Rattle.plane_layers.proofs.Copies.{half-same}
 use Rattle.plane_layers.specs.Memory.{halfOf, sampleIn, Windowed, SignedTo}

@@ -1,18 +1,15 @@
 -- One row of the layer, counted and written: what it requires is there, and what it gives is the row of every block that has the two planes.
 -- Assumes nothing.
-use Prim.Native.Nat.{ℕ, _+_, _*_, _-_, _≤_, _<_}
-use mathlib.Core.Path.{_≡_, refl, ap, sym, _∙_, subst}
+use Prim.Native.Nat.{ℕ, _+_, _*_, _≤_, _<_}
+use mathlib.Core.Path.{_≡_, ap, sym, _∙_, subst}
 use mathlib.Core.List.{List}
 use native.Mathlib.Nat.{mul-le-mul}
 use native.Mathlib.Omega.{arith}
 use lib.ListN.{length, getD}
 use lib.Seq.{sets}
 use lib.Ieee.{Float, nan}
-use Rattle.block.specs.declared.Cut.{Cut}
-use Rattle.block.specs.declared.Size.{Size}
 use Rattle.cube_rule.specs.Decider.{loopsOf}
-use Rattle.mesh_rule.specs.Mesh.{verticesBefore}
-use Rattle.mesh_rule.specs.Layers.{planeSize, rowCube}
+use Rattle.mesh_rule.specs.Layers.{planeSize}
 use Rattle.cube_vertices.specs.Cubes.{Stored}
 use Rattle.rows.specs.declared.Row.{Row}
 use Rattle.rows.specs.Rows.{RowReady}
@@ -22,7 +19,6 @@ use Rattle.layers.specs.declared.Marks.{Marks}
 use Rattle.layers.specs.Steps.{half, RowFits, QuadsReady, QuadsMore, RowStepped, RowFew, RowCounted}
 use Rattle.layers.proofs.Steps.{step-counts}
 use Rattle.mesh.specs.Steps.{rowOf, RowMoved}
-use Rattle.mesh.specs.Writes.{RowRoomy, TablesReady, RowMore}
 use Rattle.mesh.proofs.RowSteps.{row-fits, row-moved, step-ready, row-more}
 use Rattle.plane_layers.specs.declared.Layer.{Layer}
 use Rattle.plane_layers.specs.Memory.{Windowed, Shown}

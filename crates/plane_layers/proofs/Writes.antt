@@ -7,29 +7,27 @@ use mathlib.Core.List.{List, _++_}
 use native.Mathlib.Nat.{eq-or-lt-of-le, mul-le-mul, mul-le-mul-left}
 use native.Mathlib.Omega.{arith}
 use borrow.Rule.Slice.PartMut.{putMid}
-use lib.ListN.{length, getD, take, drop, length-append}
+use lib.ListN.{length, getD, take, drop}
 use lib.Seq.{sets, getD-take, getD-drop}
-use lib.Ieee.{Float, nan}
+use lib.Ieee.{Float}
 use Rattle.laws.specs.Below.{below}
 use Rattle.laws.proofs.Below.{length-below}
-use Rattle.laws.proofs.Index.{pair-lt}
 use Rattle.laws.proofs.Tests.{lt-or-ge}
 use Rattle.block.specs.declared.Cut.{Cut}
 use Rattle.block.specs.declared.Size.{Size}
 use Rattle.block.specs.Numbering.{X, Y, Z}
 use Rattle.cube_rule.specs.Decider.{loopsOf}
 use Rattle.mesh_rule.specs.Mesh.{verticesBefore}
-use Rattle.mesh_rule.specs.Layers.{planeSize, rowCube, runMasks, runWords, runOffsets}
+use Rattle.mesh_rule.specs.Layers.{planeSize, rowCube, runMasks}
 use Rattle.quads.specs.Writing.{RowTable, rowQuads}
 use Rattle.layers.specs.declared.Marks.{Marks}
 use Rattle.layers.specs.Steps.{half}
-use Rattle.mesh.specs.Writes.{RowRoomy, TablesReady, RowMore}
+use Rattle.mesh.specs.Writes.{TablesReady, RowMore}
 use Rattle.mesh.proofs.LayerSteps.{turn}
 use Rattle.mesh.proofs.Regions.{first-more, second-more, third-more}
 use Rattle.mesh.proofs.Writings.{store-next}
 use Rattle.plane_layers.specs.declared.Layer.{Layer}
-use Rattle.plane_layers.specs.Memory.{SignedTo, halfOf, sampleIn, Shown, tableAt}
-use Rattle.plane_layers.specs.Parts.{KeptBehind}
+use Rattle.plane_layers.specs.Memory.{halfOf, sampleIn, Shown, tableAt}
 use Rattle.plane_layers.specs.Layer.{rowsMasks, rowsWords, rowsOffsets, rowsX, rowsY, rowsZ, RowsMarked, RowsWritten, Known, LayerReady, SignsReady, LayerCounted, StepReady, RowTaken, LayerRoomy, RowsDone, RowsState, LayerWritten}
 use Rattle.plane_layers.proofs.Parts.{put-length, put-before, put-behind, put-in, part-at, part-long, numbered-as}
 use Rattle.plane_layers.proofs.Rows.{below-next, rows-first, rows-words-length, rows-offsets-length, marked-none, marked-more, marked-all-few}

@@ -6,7 +6,7 @@ use mathlib.Core.List.{List}
 use borrow.Author.Needs.{needs}
 use denote.Ref.{now}
 use Rattle.parsniprow_c.specs.Told.{tellOver}
-use Rattle.parsniprow_c.proofs.States.{taken-as}
+use Rattle.by_planes.proofs.Lefts.{taken-as}
 use Rattle.parsniprow_c.proofs.parsniprow_plane.Statement.{statement}
 use Rattle.parsniprow_c.proofs.parsniprow_plane.Tie as tie
 
