@@ -28,10 +28,11 @@
      at T refused NUMBER value VALUE      there is no mesh at T, and the other lines hold all the same
    LIST is 1 to 16 numbers with a comma between each two. Where THRESHOLD is refused, no threshold of LIST is told.
    With --by-planes FILE is read plane by plane, and the mesh is never held as a whole. So the lines closed and pieces
-   are missing. All other lines are as without it. A PLY file has the same vertices, byte for byte, and the same quads;
-   these stand in the order in which they come, by plane and then by axis. For a PLY file FILE is read twice, first to
-   count and then to write, so it must be a file and no pipe. --mesh, --pieces, --piece and --thresholds do not go with
-   --by-planes.
+   are missing, and so is the note on an open mesh. The note on marked vertices says that --mesh needs another run, and
+   notes at the end say what is missing. All other lines are as without it. A PLY file has the same vertices, byte for
+   byte, and the same quads; these stand in the order in which they come, by plane and then by axis. For a PLY file FILE
+   is read twice, first to count and then to write, so it must be a file and no pipe. --mesh, --pieces, --piece and
+   --thresholds do not go with --by-planes.
    With --room no mesh is made. In place of the lines from vertices to ply the record has:
      crossed COUNT                        how many edges of the block are crossed, those on the sides of the box too
      vertices-at-most COUNT               the mesh has no more: a vertex joins at least three crossed edges, and an edge
@@ -398,11 +399,12 @@ static void help(void)
          "The lines that begin with \"at\" are for choosing a threshold. Run the tool with the one that you choose,\n"
          "and enter that record beside the claim. Compare two housings only at the same threshold.");
     puts("\n"
-         "With --by-planes the lines \"closed\" and \"pieces\" are missing: they need the whole mesh at once. All\n"
-         "other lines are as without it. The PLY file has the same vertices in the same order. It has the same quads\n"
-         "in the order in which they come: by plane, and for each plane first those around edges along x, then y,\n"
-         "then z. For a PLY file FILE is read twice, once to count and once to write. So it must be a file that can\n"
-         "be read twice, and no pipe.");
+         "With --by-planes the lines \"closed\" and \"pieces\" are missing: they need the whole mesh at once. The\n"
+         "note on an open mesh is missing too. The note on marked vertices reads otherwise, since --mesh needs\n"
+         "another run. Notes at the end say what is missing. All other lines are as without it. The PLY file has the\n"
+         "same vertices in the same order. It has the same quads in the order in which they come: by plane, and for\n"
+         "each plane first those around edges along x, then y, then z. For a PLY file FILE is read twice, once to\n"
+         "count and once to write. So it must be a file that can be read twice, and no pipe.");
     puts("\n"
          "With --room four other lines follow the line \"ceiling\". The line \"crossed\" says how many edges are\n"
          "crossed. An edge joins two values that are neighbours along x, y or z. It is crossed if one is metal and\n"
