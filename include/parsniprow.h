@@ -220,8 +220,9 @@ void parsniprow_start(uint32_t nx, uint32_t ny, uint32_t nz, uint16_t t, uint32_
    the crossed edges along x on plane k - 1, then those along y on it, then those along z from plane k - 1 to plane k,
    each by index of the lower sample. As of parsniprow_mesh, only an edge that lies on no face of the box gives a quad.
    Each buffer is filled from its front in every call: lend fresh room, or read the part out before the next call.
-     state    as the last call of the run left it. Afterwards its vertices and quads so far are higher by those of this
-              call, and its planes taken by one. A missing item is read as 0, and t modulo 65536
+     state    as the last call of the run left it. A missing item is read as 0, and t modulo 65536. An accepted call
+              leaves t as it was read; vertices and quads so far are higher by those of this call, and planes taken by
+              one
      plane    the nx * ny samples of plane k, x fastest
      work     6 * nx * ny items, as the last call of the run left them. Before the first plane it need not be
               initialised. More room is allowed

@@ -257,6 +257,7 @@ static struct due due_of(struct call *call)
     }
     due.answer[1] = call->vertex_count;
     due.answer[2] = call->quad_count;
+    due.state[AT_T] %= CEILING + 1; /* as it was read */
     due.state[AT_VERTICES] += call->vertex_count;
     due.state[AT_QUADS] += call->quad_count;
     due.state[AT_PLANES]++;
@@ -345,16 +346,8 @@ static void judge_work(const struct call *call, const struct due *due, int is_re
         print_call(call, due);
 }
 
-/* The threshold that may stand in the state after an accepted call: as it was, or as it was read, modulo 65536. */
-static uint32_t threshold_left(const struct call *call)
-{
-    uint32_t was = call->state[AT_T], read = was % (CEILING + 1);
-    const uint32_t *state = start(&state_place);
-    return call->state_len > AT_T && state[AT_T] == read ? read : was;
-}
-
 /* A call of which all is known but what it leaves in the work. */
-static void judge_known(const struct call *call, struct due *due)
+static void judge_known(const struct call *call, const struct due *due)
 {
     int is_refused = due->first < ROWS;
     struct wanted wanted[] = {{&answer_place, due->answer, ANSWER},
@@ -364,8 +357,6 @@ static void judge_known(const struct call *call, struct due *due)
                               {&quads_place, call->quads, is_refused ? 0 : 4 * (size_t)call->quad_count}};
     lend_call(call);
     ask_library(call, wanted, 5);
-    if (!is_refused)
-        due->state[AT_T] = threshold_left(call);
     if (first_to_differ(PLANES, wanted, 5))
         print_call(call, due);
     judge_work(call, due, is_refused);
@@ -413,7 +404,7 @@ static void judge_foreign(const struct call *call, struct due *due)
     }
     memcpy(due->state, call->state, sizeof due->state);
     if (!is_refused) {
-        due->state[AT_T] = threshold_left(call);
+        due->state[AT_T] %= CEILING + 1;
         due->state[AT_VERTICES] += said[1];
         due->state[AT_QUADS] += said[2];
         due->state[AT_PLANES]++;
