@@ -211,7 +211,8 @@ void parsniprow_mesh(uint32_t nx, uint32_t ny, uint32_t nz, const uint16_t *samp
      state       room for PARSNIPROW_STATE items: nx, ny, nz, t, 0, 0, 0
      answer      answer place, 3 items: 0, 0, 0; or refusal (1, 3 or 15, tried in this order), its value, 0
    The state keeps its contents on refusal, and always behind its items. If it is shorter, as many are written as it has
-   room for. Such a state has no place for the planes taken, so every plane would be taken as the first. */
+   room for. Such a state has no place for the planes taken. If it has 4 items or more, every plane is taken as the
+   first. If it has fewer, every plane is refused with 1 or 3. */
 void parsniprow_start(uint32_t nx, uint32_t ny, uint32_t nz, uint16_t t, uint32_t *work, size_t work_len,
                       uint32_t *state, size_t state_len, uint32_t *answer, size_t answer_len);
 
