@@ -8,7 +8,7 @@
      written to need not be initialised.
    - Nothing is kept from one call to the next and nothing is allocated, so any number of threads may call at once,
      where none writes what another's call reads or writes. What a mesh that is made plane by plane must remember stands
-     in two buffers that the caller lends to each call, the state and the work. A call takes less than 64 KiB of the
+     in two buffers that the caller lends to each plane, the state and the work. A call takes less than 64 KiB of the
      stack. The library has no tables: its constants are less than 512 bytes. Of a C library it needs memcpy and memset.
      The processor rounds to nearest, as a C program starts.
    - C cuts an argument that is too large for its type before the call: 65636 as t arrives as 100. Check wider numbers
@@ -195,11 +195,11 @@ void parsniprow_mesh(uint32_t nx, uint32_t ny, uint32_t nz, const uint16_t *samp
    All words that the calls write, one behind the other, are those of parsniprow_mesh for the whole block, and so are
    the offsets. The quads are the same too, each once, with the same vertex numbers, but they come in another order: by
    call, and in a call those along x, then y, then z. parsniprow_mesh has first all of them along x, then y, then z.
-   What a run must remember stands in state and in work. Both are the caller's, and each call of the run gets them as
-   the last one left them. They may be copied and moved between the calls. What the items of work mean is the library's
-   own affair. Several runs, each with a state and a work of its own, may go side by side. With a state or a work that
-   is not as a call left it, the mesh is not promised. Such a call still ends, touches nothing but the lent buffers, and
-   writes at most as much as its answer says. */
+   What a run must remember stands in state and in work. Both are the caller's, and each plane gets them as the last
+   call of the run left them. The end gets the state alone. They may be copied and moved between the calls. What the
+   items of work mean is the library's own affair. Several runs, each with a state and a work of its own, may go side by
+   side. With a state or a work that is not as a call left it, the mesh is not promised. Such a call still ends, touches
+   nothing but the lent buffers, and writes at most as much as its answer says. */
 
 /* How many items the state of a run has: nx, ny, nz, t, vertices so far, quads so far, planes taken. */
 #define PARSNIPROW_STATE 7
