@@ -207,7 +207,9 @@ void parsniprow_mesh(uint32_t nx, uint32_t ny, uint32_t nz, const uint16_t *samp
 /* Starts a run.
      nx, ny, nz  axis lengths in samples, each 2 to 256
      t           the threshold, 1 to 65534
-     work        the buffer that is to be lent to the planes, 6 * nx * ny items or more. Only its length is looked at
+     work        the buffer that is to be lent to the planes, 6 * nx * ny items or more. Only its length is looked at,
+                 and nothing is written to it. It is not const here, since a compiler may warn where a buffer that is
+                 not initialised is lent as const
      state       room for PARSNIPROW_STATE items: nx, ny, nz, t, 0, 0, 0
      answer      answer place, 3 items: 0, 0, 0; or refusal (1, 3 or 15, tried in this order), its value, 0
    The state keeps its contents on refusal, and always behind its items. If it is shorter, as many are written as it has
