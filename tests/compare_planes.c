@@ -1,10 +1,10 @@
 /* Compares meshes that are made plane by plane with the plain implementation. What each call of a run must write is cut
    out of plain's mesh of the whole block. Before each call its buffers are lent anew, at another place and with what
-   the call before left in the state and in the work. With each block: one to three runs, which take turns; among their
-   planes calls that are refused, for one reason or for several, after which the run goes on; calls with states and
-   works that are not the run's own; starts, and ends too early and at the end. When a run is whole, all that the
-   library wrote must be the mesh that it makes of the whole block. Once: the paper's block, whose calls were worked out
-   by hand; states that are too short; and lengths that no memory has.
+   the call before left in the state and in the work. With every second block: one to three runs, which take turns;
+   among their planes calls that are refused, for one reason or for several, after which the run goes on; calls with
+   states and works that are not the run's own; starts, and ends too early and at the end. When a run is whole, all that
+   the library wrote must be the mesh that it makes of the whole block. Once: the paper's block, whose calls were worked
+   out by hand; states that are too short; and lengths that no memory has.
    With a state or a work that no call left, the mesh is not known. Then the call must end, keep to what it answers, and
    change nothing where it refuses.
    Assumes nothing more than compare.h. */
