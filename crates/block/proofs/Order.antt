@@ -17,7 +17,7 @@ use Rattle.block.specs.Answer.{Answer, accepted, refused, inOrder, First
 pub passes-refuses : {r : Refusal} → Passes ≡ Refuses r → ⊥
 passes-refuses {r} e = let z : _≡_ {A = ℕ} 0 1 = cc in omega arith
 
-accepted-refused : {A : Type 0} {a : A} {r : Refusal} → accepted a ≡ refused r → ⊥
+pub accepted-refused : {A : Type 0} {a : A} {r : Refusal} → accepted a ≡ refused r → ⊥
 accepted-refused {a} {r} e = let z : _≡_ {A = ℕ} 0 1 = cc in omega arith
 
 -- ---- checks in order

@@ -21,7 +21,7 @@ use Rattle.block.specs.Answer.{inOrder, written}
 use Rattle.block.specs.Grey.{SixteenBit}
 use Rattle.block.specs.Numbering.{Axis, X, Y, Z}
 use Rattle.block.specs.Size.{Limits}
-use Rattle.block.proofs.Order.{orders-refuse, orders-pass, judged-refused, judged-passed, written-passed, passes-refuses, refused-says, accepted-says}
+use Rattle.block.proofs.Order.{orders-refuse, orders-pass, judged-refused, judged-passed, written-passed, passes-refuses, accepted-refused, refused-says, accepted-says}
 use Rattle.cube_rule.specs.Decider.{joined, loopsOf}
 use Rattle.cube_rule.proofs.Laws.{cube-laws}
 use Rattle.mesh_rule.specs.Layers.{planeSize, layerSize, layerFirst, planeQuads}
@@ -44,7 +44,7 @@ use Rattle.plane_layers.proofs.Grown.{quads-length, quads-four}
 use Rattle.by_planes.specs.declared.Stream.{Stream}
 use Rattle.by_planes.specs.declared.Growth.{Growth}
 use Rattle.by_planes.specs.declared.Taken.the-variants as taken
-use Rattle.by_planes.specs.Answer.{sizeIn, planeOf, partWords, partOffsets, partQuads, partTotals, further, grownBy, callRows, takeVerdict, saidTaken}
+use Rattle.by_planes.specs.Answer.{sizeIn, planeOf, partWords, partOffsets, partQuads, partTotals, further, grownBy, callRows, takeVerdict}
 use Rattle.by_planes.specs.Left.{Left, PartTaken, PlaneTaken}
 use Rattle.by_planes.specs.Steps.{Sizes, firstOf}
 use Rattle.by_planes.proofs.Lefts.{in-cubes, some-quads, left-early, left-few}
@@ -53,9 +53,6 @@ use Rattle.by_planes.proofs.Rows.{plane-is, laterRows, passed, first-sm
 none-over : {A : Type 0} (b : List A) → b ≡ over [] b
 unfolding over
 none-over b = refl
-
-wrote-refused : {g : Growth} {x : Refusal} → saidTaken (taken.Wrote g) ≡ saidTaken (taken.Refused x) → ⊥
-wrote-refused {g} {x} e = let z : _≡_ {A = ℕ} 0 1 = cc in omega arith
 
 abbrev nothing : Totals
 nothing = record { vertices = 0; quads = 0 }
@@ -74,7 +71,7 @@ module _ (st : Stream) (plane work w : List ℕ) (o : List Float) (q : List ℕ)
         answer = judged-refused _ _ x k;
         first = λ z. refl;
         refusal-keeps = λ y f. (refl, refl, refl, refl);
-        kept = λ g f. absurd (wrote-refused (sym f));
+        kept = λ g f. absurd (accepted-refused (sym f));
         part = λ s left more is. absurd (passes-refuses (sym (left-early left more plane is) ∙ e));
       }
 
@@ -139,7 +136,7 @@ module _ (st : Stream) (plane work w : List ℕ) (o : List Float) (q : List ℕ)
             counted = nothing;
             answer = judged-passed _ (grownBy st nothing) _ k refl;
             first = λ z. refl;
-            refusal-keeps = λ x e. absurd (wrote-refused e);
+            refusal-keeps = λ x e. absurd (accepted-refused e);
             kept = λ g e. first-kept;
             part = λ s left more is. first-part k left is;
           }
@@ -290,7 +287,7 @@ module _ (st : Stream) (plane work w : List ℕ) (o : List Float) (q : List ℕ)
             answer = judged-refused _ _ x (decides ∙ v);
             first = λ z. absurd (omega arith);
             refusal-keeps = λ y f. grown .refusal-keeps x v;
-            kept = λ g f. absurd (wrote-refused (sym f));
+            kept = λ g f. absurd (accepted-refused (sym f));
             part = λ s left more is. further-part left is (λ p. absurd (passes-refuses (sym p ∙ decides ∙ v)));
           }
 
@@ -302,7 +299,7 @@ module _ (st : Stream) (plane work w : List ℕ) (o : List Float) (q : List ℕ)
             counted = grown .counted;
             answer = judged-passed _ (grownBy st c) _ (decides ∙ a .0) (ap (grownBy st) (a .1));
             first = λ z. absurd (omega arith);
-            refusal-keeps = λ x f. absurd (wrote-refused f);
+            refusal-keeps = λ x f. absurd (accepted-refused f);
             kept = λ g f. deeper (grown .kept (a .0));
             part = λ s left more is. further-part left is (λ p. grown .kept (a .0) .work-long);
           }

@@ -14,6 +14,7 @@ pub mod Told
 pub mod Room
 pub mod Thresholds
 pub mod PlaneRows
+pub mod Enough
 pub mod Runs
 pub mod Closing
 pub mod Four

@@ -29,7 +29,7 @@ use Rattle.mesh_rule.specs.Grid.{metal, OffEdges, AtLeastThree}
 use Rattle.mesh_rule.specs.Layers.{planeSize, layerSize, layerWords, layerOffsets, cubeWords, cubeOffsets, planeQuads}
 use Rattle.mesh_rule.specs.Mesh.{Vertex, Quad, flat, vertices, verticesBefore, quadAt, quadsBefore, quads}
 use Rattle.mesh_rule.specs.Reading.{inFours, telling, putBack}
-use Rattle.mesh_rule.proofs.PutBack.{fours-flat, planeList, callList, calls-back}
+use Rattle.mesh_rule.proofs.PutBack.{fours-flat, three-same, planeList, callList, calls-back}
 use Rattle.mesh_rule.proofs.Quads.{flat-injective}
 use Rattle.mesh_rule.proofs.Reading.{cubes}
 use Rattle.mesh_rule.proofs.StandIn.{demand3, demand3-alike}
@@ -258,15 +258,12 @@ module _ {nx ny nz : ℕ} {s : List ℕ} {cut : Cut} (r : PlaneRun nx ny nz s cu
   -- the quads of all calls, and that those of the last plane are none
   call-flat : (k : ℕ) → partQuads size s cut (suc k) ≡ flat (callList (cube-laws joined) size s cut k)
   call-flat k =
-      three (plane-flat X) (plane-flat Y) (plane-flat Z)
+      three-same (plane-flat X) (plane-flat Y) (plane-flat Z)
       ∙ sym (flat-append (planeList (cube-laws joined) size s cut X k ++ planeList (cube-laws joined) size s cut Y k) (planeList (cube-laws joined) size s cut Z k)
       ∙ ap (λ (l : List ℕ). l ++ flat (planeList (cube-laws joined) size s cut Z k)) (flat-append (planeList (cube-laws joined) size s cut X k) (planeList (cube-laws joined) size s cut Y k)))
     where
       plane-flat : (a : Axis) → planeQuads loopsOf size s cut a k ≡ flat (planeList (cube-laws joined) size s cut a k)
       plane-flat a = sym (flat-below (λ (x : ℕ). atSample size (quadAt loopsOf size s cut a) (planeSize size * k + x)) (planeSize size))
-
-      three : {x x′ y y′ z z′ : List ℕ} → x ≡ x′ → y ≡ y′ → z ≡ z′ → x ++ y ++ z ≡ x′ ++ y′ ++ z′
-      three p q r = cc
 
   all-flat : allQuads r ≡ flat (below (callList (cube-laws joined) size s cut) last)
   all-flat =
@@ -284,10 +281,7 @@ module _ {nx ny nz : ℕ} {s : List ℕ} {cut : Cut} (r : PlaneRun nx ny nz s cu
   put-back =
       ap₂ (λ (c : ℕ → ℕ) (qs : List Quad). putBack size c qs) (λ i v. cube-at v i) (ap inFours all-flat ∙ fours-flat (below (callList (cube-laws joined) size s cut) last))
       ∙ calls-back (cube-laws joined) size s cut last
-      ∙ three (planes-all X) (planes-all Y) (planes-all Z)
-    where
-      three : {x x′ y y′ z z′ : List Quad} → x ≡ x′ → y ≡ y′ → z ≡ z′ → x ++ y ++ z ≡ x′ ++ y′ ++ z′
-      three p q r = cc
+      ∙ three-same (planes-all X) (planes-all Y) (planes-all Z)
 
   -- a plane past nz is refused with 17 and nz, whatever is lent
   pub planes-past : {plane work w : List ℕ} {o : List Float} {q : List ℕ} {a : Taken} {work′ w′ : List ℕ} {o′ : List Float} {q′ : List ℕ} → PlaneTaken (r .state nz) plane work w o q a work′ w′ o′ q′

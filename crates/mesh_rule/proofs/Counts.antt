@@ -35,7 +35,7 @@ count-lower (suc n) =
     rw (le-ltb (n + 1) (suc n) (omega arith))
     (omega (arith, count-all (λ (c : ℕ). ltb (c + 1) (suc n)) n (λ c l. lt-ltb (c + 1) (suc n) (omega arith))))
 
-count-between : (n : ℕ) → count (between n) n ≡ n - 2
+pub count-between : (n : ℕ) → count (between n) n ≡ n - 2
 unfolding count
 count-between zero = refl
 count-between (suc n) =

@@ -2,12 +2,11 @@
 -- all these planes along it.
 -- Assumes nothing.
 use Prim.Native.Nat.{ℕ, zero, suc, _+_, _*_, _/_, _%_}
-use mathlib.Core.Path.{_≡_, refl, ap, ap₂, sym, _∙_}
+use mathlib.Core.Path.{_≡_, refl, ap, sym, _∙_}
 use mathlib.Core.Bool.{Bool, true, false, cond, _&&_}
-use mathlib.Core.List.{List, [], _∷_, _++_, append-nil, append-assoc}
-use native.Mathlib.Omega.{arith}
+use mathlib.Core.List.{List, [], _∷_, _++_, append-nil}
 use Rattle.laws.specs.Below.{below}
-use Rattle.laws.proofs.Below.{below-mul}
+use Rattle.laws.proofs.Below.{below-mul, below-same}
 use Rattle.laws.proofs.Tests.{and-both}
 use Rattle.block.specs.declared.Cut.{Cut}
 use Rattle.block.specs.declared.Size.{Size}
@@ -15,7 +14,7 @@ use Rattle.block.specs.Numbering.{Axis, X, Y, Z, atSample}
 use Rattle.cube_rule.specs.Laws.{CubeLaws}
 use Rattle.cube_rule.specs.Links.{Decider}
 use Rattle.mesh_rule.specs.Grid.{metal, inner, crossedFrom}
-use Rattle.mesh_rule.specs.Mesh.{Quad, quad, flat, turned, around, quadAt, quadsBefore}
+use Rattle.mesh_rule.specs.Mesh.{Quad, flat, turned, around, quadAt, quadsBefore}
 use Rattle.mesh_rule.specs.Layers.{planeSize}
 use Rattle.mesh_rule.specs.Reading.{sameAxis, inFours, axisFor, telling, putBack}
 use Rattle.mesh_rule.proofs.Inner.{inner-facts}
@@ -51,10 +50,9 @@ keep-below true f m = refl
 keep-below false f zero = refl
 keep-below false f (suc m) = ap (λ (l : List Quad). l ++ []) (keep-below false f m)
 
-below-same : (f g : ℕ → List Quad) (m : ℕ) → ((k : ℕ) → f k ≡ g k) → below f m ≡ below g m
-unfolding below
-below-same f g zero h = refl
-below-same f g (suc m) h = ap₂ (λ (p q : List Quad). p ++ q) (below-same f g m h) (h m)
+-- three lists one behind the other
+pub three-same : {A : Type 0} {x x′ y y′ z z′ : List A} → x ≡ x′ → y ≡ y′ → z ≡ z′ → x ++ y ++ z ≡ x′ ++ y′ ++ z′
+three-same p q r = cc
 
 -- ---- the quads of the mesh
 
@@ -89,7 +87,7 @@ module _ {D : Decider} {loopsOf : Cut → List ℕ → List ℕ} (laws : CubeLaw
   plane-tells a b k =
       telling-below n (cubes loopsOf n s cut) a (λ (x : ℕ). atSample n (quadAt loopsOf n s cut b) (planeSize n * k + x)) (planeSize n)
       ∙ below-same _ (λ (x : ℕ). cond (sameAxis a b) (atSample n (quadAt loopsOf n s cut b) (planeSize n * k + x)) []) (planeSize n)
-      (λ x. let p = planeSize n * k + x in quad-tells a b (p % n .nx) (p / n .nx % n .ny) (p / n .nx / n .ny))
+      (λ x l. let p = planeSize n * k + x in quad-tells a b (p % n .nx) (p / n .nx % n .ny) (p / n .nx / n .ny))
       ∙ keep-below (sameAxis a b) (λ (x : ℕ). atSample n (quadAt loopsOf n s cut b) (planeSize n * k + x)) (planeSize n)
 
   -- those of all three, in the order of a call
@@ -100,12 +98,9 @@ module _ {D : Decider} {loopsOf : Cut → List ℕ → List ℕ} (laws : CubeLaw
   call-tells a k =
       telling-append n (cubes loopsOf n s cut) a (planeList X k ++ planeList Y k) (planeList Z k)
       ∙ ap (λ (l : List Quad). l ++ told a (planeList Z k)) (telling-append n (cubes loopsOf n s cut) a (planeList X k) (planeList Y k))
-      ∙ three (plane-tells a X k) (plane-tells a Y k) (plane-tells a Z k)
+      ∙ three-same (plane-tells a X k) (plane-tells a Y k) (plane-tells a Z k)
       ∙ one a
     where
-      three : {x x′ y y′ z z′ : List Quad} → x ≡ x′ → y ≡ y′ → z ≡ z′ → x ++ y ++ z ≡ x′ ++ y′ ++ z′
-      three p q r = cc
-
       one : (a : Axis) → cond (sameAxis a X) (planeList X k) [] ++ cond (sameAxis a Y) (planeList Y k) [] ++ cond (sameAxis a Z) (planeList Z k) [] ≡ planeList a k
       one X = append-nil (planeList X k ++ []) ∙ append-nil (planeList X k)
       one Y = append-nil (planeList Y k)
@@ -115,13 +110,10 @@ module _ {D : Decider} {loopsOf : Cut → List ℕ → List ℕ} (laws : CubeLaw
   unfolding quadsBefore
   calls-tell a m =
       telling-below n (cubes loopsOf n s cut) a callList m
-      ∙ below-same _ (planeList a) m (call-tells a)
+      ∙ below-same _ (planeList a) m (λ k l. call-tells a k)
       ∙ sym (below-mul (atSample n (quadAt loopsOf n s cut a)) (planeSize n) m)
 
   -- all of them
   pub calls-back : (m : ℕ) → putBack n (cubes loopsOf n s cut) (below callList m) ≡ quadsBefore loopsOf n s cut X (planeSize n * m) ++ quadsBefore loopsOf n s cut Y (planeSize n * m) ++ quadsBefore loopsOf n s cut Z (planeSize n * m)
   unfolding putBack
-  calls-back m = three (calls-tell X m) (calls-tell Y m) (calls-tell Z m)
-    where
-      three : {x x′ y y′ z z′ : List Quad} → x ≡ x′ → y ≡ y′ → z ≡ z′ → x ++ y ++ z ≡ x′ ++ y′ ++ z′
-      three p q r = cc
+  calls-back m = three-same (calls-tell X m) (calls-tell Y m) (calls-tell Z m)

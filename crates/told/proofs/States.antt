@@ -1,11 +1,10 @@
 -- A state by its seven numbers, one by one.
 -- Assumes nothing.
 use Prim.Native.Nat.{ℕ, _%_}
-use mathlib.Core.Path.{_≡_, ap₂, _∙_}
+use mathlib.Core.Path.{_≡_}
 use mathlib.Core.List.{List}
 use lib.ListN.{getD}
 use Rattle.block.specs.Grey.{cutOf}
-use Rattle.by_planes.specs.declared.Stream.{Stream}
 use Rattle.told.specs.Numbers.{stateOf}
 
 pub state-same : (l : List ℕ) {a b c d e f g : ℕ} → a ≡ getD l 0 0 → b ≡ getD l 1 0 → c ≡ getD l 2 0 → d ≡ getD l 3 0 → e ≡ getD l 4 0 → f ≡ getD l 5 0 → g ≡ getD l 6 0
