@@ -1192,17 +1192,26 @@ static FILE *open_part(struct out *out)
     static const char ending[] = ".part";
     size_t length = strlen(out->name) + sizeof ending;
     FILE *to = NULL;
-    int file;
+    sigset_t ending_signals, before;
+    int file, kept;
     out->part = room(length, length, "A name");
     snprintf(out->part, length, "%s%s", out->name, ending);
+    /* a signal between the two would leave a file that nobody removes */
+    sigemptyset(&ending_signals);
+    sigaddset(&ending_signals, SIGHUP);
+    sigaddset(&ending_signals, SIGINT);
+    sigaddset(&ending_signals, SIGTERM);
+    sigprocmask(SIG_BLOCK, &ending_signals, &before);
     file = open(out->part, O_WRONLY | O_CREAT | O_EXCL, 0666);
+    kept = errno;
+    out->is_part_there = file != -1;
+    sigprocmask(SIG_SETMASK, &before, NULL);
+    errno = kept;
     if (file == -1 && errno == EEXIST)
         fail(STATUS_FAILED, "%s%s is there already, and %s has this name while it is written. Name another file for "
              "%s.", out->shown, ending, out->thing, out->thing);
-    if (file != -1) {
-        out->is_part_there = 1;
+    if (file != -1)
         to = fdopen(file, "w");
-    }
     if (!to)
         fail(STATUS_FAILED, "%s cannot be written: %s. Check its folder, and that you may write there.", out->shown,
              strerror(errno));
