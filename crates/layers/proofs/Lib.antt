@@ -1,3 +1,4 @@
 pub mod Halves
 pub mod Steps
+pub mod Quiets
 pub mod Fixed

@@ -87,9 +87,13 @@ pub record RowFew (m : Marks) : Type 0 where
   pub few-y : m .y ≤ 200000000
   pub few-z : m .z ≤ 200000000
 
--- the promise of `row_counts`: the marks are moved by the vertices of the row, and by its quads, whatever the tables say
-pub record RowCounted (loopsOf : Cut → List ℕ → List ℕ) (lo hi : List ℕ) (row : Row) (a b : List ℕ) (m r : Marks) : Type 0 where
-  pub v-is : r .v ≡ m .v + length (rowMasks loopsOf lo hi (row .cut) (row .nx))
+-- the promise of `with_quads`: the marks are moved by v vertices, and by the quads of the row, whatever the tables say
+pub record MarksBy (v : ℕ) (row : Row) (a b : List ℕ) (m r : Marks) : Type 0 where
+  pub v-is : r .v ≡ m .v + v
   pub x-is : r .x ≡ m .x + length (stepX a (row .nx) (row .j) (row .lower) [] [] [] [])
   pub y-is : r .y ≡ m .y + length (stepY a (row .nx) (row .j) (row .lower) [] [])
   pub z-is : r .z ≡ m .z + length (stepZ a b (row .nx) (row .j) (row .lower) [] [])
+
+-- the promise of `row_counts`: by the vertices of the row
+abbrev pub RowCounted : (Cut → List ℕ → List ℕ) → List ℕ → List ℕ → Row → List ℕ → List ℕ → Marks → Marks → Type 0
+RowCounted loopsOf lo hi row = MarksBy (length (rowMasks loopsOf lo hi (row .cut) (row .nx))) row

@@ -12,7 +12,7 @@ ghost use Rattle.laws.specs.Put.{Put};
 ghost use Rattle.quads.specs.Writing.{Tables};
 ghost use Rattle.rows.specs.Rows.{RowReady};
 ghost use Rattle.vertices.specs.Layers.{RowRoom};
-ghost use Rattle.layers.specs.Steps.{half, hasQuads, stepBy, RowFits, QuadsReady, RowQuads, RowStepped, RowFew, RowCounted};
+ghost use Rattle.layers.specs.Steps.{half, hasQuads, stepBy, RowFits, QuadsReady, RowQuads, RowStepped, RowFew, MarksBy, RowCounted};
 
 // Where the next vertex goes, and where the next quad along each axis goes.
 pub struct Marks {
@@ -125,8 +125,31 @@ fn row_quads(
 
 // Writes the vertices of a row of cubes and the quads from its row of samples: `lo` and `hi` are the row's windows, a and b the signs of its plane
 // and of the plane above. The halves of `below` and `here` are the tables of the rows of odd and even number of the layer below and of this
-// layer; this row is noted in its half of `here`.
+// layer; this row is noted in its half of `here`. A row without an active cube is passed over.
 pub fn row_step(
+    row: Row,
+    a: &[u64],
+    b: &[u64],
+    lo: &[u16],
+    hi: &[u16],
+    below: &[u32],
+    here: &mut [u32],
+    words: &mut [u32],
+    offsets: &mut [f64],
+    quads: &mut [u32],
+    m: Marks,
+) -> Marks
+    requires { ⌜ RowReady (now lo) (now hi) (row .cut) (now a) (now b) (row .nx) (row .j) × RowRoom loopsOf (now lo) (now hi) (row .cut) (row .nx) (row .c) (row .first) (m .v) (now words) (now offsets) (half (row .j) (now here)) × QuadsReady row (now a) (now b) (now below) m (length (now quads)) × (length (now here) ≡ 1024) ⌝ }
+    ensures { λ r. ⌜ RowStepped loopsOf (now (lo .entry)) (now (hi .entry)) row (now (a .entry)) (now (b .entry)) (now (below .entry)) m (now (words .entry)) (now (words .exit)) (now (offsets .entry)) (now (offsets .exit)) (now (quads .entry)) (now (quads .exit)) (now (here .entry)) (now (here .exit)) r ⌝ }
+{
+    if rows::quiet(row, a, b) {
+        return m;
+    }
+    active_step(row, a, b, lo, hi, below, here, words, offsets, quads, m)
+}
+
+// The same without the question whether there is an active cube, for whoever has asked it.
+pub fn active_step(
     row: Row,
     a: &[u64],
     b: &[u64],
@@ -175,12 +198,11 @@ fn count_along(along: Along, row: Row, a: &[u64], b: &[u64]) -> usize
     4 * quads::count_row(along, a, b, row.nx, row.j)
 }
 
-// How far `row_step` with the same arguments moves the marks.
-pub fn row_counts(row: Row, a: &[u64], b: &[u64], lo: &[u16], hi: &[u16], m: Marks) -> Marks
-    requires { ⌜ RowReady (now lo) (now hi) (row .cut) (now a) (now b) (row .nx) (row .j) × RowFits row (now a) (now b) × RowFew m ⌝ }
-    ensures { λ r. ⌜ RowCounted loopsOf (now (lo .entry)) (now (hi .entry)) row (now (a .entry)) (now (b .entry)) m r ⌝ }
+// The marks moved by v vertices and by the quads from a row.
+pub fn with_quads(row: Row, a: &[u64], b: &[u64], v: usize, m: Marks) -> Marks
+    requires { ⌜ RowFits row (now a) (now b) × RowFew m × (v ≤ 1020) ⌝ }
+    ensures { λ r. ⌜ MarksBy v row (now (a .entry)) (now (b .entry)) m r ⌝ }
 {
-    let v = loop_counts::count_row(row, a, b, lo, hi);
     let x = count_along(Along::AxisX, row, a, a);
     let y = count_along(Along::AxisY, row, a, a);
     let z = count_along(Along::AxisZ, row, a, b);
@@ -190,4 +212,24 @@ pub fn row_counts(row: Row, a: &[u64], b: &[u64], lo: &[u16], hi: &[u16], m: Mar
         y: m.y + y,
         z: m.z + z,
     }
+}
+
+// How far `row_step` with the same arguments moves the marks.
+pub fn row_counts(row: Row, a: &[u64], b: &[u64], lo: &[u16], hi: &[u16], m: Marks) -> Marks
+    requires { ⌜ RowReady (now lo) (now hi) (row .cut) (now a) (now b) (row .nx) (row .j) × RowFits row (now a) (now b) × RowFew m ⌝ }
+    ensures { λ r. ⌜ RowCounted loopsOf (now (lo .entry)) (now (hi .entry)) row (now (a .entry)) (now (b .entry)) m r ⌝ }
+{
+    if rows::quiet(row, a, b) {
+        return m;
+    }
+    active_counts(row, a, b, lo, hi, m)
+}
+
+// The same without the question whether there is an active cube.
+pub fn active_counts(row: Row, a: &[u64], b: &[u64], lo: &[u16], hi: &[u16], m: Marks) -> Marks
+    requires { ⌜ RowReady (now lo) (now hi) (row .cut) (now a) (now b) (row .nx) (row .j) × RowFits row (now a) (now b) × RowFew m ⌝ }
+    ensures { λ r. ⌜ RowCounted loopsOf (now (lo .entry)) (now (hi .entry)) row (now (a .entry)) (now (b .entry)) m r ⌝ }
+{
+    let v = loop_counts::count_row(row, a, b, lo, hi);
+    with_quads(row, a, b, v, m)
 }

@@ -1,2 +1,3 @@
 pub mod CountedWords
+pub mod PlainRows
 pub mod Fixed

@@ -1,3 +1,4 @@
+pub mod Sources
 pub mod Layers
 pub mod Planes
 pub mod BufferRows

@@ -2,7 +2,7 @@
 -- Assumes nothing.
 use Prim.Native.Nat.{ℕ}
 use mathlib.Core.Path.{_≡_, ap₂, sym, _∙_, subst}
-use mathlib.Core.List.{List, [], _++_}
+use mathlib.Core.List.{List, [], _∷_, _++_}
 use native.Mathlib.Omega.{arith}
 use lib.ListN.{length}
 use lib.Ieee.{Float}
@@ -42,21 +42,23 @@ refused-by k n s cut w o q r e = record {
   quads = sym (written-refused k _ q r e);
 }
 
-module _ (nx ny nz : ℕ) (s : List ℕ) (cut : Cut) where
-  pub mesh-bad-axis : (a : ℕ) (w : List ℕ) (o : List Float) (q : List ℕ) → SizeMade nx ny nz (BadAxis a)
-      → Meshed nx ny nz s cut w o q (counted.Refused (record { number = 1; value = a })) w o q
-  mesh-bad-axis a w o q e = refused-by _ _ s _ w o q _ (order-refuses (axisRow nx ny nz) _ _ (axis-refused nx ny nz a e))
+-- the rows of a block of this size, and then rows 5 and 6
+module _ (nx ny nz : ℕ) (rows : Size → List Checked) (s : List ℕ) (cut : Cut) (w : List ℕ) (o : List Float) (q : List ℕ) where
+  abbrev behind : Size → List Checked
+  behind n = rows n ++ bufferRows (countsOf n s cut) (length w) (length o) (length q)
 
-  -- ---- a size that was made leaves it to the other rows
+  abbrev whole : Checked
+  whole = inOrder (axisRow nx ny nz ∷ behind (sizeOf nx ny nz))
 
-  pub mesh-made : (n : Size) (w : List ℕ) (o : List Float) (q : List ℕ) (r : Counted) (w′ : List ℕ) (o′ : List Float) (q′ : List ℕ) → SizeMade nx ny nz (Made n)
-      → MeshedBy (inOrder (blockRows n s cut ++ bufferRows (countsOf n s cut) (length w) (length o) (length q)))
-      n s cut w o q r w′ o′ q′
-      → Meshed nx ny nz s cut w o q r w′ o′ q′
-  mesh-made n w o q r w′ o′ q′ e h =
+  pub mesh-bad-axis : (a : ℕ) → SizeMade nx ny nz (BadAxis a) → MeshedBy whole (sizeOf nx ny nz) s cut w o q (counted.Refused (record { number = 1; value = a })) w o q
+  mesh-bad-axis a e = refused-by _ _ s _ w o q _ (order-refuses (axisRow nx ny nz) _ _ (axis-refused nx ny nz a e))
+
+  -- a size that was made leaves it to the other rows
+  pub mesh-made : (n : Size) (r : Counted) (w′ : List ℕ) (o′ : List Float) (q′ : List ℕ) → SizeMade nx ny nz (Made n) → MeshedBy (inOrder (behind n)) n s cut w o q r w′ o′ q′
+      → MeshedBy whole (sizeOf nx ny nz) s cut w o q r w′ o′ q′
+  mesh-made n r w′ o′ q′ e h =
       subst (λ (k : Checked). MeshedBy k (sizeOf nx ny nz) s cut w o q r w′ o′ q′) (sym (order-passes (axisRow nx ny nz) _ (axis-passed nx ny nz n e)))
-      (subst (λ (m : Size). MeshedBy (inOrder (blockRows m s cut ++ bufferRows (countsOf m s cut) (length w) (length o) (length q)))
-      m s cut w o q r w′ o′ q′) (size-made nx ny nz n e .0) h)
+      (subst (λ (m : Size). MeshedBy (inOrder (behind m)) m s cut w o q r w′ o′ q′) (size-made nx ny nz n e .0) h)
 
 -- ---- unique
 
@@ -70,14 +72,21 @@ said-counts-injective (counted.Refused r) (counted.Refused q) e = cc
 pub counts-fixed : (nx ny nz : ℕ) (s : List ℕ) (cut : Cut) → Fixes (CountsAnswered nx ny nz s cut)
 counts-fixed nx ny nz s cut = said-fixes saidCounts _ said-counts-injective
 
--- any two answers of `mesh`, with the three buffers at exit, that its promise allows are equal
-pub mesh-fixed : (nx ny nz : ℕ) (s : List ℕ) (cut : Cut) (w : List ℕ) (o : List Float) (q : List ℕ)
-    → Fixes (λ (x : Counted × List ℕ × List Float × List ℕ). Meshed nx ny nz s cut w o q (x .0) (x .1) (x .2) (x .3))
-mesh-fixed nx ny nz s cut w o q a b p r =
+-- any two answers of a mesh, with the three buffers at exit, that one verdict allows are equal: of `mesh_from`, and of `mesh`
+pub meshed-fixed : (k : Checked) (n : Size) (s : List ℕ) (cut : Cut) (w : List ℕ) (o : List Float) (q : List ℕ)
+    → Fixes (λ (x : Counted × List ℕ × List Float × List ℕ). MeshedBy k n s cut w o q (x .0) (x .1) (x .2) (x .3))
+meshed-fixed k n s cut w o q a b p r =
     ap₂ (λ (x : Counted) (y : List ℕ). (x, y, a .2, a .3)) (said-counts-injective (a .0) (b .0) (p .answer ∙ sym (r .answer))) (p .words ∙ sym (r .words))
     ∙ ap₂ (λ (x : List Float) (y : List ℕ). (b .0, b .1, x, y)) (p .offsets ∙ sym (r .offsets)) (p .quads ∙ sym (r .quads))
 
--- of `check_buffers`, `row_of`, `total` and `with_layers`
+pub mesh-fixed : (nx ny nz : ℕ) (s : List ℕ) (cut : Cut) (w : List ℕ) (o : List Float) (q : List ℕ)
+    → Fixes (λ (x : Counted × List ℕ × List Float × List ℕ). Meshed nx ny nz s cut w o q (x .0) (x .1) (x .2) (x .3))
+mesh-fixed nx ny nz s cut w o q = meshed-fixed _ (sizeOf nx ny nz) s cut w o q
+
+-- of `counts_from`, `check_buffers`, `row_of`, `total` and `with_layers`
+pub counts-from-fixed : (n : Size) (s : List ℕ) (cut : Cut) → Fixes (λ (r : Totals). r ≡ countsOf n s cut)
+counts-from-fixed n s cut = equation-fixes (countsOf n s cut)
+
 pub check-buffers-fixed : (t : Totals) (words offsets lent : ℕ) → Fixes (λ (r : Checked). r ≡ inOrder (bufferRows t words offsets lent))
 check-buffers-fixed t words offsets lent = equation-fixes (inOrder (bufferRows t words offsets lent))
 

@@ -1,3 +1,4 @@
+pub mod Source
 pub mod Answer
 pub mod Steps
 pub mod Writes

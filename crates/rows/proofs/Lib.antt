@@ -1,4 +1,5 @@
 pub mod Visits
 pub mod Words
 pub mod WordSteps
+pub mod Quiets
 pub mod Fixed

@@ -94,7 +94,7 @@ module _ {D : Decider} {loopsOf : Cut → List ℕ → List ℕ} (laws : CubeLaw
   act = actOf ready w hw
 
   -- a cube of the row whose bit is not set has no loop
-  quiet : (x : ℕ) → x < 64 → 64 * w + x < nx - 1 → bitsOf act x ≡ 0 → loopsAt loopsOf lo hi cut nx (64 * w + x) ≡ []
+  pub quiet : (x : ℕ) → x < 64 → 64 * w + x < nx - 1 → bitsOf act x ≡ 0 → loopsAt loopsOf lo hi cut nx (64 * w + x) ≡ []
   quiet x h l z =
       laws .quiet cut (windowCorners nx lo hi (64 * w + x)) (positive cut (cornerSample (windowCorners nx lo hi (64 * w + x)) 0))
       (active-quiet (ready .lower) (ready .upper) w x hw h (omega arith) (sym (limit-keeps (activeOf eight) (nx - 1) w x h l) ∙ z))

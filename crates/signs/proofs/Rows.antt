@@ -21,7 +21,7 @@ use Rattle.block.specs.declared.Cut.{Cut}
 use Rattle.block.specs.declared.Size.{Size}
 use Rattle.mesh_rule.specs.Grid.{metal}
 use Rattle.signs.specs.Signs.{rowSign}
-use Rattle.signs.specs.Steps.{signByte, SignBytes, BitBytes, rowFrom, fiveWords}
+use Rattle.signs.specs.Steps.{signByte, SignBytes, BitBytes, wordsOf, rowFrom, fiveWords}
 
 module _ (n : Size) (s : List ℕ) (cut : Cut) (j k : ℕ) where
   pub row-bit : (x : ℕ) → rowSign n s cut j k x ≤ 1
@@ -85,12 +85,15 @@ row-past row t w h = sym (pack-more r 0 64 (λ i a b. past i) ∙ pack-none r)
     past : (i : ℕ) → r i ≡ 0
     past i = simp (le-ltb (64 * w + i) (length row) (omega arith))
 
+-- four words gathered from the bytes, and a fifth
+pub words-of : (bytes : List ℕ) (a b c d : ℕ) → a ≡ pack (λ (i : ℕ). getD bytes (64 * 0 + i) 0) 64 → b ≡ pack (λ (i : ℕ). getD bytes (64 * 1 + i) 0) 64 → c ≡ pack (λ (i : ℕ). getD bytes (64 * 2 + i) 0) 64
+    → d ≡ pack (λ (i : ℕ). getD bytes (64 * 3 + i) 0) 64 → a ∷ b ∷ c ∷ d ∷ 0 ∷ [] ≡ wordsOf bytes
+words-of bytes a b c d ea eb ec ed = rw (ea, eb, ec, ed)
+
 -- the five words of a row of at most 256 samples
-pub five-words : (row : List ℕ) (cut : Cut) (bytes : List ℕ) (a b c d : ℕ) → length row ≤ 256 → SignBytes row (cut .t) (length row) bytes
-    → a ≡ pack (λ (i : ℕ). getD bytes (64 * 0 + i) 0) 64 → b ≡ pack (λ (i : ℕ). getD bytes (64 * 1 + i) 0) 64 → c ≡ pack (λ (i : ℕ). getD bytes (64 * 2 + i) 0) 64 → d ≡ pack (λ (i : ℕ). getD bytes (64 * 3 + i) 0) 64
-    → a ∷ b ∷ c ∷ d ∷ 0 ∷ [] ≡ fiveWords row cut
-five-words row cut bytes a b c d h is ea eb ec ed =
-    rw (← row-gathered row (cut .t) bytes 0 a is ea, ← row-gathered row (cut .t) bytes 1 b is eb, ← row-gathered row (cut .t) bytes 2 c is ec, ← row-gathered row (cut .t) bytes 3 d is ed, ← row-past row (cut .t) 4 (omega arith)) refl
+pub five-words : (row : List ℕ) (cut : Cut) (bytes : List ℕ) → length row ≤ 256 → SignBytes row (cut .t) (length row) bytes → wordsOf bytes ≡ fiveWords row cut
+five-words row cut bytes h is =
+    rw (← row-gathered row (cut .t) bytes 0 _ is refl, ← row-gathered row (cut .t) bytes 1 _ is refl, ← row-gathered row (cut .t) bytes 2 _ is refl, ← row-gathered row (cut .t) bytes 3 _ is refl, ← row-past row (cut .t) 4 (omega arith)) refl
 
 -- a row of plane k is inside the samples
 pub row-room : (nx ny nz j k : ℕ) → j < ny → k < nz → nx * (j + ny * k) + nx ≤ nx * (ny * nz)

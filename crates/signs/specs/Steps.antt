@@ -28,6 +28,11 @@ eightBytes bytes p =
     getD bytes p 0 + 256 * getD bytes (p + 1) 0 + 65536 * getD bytes (p + 2) 0 + 16777216 * getD bytes (p + 3) 0
     + 4294967296 * getD bytes (p + 4) 0 + 1099511627776 * getD bytes (p + 5) 0 + 281474976710656 * getD bytes (p + 6) 0 + 72057594037927936 * getD bytes (p + 7) 0
 
+-- 256 bytes of 0 or 1 as four words, and a fifth of 0
+abbrev pub wordsOf : List ℕ → List ℕ
+wordsOf bytes =
+    pack (λ (i : ℕ). getD bytes (64 * 0 + i) 0) 64 ∷ pack (λ (i : ℕ). getD bytes (64 * 1 + i) 0) 64 ∷ pack (λ (i : ℕ). getD bytes (64 * 2 + i) 0) 64 ∷ pack (λ (i : ℕ). getD bytes (64 * 3 + i) 0) 64 ∷ 0 ∷ []
+
 -- word w of a row of nx samples whose first has the index base
 unfoldable pub rowFrom : List ℕ → ℕ → ℕ → ℕ → ℕ → ℕ
 rowFrom s t base nx w = pack (λ (i : ℕ). bit (ltb (64 * w + i) nx && leb t (getD s (64 * w + i + base) 0))) 64

@@ -13,7 +13,7 @@ ghost use Rattle.laws.specs.Pack.{pack};
 ghost use Rattle.block.specs.Numbering.{sampleCount};
 ghost use Rattle.block.specs.Size.{Limits};
 ghost use Rattle.signs.specs.Signs.{planeWords};
-ghost use Rattle.signs.specs.Steps.{SignBytes, BitBytes, eightBytes, fiveWords};
+ghost use Rattle.signs.specs.Steps.{SignBytes, BitBytes, eightBytes, wordsOf, fiveWords};
 
 // The words of plane k, five to a row, at the front of a buffer for the largest plane.
 pub fn plane_signs(size: Size, samples: &[u16], cut: Cut, k: usize, plane: &mut [u64])
@@ -36,10 +36,18 @@ pub fn row_signs(row: &[u16], cut: Cut, plane: &mut [u64], j: usize)
     ensures { λ _. ⌜ now (plane .exit) ≡ sets (now (plane .entry)) (5 * j) (fiveWords (now (row .entry)) cut) ⌝ }
 {
     let bytes = row_bytes(row, cut.t);
-    let a = gathered(&bytes, 0);
-    let b = gathered(&bytes, 1);
-    let c = gathered(&bytes, 2);
-    let d = gathered(&bytes, 3);
+    put_signs(&bytes, plane, j);
+}
+
+// The five words of a row whose signs are bytes of 0 or 1, as row j of a plane.
+pub fn put_signs(bytes: &[u8], plane: &mut [u64], j: usize)
+    requires { ⌜ (length (now bytes) ≡ 256) × BitBytes (now bytes) × (5 * j + 5 ≤ length (now plane)) ⌝ }
+    ensures { λ _. ⌜ now (plane .exit) ≡ sets (now (plane .entry)) (5 * j) (wordsOf (now (bytes .entry))) ⌝ }
+{
+    let a = gathered(bytes, 0);
+    let b = gathered(bytes, 1);
+    let c = gathered(bytes, 2);
+    let d = gathered(bytes, 3);
     put_five(plane, 5 * j, a, b, c, d, 0);
 }
 

@@ -1,6 +1,7 @@
 -- `mesh` meets its promise: row 1 refuses, or the size is made and the other rows decide.
 -- Assumes nothing.
 use mathlib.Core.Path.{subst}
+use Rattle.block.specs.Block.{blockRows}
 use Rattle.block.specs.Size.{SizeMade}
 use Rattle.block.proofs.Sizes.{size-made}
 use Rattle.mesh.proofs.Verdicts.{mesh-bad-axis, mesh-made}
@@ -38,7 +39,7 @@ returns : tie.Need-returns
 returns c =
     let n = c .before .before .before in
     let a = start n in
-    mesh-bad-axis (a .args .nx) (a .args .ny) (a .args .nz) (a .args .samples .now) (a .args .cut) _ (a .args .words .now) (a .args .offsets .now) (a .args .quads .now)
+    mesh-bad-axis (a .args .nx) (a .args .ny) (a .args .nz) (λ n. blockRows n (a .args .samples .now) (a .args .cut)) (a .args .samples .now) (a .args .cut) (a .args .words .now) (a .args .offsets .now) (a .args .quads .now) _
     (subst (SizeMade (a .args .nx) (a .args .ny) (a .args .nz)) (c .before .made .given .1) (n .new .ensures))
 
 same-length : tie.Need-same-length
@@ -55,7 +56,7 @@ returns-2 c =
     let r = c .before .before .before .before .before .before in
     let m = r .before .before .before .before .before in
     let a = start (asked m) in
-    mesh-made (a .args .nx) (a .args .ny) (a .args .nz) (a .args .samples .now) (a .args .cut) _ (a .args .words .now) (a .args .offsets .now) (a .args .quads .now) (r .mesh-of .result) _ _ _
+    mesh-made (a .args .nx) (a .args .ny) (a .args .nz) (λ n. blockRows n (a .args .samples .now) (a .args .cut)) (a .args .samples .now) (a .args .cut) (a .args .words .now) (a .args .offsets .now) (a .args .quads .now) _ (r .mesh-of .result) _ _ _
     (subst (SizeMade (a .args .nx) (a .args .ny) (a .args .nz)) (m .made2 .given .1) (asked m .new .ensures)) (r .mesh-of .ensures)
 
 pub mesh-spec : {M : Type 1} → statement M

@@ -10,6 +10,7 @@ use Rattle.cube_rule.specs.Decider.{loopsOf}
 use Rattle.vertices.proofs.Layers.{row-bounds}
 use Rattle.quads.specs.Writing.{RowTable}
 use Rattle.layers.proofs.Halves.{lent-half, half-long, put-long, put-here, put-other}
+use Rattle.mesh.specs.Source.{blockOf}
 use Rattle.mesh.specs.Writes.{rowsCount}
 use Rattle.mesh.proofs.Belows.{rows-le, read-row}
 use Rattle.mesh.proofs.Layers.{layer-words-length}
@@ -24,10 +25,14 @@ some ne = omega arith
 
 -- the places that the proof names: the entry, the axis lengths read
 abbrev start : tie.After-ny → tie.Start
-start d = d .before .before .before .before .before .before
+start d = d .before .before .before .before .before .before .before
 
 abbrev sized : tie.After-note-row → tie.After-ny
 sized r = r .before .before .before
+
+-- the block
+abbrev block : tie.Start → List ℕ
+block s = blockOf (s .args .source) (now (s .args .samples)) (now (s .args .readings))
 
 -- the layer is not the first
 under-it : (d : tie.After-ny) → 0 < start d .args .k
@@ -62,7 +67,7 @@ noted-long d =
     d .note-row .kept .1 .1 .1 .1 .1 .0 ∙ ap length (lent-half (s .args .j) t) ∙ half-long (s .args .j) t (s .pre .long)
 
 returns : tie.Need-returns
-returns c = record { long = c .before .before .before .before .pre .long; kept = refl; passed-is = λ h. absurd (omega (arith, c .if1 .taken)); noted = λ h. absurd (omega (arith, c .if1 .taken)) }
+returns c = record { long = c .before .before .before .before .before .pre .long; kept = refl; passed-is = λ h. absurd (omega (arith, c .if1 .taken)); noted = λ h. absurd (omega (arith, c .if1 .taken)) }
 
 mul-low : tie.Need-mul-low
 mul-low c = omega (arith, start c .pre .order (under-it c), start c .pre .few (under-it c))
@@ -108,7 +113,7 @@ note-row-requires c κs =
     let d = c .before .before in
     let s = start d in
     let h = under-it d in
-    let samples = now (s .args .samples) in
+    let samples = block s in
     let z = s .args .k - 1 in (
       omega (arith, s .pre .passed-is h, ap length (s .pre .part h), layer-words-length (s .args .size) samples (s .args .cut) z, rows-le (s .args .size) samples (s .args .cut) (s .args .j) z (omega (arith, s .pre .row))),
       omega (arith, d .before .nx .ensures, s .pre .limits .x-high),
@@ -118,12 +123,12 @@ note-row-requires c κs =
 
 -- the row as it is read back
 row-read : (r : tie.After-note-row) → let s = start (sized r) in let j = s .args .j in let z = s .args .k - 1 in 0 < s .args .k →
-    (r .note-row .result ≡ rowsCount loopsOf (s .args .size) (now (s .args .samples)) (s .args .cut) (j + 1) z)
-    × RowTable loopsOf (s .args .size) (now (s .args .samples)) (s .args .cut) j z (noted r)
+    (r .note-row .result ≡ rowsCount loopsOf (s .args .size) (block s) (s .args .cut) (j + 1) z)
+    × RowTable loopsOf (s .args .size) (block s) (s .args .cut) j z (noted r)
 row-read r h =
     let d = sized r in
     let s = start d in
-    read-row (s .args .size) (now (s .args .samples)) (s .args .cut) (s .args .j) (s .args .k - 1) _ _ _ _ _ _ _ (d .before .nx .ensures) (d .ny .ensures)
+    read-row (s .args .size) (block s) (s .args .cut) (s .args .j) (s .args .k - 1) _ _ _ _ _ _ _ (d .before .nx .ensures) (d .ny .ensures)
     (s .pre .passed-is h) (s .pre .part h) (s .pre .below-is h) (s .pre .row) (r .note-row .ensures .0)
 
 returns-2 : tie.Need-returns-2
@@ -138,7 +143,7 @@ returns-2 c =
       long = put-long j t (noted r) l p;
       kept = put-other j t (noted r) l p;
       passed-is = λ h. row-read r h .0;
-      noted = λ h. subst (RowTable loopsOf (s .args .size) (now (s .args .samples)) (s .args .cut) j (s .args .k - 1)) (sym (put-here j t (noted r) l p)) (row-read r h .1);
+      noted = λ h. subst (RowTable loopsOf (s .args .size) (block s) (s .args .cut) j (s .args .k - 1)) (sym (put-here j t (noted r) l p)) (row-read r h .1);
     }
 
 pub note-below-spec : {M : Type 1} → statement M

@@ -1,149 +1,71 @@
--- `step_row` meets its contract: the row's windows are lent, and what is written is what the block has there.
+-- `step_row` meets its contract: what is so of the list that is read is so of the block.
 -- Assumes nothing.
-use Prim.Native.Nat.{_+_, _*_, _-_, _≤_, _<_}
-use native.Mathlib.Omega.{arith}
 use borrow.Author.Needs.{needs}
 use denote.Ref.{now}
-use Rattle.vertices.proofs.CubeCorners.{Windows}
-use Rattle.vertices.proofs.Layers.{row-bounds, low-fits, high-fits, lentLow, lentHigh, lent-windows}
-use Rattle.mesh.proofs.RowSteps.{step-ready, row-more, underway-number, underway-roomy}
+use Rattle.cube_rule.specs.Decider.{loopsOf}
+use Rattle.vertices.specs.Layers.{Ready}
+use Rattle.mesh.specs.Steps.{Meshable}
+use Rattle.mesh.specs.Writes.{TablesReady, Underway, RowMore}
+use Rattle.mesh.proofs.Sources.{of-samples, for-samples, of-readings, for-readings}
 use Rattle.mesh.proofs.step_row.Statement.{statement}
 use Rattle.mesh.proofs.step_row.Tie as tie
 
--- the places that the proof names: the entry, the row made
-abbrev entry : tie.After-nx → tie.Start
-entry n = n .before .before .before .before .before .before .before .before .before
+step-samples-requires : tie.Need-step-samples-requires
+step-samples-requires c κs =
+    let s = c .before .before .before .before .before .before .before .before .before .before .before .before .before .before .before in
+    let a = s .args in
+    let e = c .before .before .before .before .enum-told .given .1 in (
+      of-samples (now (a .samples)) (now (a .readings)) (λ l. Ready (a .size) l (a .cut) (now (a .a)) (now (a .b)) (a .k)) e (s .pre .0),
+      of-samples (now (a .samples)) (now (a .readings)) (λ l. Meshable (a .size) l (a .cut)) e (s .pre .1),
+      of-samples (now (a .samples)) (now (a .readings)) (λ l. TablesReady loopsOf (a .size) l (a .cut) (a .j) (a .k) (now (a .under)) (now (a .tab))) e (s .pre .2),
+      of-samples (now (a .samples)) (now (a .readings)) (λ l. Underway loopsOf (a .size) l (a .cut) (a .j) (a .k) (a .m) (now (a .words)) (now (a .offsets)) (now (a .quads))) e (s .pre .3),
+    )
 
-abbrev start : tie.After-ny → tie.Start
-start d = entry (d .before)
-
-abbrev row-made : tie.After-row-step → tie.After-row-of
-row-made w = w .before .before .before .before .before .before .before
-
--- the row's numbers fit
-bounds : (d : tie.After-ny) → let a = start d .args in let nx = d .before .nx .result in let ny = d .ny .result in
-    (nx * ny ≤ 65536) × (ny * a .k ≤ 65024) × (nx * (a .j + ny * a .k) ≤ 16711168) × ((ny - 1) * a .k ≤ 64770) × ((nx - 1) * (a .j + (ny - 1) * a .k) ≤ 16581120)
-bounds d =
-    let s = start d in
-    row-bounds (s .args .size) _ _ _ _ (s .pre .0 .limits) (d .before .nx .ensures) (d .ny .ensures) (s .pre .2 .row) (s .pre .0 .inside)
-
-nx-few : (d : tie.After-ny) → (d .before .nx .result ≤ 256) × (start d .args .j < 256)
-nx-few d =
-    let s = start d in
-    (omega (arith, d .before .nx .ensures, s .pre .0 .limits .x-high), omega (arith, s .pre .2 .row, s .pre .0 .limits .y-high))
-
--- its windows as they are lent
-windows : (d : tie.After-ny) → let s = start d in let n = d .before .nx in
-    Windows (s .args .size) (now (s .args .samples)) (s .args .j) (s .args .k)
-    (lentLow (s .pre .0) (s .args .j) (n .result) (d .ny .result) (n .ensures) (d .ny .ensures) (s .pre .2 .row))
-    (lentHigh (s .pre .0) (s .args .j) (n .result) (d .ny .result) (n .ensures) (d .ny .ensures) (s .pre .2 .row))
-windows d =
-    let s = start d in
-    lent-windows (s .pre .0) (s .args .j) _ _ (d .before .nx .ensures) (d .ny .ensures) (s .pre .2 .row)
-
-mul-p : tie.Need-mul-p
-mul-p c = omega (arith, bounds c, nx-few c)
-
-add-p : tie.Need-add-p
-add-p c = omega (arith, bounds c, nx-few c)
-
-mul-p-2 : tie.Need-mul-p-2
-mul-p-2 c = omega (arith, bounds c, nx-few c)
-
-mul-q : tie.Need-mul-q
-mul-q c = omega (arith, bounds c, nx-few c)
-
-add-q : tie.Need-add-q
-add-q c = omega (arith, bounds c, nx-few c)
-
-mul-row-step : tie.Need-mul-row-step
-mul-row-step c = omega (arith, bounds (c .before), nx-few (c .before))
-
-add-row-step : tie.Need-add-row-step
-add-row-step c = omega (arith, bounds (c .before), nx-few (c .before))
-
-mul-row-step-2 : tie.Need-mul-row-step-2
-mul-row-step-2 c = omega (arith, bounds (c .before), nx-few (c .before))
-
-sub-row-step : tie.Need-sub-row-step
-sub-row-step c = omega (arith, bounds (c .before), nx-few (c .before))
-
-part-row-step-start : tie.Need-part-row-step-start
-part-row-step-start c = omega (arith, bounds (c .before), nx-few (c .before))
-
-part-row-step-end : tie.Need-part-row-step-end
-part-row-step-end c =
-    let d = c .before in
-    let s = start d in
-    low-fits (s .args .size) (now (s .args .samples)) (s .args .j) (s .args .k) _ _ (d .before .nx .ensures) (d .ny .ensures) (s .pre .0 .samples) (s .pre .2 .row) (s .pre .0 .inside)
-
-mul-row-step-3 : tie.Need-mul-row-step-3
-mul-row-step-3 c = omega (arith, bounds (c .before .before), nx-few (c .before .before))
-
-add-row-step-2 : tie.Need-add-row-step-2
-add-row-step-2 c = omega (arith, bounds (c .before .before), nx-few (c .before .before))
-
-mul-row-step-4 : tie.Need-mul-row-step-4
-mul-row-step-4 c = omega (arith, bounds (c .before .before), nx-few (c .before .before))
-
-sub-row-step-2 : tie.Need-sub-row-step-2
-sub-row-step-2 c = omega (arith, bounds (c .before .before), nx-few (c .before .before))
-
-part-row-step-start-2 : tie.Need-part-row-step-start-2
-part-row-step-start-2 c = omega (arith, bounds (c .before .before), nx-few (c .before .before))
-
-part-row-step-end-2 : tie.Need-part-row-step-end-2
-part-row-step-end-2 c =
-    let d = c .before .before in
-    let s = start d in
-    high-fits (s .args .size) (now (s .args .samples)) (s .args .j) (s .args .k) _ _ (d .before .nx .ensures) (d .ny .ensures) (s .pre .0 .samples) (s .pre .2 .row) (s .pre .0 .inside)
-
-row-of-requires : tie.Need-row-of-requires
-row-of-requires c κs =
-    let r = start c .pre in
-    (r .0 .limits, r .2 .row, r .0 .inside)
-
-row-step-requires : tie.Need-row-step-requires
-row-step-requires c κs =
-    let m = c .before .before .before .before .before .before in
-    let s = start (m .before) in
-    let r = s .pre in
-    step-ready (r .0) (r .2 .row) (r .1 .threshold) (underway-roomy (r .3) (r .0 .limits) (r .2 .row) (r .0 .inside)) (now (s .args .under)) (now (s .args .tab)) (r .2 .under-long) (r .2 .tab-long) (windows (m .before)) _ (m .row-of .ensures)
+step-readings-requires : tie.Need-step-readings-requires
+step-readings-requires c κs =
+    let s = c .before .before .before .before .before .before .before .before .before .before .before .before .before .before .before in
+    let a = s .args in
+    let e = c .before .before .before .before .enum-told2 .given .1 in (
+      of-readings (now (a .samples)) (now (a .readings)) (λ l. Ready (a .size) l (a .cut) (now (a .a)) (now (a .b)) (a .k)) e (s .pre .0),
+      of-readings (now (a .samples)) (now (a .readings)) (λ l. Meshable (a .size) l (a .cut)) e (s .pre .1),
+      of-readings (now (a .samples)) (now (a .readings)) (λ l. TablesReady loopsOf (a .size) l (a .cut) (a .j) (a .k) (now (a .under)) (now (a .tab))) e (s .pre .2),
+      of-readings (now (a .samples)) (now (a .readings)) (λ l. Underway loopsOf (a .size) l (a .cut) (a .j) (a .k) (a .m) (now (a .words)) (now (a .offsets)) (now (a .quads))) e (s .pre .3),
+      s .pre .4 e,
+    )
 
 returns : tie.Need-returns
 returns c =
-    let w = c .before .before .before .before .before .before .before .before in
-    let m = row-made w in
-    let r = start (m .before) .pre in
-    row-more (r .0) (r .2) (underway-number (r .3)) (windows (m .before)) _ (m .row-of .ensures) (w .row-step .ensures)
+    let k = c .before .before .before .before .before .before .before .before in
+    let a = k .before .before .before .before .before .before .before .before .before .before .before .before .before .before .before .before .args in
+    let l = k .step-samples .last in
+    for-samples (now (a .samples)) (now (a .readings))
+    (λ s. RowMore loopsOf (a .size) s (a .cut) (a .j) (a .k) (a .m) (k .step-samples .result) (now (a .words)) (l .1 .1 .1 .1 .1 .1 .1 .1 .0) (now (a .offsets)) (l .1 .1 .1 .1 .1 .1 .1 .1 .1 .0) (now (a .quads)) (l .1 .1 .1 .1 .1 .1 .1 .1 .1 .1 .0) (l .1 .1 .1 .1 .1 .1 .1 .1 .1 .1 .1 .1 .0))
+    (k .before .before .before .before .before .enum-told .given .1) (k .step-samples .ensures)
+
+returns-2 : tie.Need-returns-2
+returns-2 c =
+    let k = c .before .before .before .before .before .before .before .before in
+    let a = k .before .before .before .before .before .before .before .before .before .before .before .before .before .before .before .before .args in
+    let l = k .step-readings .last in
+    for-readings (now (a .samples)) (now (a .readings))
+    (λ s. RowMore loopsOf (a .size) s (a .cut) (a .j) (a .k) (a .m) (k .step-readings .result) (now (a .words)) (l .1 .1 .1 .1 .1 .1 .1 .1 .0) (now (a .offsets)) (l .1 .1 .1 .1 .1 .1 .1 .1 .1 .0) (now (a .quads)) (l .1 .1 .1 .1 .1 .1 .1 .1 .1 .1 .0) (l .1 .1 .1 .1 .1 .1 .1 .1 .1 .1 .1 .1 .0))
+    (k .before .before .before .before .before .enum-told2 .given .1) (k .step-readings .ensures)
 
 pub step-row-spec : {M : Type 1} → statement M
 step-row-spec =
     tie.close
     (tie.spec
-    (λ c κs. search needs)
-    (λ c κs. search needs)
-    mul-p
-    add-p
-    mul-p-2
-    mul-q
-    add-q
-    row-of-requires
-    mul-row-step
-    add-row-step
-    mul-row-step-2
-    sub-row-step
-    part-row-step-start
-    part-row-step-end
-    mul-row-step-3
-    add-row-step-2
-    mul-row-step-4
-    sub-row-step-2
-    part-row-step-start-2
-    part-row-step-end-2
-    row-step-requires
+    (λ c. search needs)
+    step-samples-requires
+    (λ c. search needs)
+    step-readings-requires
     (λ c. search needs)
     (λ c. search needs)
     (λ c. search needs)
     (λ c. search needs)
-    returns)
+    returns
+    (λ c. search needs)
+    (λ c. search needs)
+    (λ c. search needs)
+    (λ c. search needs)
+    returns-2)

@@ -1,116 +1,12 @@
--- `with_layers` meets its contract. The loop's invariant: a has the signs of plane k, and the layers before k are counted. The measure is
--- what is left of the layers. Assumes nothing.
-use Prim.Native.Nat.{_+_, _-_, _≤_}
-use mathlib.Core.Path.{_≡_, refl, subst}
-use native.Mathlib.Omega.{arith}
-use lib.ListN.{length}
+-- `with_layers` meets its contract: no reading is read.
+-- Assumes nothing.
 use borrow.Author.Needs.{needs}
-use Rattle.cube_rule.specs.Decider.{loopsOf}
-use Rattle.signs.specs.Signs.{Plane}
-use Rattle.signs.proofs.Planes.{plane-of}
-use Rattle.mesh.specs.Steps.{Counting}
+use Rattle.mesh.proofs.Sources.{not-readings}
 use Rattle.mesh.proofs.with_layers.Statement.{statement}
 use Rattle.mesh.proofs.with_layers.Tie as tie
 
-abbrev Inv-loop : tie.InvT-loop
-Inv-loop size samples cut from to a₀ b₀ w₀ k₀ a b w k = (k ≤ to) × Plane size samples cut k a × (length b ≡ 1280) × Counting loopsOf size samples cut 0 k w
-
-abbrev μ-loop : tie.MeasureT-loop
-μ-loop size samples cut from to a₀ b₀ w₀ k₀ a b w k = to - k
-
--- the places that the proof names: the entry, the loop's head
-abbrev start : tie.At-loop Inv-loop μ-loop → tie.Start Inv-loop μ-loop
-start l = l .before .before .before .before .before
-
-abbrev at-loop : tie.After-plane-signs2 Inv-loop μ-loop → tie.At-loop Inv-loop μ-loop
-at-loop p = p .before .before .before
-
-slice-aggregate-plane-signs : tie.Need-slice-aggregate-plane-signs Inv-loop μ-loop
-slice-aggregate-plane-signs c = search needs
-
-plane-signs-requires : tie.Need-plane-signs-requires Inv-loop μ-loop
-plane-signs-requires c κs = search needs
-
-loop-holds : tie.Need-loop-holds Inv-loop μ-loop
-loop-holds c =
-    let a = c .before .before .before .before in (
-      a .pre .1,
-      plane-of (a .args .size) (a .args .samples .now) (a .args .cut) (a .args .from) _ _ (a .pre .0 .limits) refl (c .before .plane-signs .ensures),
-      refl,
-      a .pre .3,
-    )
-
-add-plane-signs : tie.Need-add-plane-signs Inv-loop μ-loop
-add-plane-signs c = search needs
-
-slice-aggregate-plane-signs-2 : tie.Need-slice-aggregate-plane-signs-2 Inv-loop μ-loop
-slice-aggregate-plane-signs-2 c = search needs
-
-plane-signs-requires-2 : tie.Need-plane-signs-requires-2 Inv-loop μ-loop
-plane-signs-requires-2 c κs = search needs
-
--- the signs of the upper plane
-upper-of : (p : tie.After-plane-signs2 Inv-loop μ-loop) → let l = at-loop p in let a = start l in
-    Plane (a .args .size) (a .args .samples .now) (a .args .cut) (l .loop .k + 1) (p .plane-signs2 .last .1 .1 .1 .1 .0)
-upper-of p =
-    let l = at-loop p in
-    let a = start l in
-    plane-of (a .args .size) (a .args .samples .now) (a .args .cut) (l .loop .k + 1) _ _ (a .pre .0 .limits) (l .loop .inv .2) (p .plane-signs2 .ensures)
-
-slice-aggregate-with-layer : tie.Need-slice-aggregate-with-layer Inv-loop μ-loop
-slice-aggregate-with-layer c = search needs
-
-slice-aggregate-with-layer-2 : tie.Need-slice-aggregate-with-layer-2 Inv-loop μ-loop
-slice-aggregate-with-layer-2 c = search needs
-
-with-layer-requires : tie.Need-with-layer-requires Inv-loop μ-loop
-with-layer-requires c κs =
-    let p = c .before .before .before in
-    let l = at-loop p in
-    let a = start l in (
-      record {
-        limits = a .pre .0 .limits;
-        samples = a .pre .0 .samples;
-        lower = l .loop .inv .1;
-        upper = upper-of p;
-        inside = omega (arith, a .pre .2, p .before .before .loop-test .taken);
-      },
-      l .loop .inv .3,
-    )
-
-add-k : tie.Need-add-k Inv-loop μ-loop
-add-k c = search needs
-
-loop-less : tie.Need-loop-less Inv-loop μ-loop
-loop-less c = search needs
-
-loop-again : tie.Need-loop-again Inv-loop μ-loop
-loop-again c =
-    let u = upper-of (c .before .before .before .before) in
-    (omega arith, u, u .room, c .with-layer .ensures)
-
-returns : tie.Need-returns Inv-loop μ-loop
-returns c =
-    let l = c .before in
-    let a = start l in
-    subst (λ k. Counting loopsOf (a .args .size) (a .args .samples .now) (a .args .cut) 0 k (l .loop .w)) (omega (arith, l .loop .inv .0, c .loop-test .left)) (l .loop .inv .3)
+layers-from-requires : tie.Need-layers-from-requires
+layers-from-requires c κs = let a = c .before .before in (a .pre .0, λ e. absurd (not-readings e), a .pre .1, a .pre .2, a .pre .3)
 
 pub with-layers-spec : {M : Type 1} → statement M
-with-layers-spec =
-    tie.close
-    (tie.spec
-    Inv-loop
-    μ-loop
-    slice-aggregate-plane-signs
-    plane-signs-requires
-    loop-holds
-    add-plane-signs
-    slice-aggregate-plane-signs-2
-    plane-signs-requires-2
-    slice-aggregate-with-layer
-    slice-aggregate-with-layer-2
-    with-layer-requires
-    add-k
-    loop-less
-    loop-again
-    returns)
+with-layers-spec = tie.close (tie.spec (λ c. search needs) layers-from-requires (λ c. search needs))

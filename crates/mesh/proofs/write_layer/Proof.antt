@@ -4,6 +4,7 @@
 use Prim.Native.Nat.{_+_, _-_, _≤_, _<_}
 use mathlib.Core.Path.{refl}
 use denote.Ref.{now}
+use Rattle.mesh.specs.Source.{blockOf}
 use Rattle.mesh.proofs.LayerSteps.{RowState, state-start, below-ready, tables-ready, row-underway, state-more, state-words, state-offsets, state-quads}
 use Rattle.mesh.proofs.Writings.{writing-layer}
 use borrow.Author.Needs.{needs}
@@ -12,15 +13,15 @@ use Rattle.mesh.proofs.write_layer.Statement.{statement}
 use Rattle.mesh.proofs.write_layer.Tie as tie
 
 abbrev Inv-loop : tie.InvT-loop
-Inv-loop below size samples cut a b k words₀ offsets₀ quads₀ first rows under₀ tab₀ passed₀ w₀ j₀ words offsets quads under tab passed w j =
-    (j ≤ size .ny - 1) × RowState size samples cut j k w₀ words₀ offsets₀ quads₀ passed under tab w words offsets quads
+Inv-loop below size source samples readings cut a b k words₀ offsets₀ quads₀ first rows under₀ tab₀ passed₀ w₀ j₀ words offsets quads under tab passed w j =
+    (j ≤ size .ny - 1) × RowState size (blockOf source samples readings) cut j k w₀ words₀ offsets₀ quads₀ passed under tab w words offsets quads
 
 abbrev μ-loop : tie.MeasureT-loop
-μ-loop below size samples cut a b k words₀ offsets₀ quads₀ first rows under₀ tab₀ passed₀ w₀ j₀ words offsets quads under tab passed w j = size .ny - 1 - j
+μ-loop below size source samples readings cut a b k words₀ offsets₀ quads₀ first rows under₀ tab₀ passed₀ w₀ j₀ words offsets quads under tab passed w j = size .ny - 1 - j
 
 -- the places that the proof names: the entry, the loop's head, the turn's start, the row below noted, the row written
 abbrev entry : tie.After-ny Inv-loop μ-loop → tie.Start Inv-loop μ-loop
-entry y = y .before .before .before .before .before .before .before
+entry y = y .before .before .before .before .before .before .before .before
 
 abbrev start : tie.In-loop Inv-loop μ-loop → tie.Start Inv-loop μ-loop
 start d = entry (d .before .before)
@@ -64,6 +65,7 @@ step-row-requires c κs =
       s .pre .1,
       tables-ready (s .pre .0) (s .pre .1) (s .pre .3) (in-layer d) st l,
       row-underway (s .pre .0) (s .pre .1) (s .pre .3) (in-layer d) st l,
+      s .pre .4,
     )
 
 add-j : tie.Need-add-j Inv-loop μ-loop
@@ -98,7 +100,7 @@ returns c =
     let y = c .before .before in
     let s = entry y in
     λ w₀ o₀ q₀ room x.
-    writing-layer (s .args .size) (now (s .args .samples)) (s .args .cut) (h .j) (s .args .k)
+    writing-layer (s .args .size) (blockOf (s .args .source) (now (s .args .samples)) (now (s .args .readings))) (s .args .cut) (h .j) (s .args .k)
     (omega (arith, c .loop-test .left, y .ny .ensures, h .inv .0, s .pre .0 .limits .y-low)) (h .inv .1 .writing w₀ o₀ q₀ room x)
 
 pub write-layer-spec : {M : Type 1} → statement M

@@ -1,0 +1,7 @@
+pub mod Example
+pub mod Wholes
+pub mod Floor
+pub mod Cases
+pub mod Rows
+pub mod Readings
+pub mod Fixed
