@@ -1,10 +1,10 @@
 /* Times the library and the plain implementation on one block. Usage: bench file nx ny nz t mesh.ply sealed.ply, the
    file raw little-endian 16-bit numbers, x fastest; or bench room file nx ny nz t, see room_... below; or bench
-   thresholds file nx ny nz t, see row_... below; or bench planes file nx ny nz t, see planes_... below; or bench worst,
-   see worst_... below. Writes the mesh to mesh.ply, with a spacing of 0.1 millimetres along each axis. Where a sample
-   on the six faces of the box is metal, the block is then sealed: all samples there become 0. The mesh of the sealed
-   block is written to sealed.ply; of a block that needs no sealing there is no such file. Prints a line for each figure,
-   its name and its value:
+   thresholds file nx ny nz t, see row_... below; or bench planes file nx ny nz t, see planes_... below; or bench
+   readings file nx ny nz t readings, see readings_... below; or bench worst, see worst_... below. Writes the mesh to
+   mesh.ply, with a spacing of 0.1 millimetres along each axis. Where a sample on the six faces of the box is metal, the
+   block is then sealed: all samples there become 0. The mesh of the sealed block is written to sealed.ply; of a block
+   that needs no sealing there is no such file. Prints a line for each figure, its name and its value:
      crossed, rim, doubtful  crossed edges, steps out of the block from metal samples, faces with four crossed edges
      vertices, quads         of the mesh
      counts, mesh            seconds of the library's two calls; mesh writes into memory that was written to before
@@ -47,6 +47,17 @@
      planes_slowest_ratio    the slowest call of the planes of a run divided by all its calls
      planes_count            how many planes there are
      planes_bytes            of the buffers that the planes are lent, the work among them; without the plane itself
+     readings_counts         seconds of the library's call readings_counts, on the readings in the file of that name,
+                             raw little-endian 32-bit floats; bench readings prints this and the next eight, with
+                             crossed, and nothing else
+     grey_counts             seconds of the library's call counts on the samples that the readings count as
+     readings_counts_ratio   the first divided by the second, of one run; a run is the one and then the other; there is
+                             a line for each run
+     readings_mesh, grey_mesh, readings_mesh_ratio
+                             the same of the library's calls readings_mesh and mesh, each into memory of its own that
+                             was written to before
+     readings_whole, grey_whole, readings_whole_ratio
+                             the same of counts, of taking memory of that size by malloc, and of mesh, in one go
      worst_...               vertices, quads, pieces, piece_count and longest of a list of quads that makes the longest
                              search as long as it can be; bench worst prints these alone. They are of no block, so
                              bench/run asks once
@@ -57,7 +68,9 @@
    may join two pieces, and the pieces' numbers, sizes and count must fit together. The crossed edges must be as many as
    are counted here from the samples alone, and as plain says. Three times the vertices may not be more than four times
    the crossed edges, nor the quads more than they are. In each run the one call for the thresholds and the 12 calls
-   must give the same counts. The parts that the planes give must be the mesh when they are put together. */
+   must give the same counts. The parts that the planes give must be the mesh when they are put together. Each reading
+   must be its sample and a fraction below 1, and the counts and the meshes of the readings must be those of the
+   samples, bit by bit. */
 #define _POSIX_C_SOURCE 199309L
 
 #include "../include/parsniprow.h"
@@ -802,6 +815,128 @@ static void print_planes(void)
     free(planes.work);
 }
 
+/* The readings and the samples that they count as are asked by turns, so each has counts, and a mesh in memory that was
+   written to before. The mesh in memory that a run took is given back before the next run, of whichever of the two: so
+   malloc finds the same for both. */
+struct readings {
+    const float *values;
+    uint32_t counted[ANSWER], grey_counted[ANSWER];
+    struct mesh lent, grey_lent;
+    struct whole grey;
+};
+
+static void ask_readings_counts(const struct readings *readings, uint32_t *answer)
+{
+    parsniprow_readings_counts(block.length[0], block.length[1], block.length[2], readings->values, block.sample_count,
+                               block.t, answer, ANSWER);
+    if (answer[0] != 0)
+        stop("a count of readings was refused");
+}
+
+static void ask_readings_mesh(const struct readings *readings, const struct mesh *mesh)
+{
+    uint32_t answer[ANSWER];
+    parsniprow_readings_mesh(block.length[0], block.length[1], block.length[2], readings->values, block.sample_count,
+                             block.t, mesh->words, 2 * mesh->vertex_count, mesh->offsets, 3 * mesh->vertex_count,
+                             mesh->quads, 4 * mesh->quad_count, answer, ANSWER);
+    if (answer[0] != 0)
+        stop("the mesh of readings was refused");
+}
+
+static double readings_counts_seconds(void *with)
+{
+    struct readings *readings = with;
+    double from = now();
+    ask_readings_counts(readings, readings->counted);
+    return now() - from;
+}
+
+static double grey_counts_seconds(void *with)
+{
+    struct readings *readings = with;
+    return asked_seconds(parsniprow_counts, readings->grey_counted);
+}
+
+static double readings_mesh_seconds(void *with)
+{
+    struct readings *readings = with;
+    double from = now();
+    ask_readings_mesh(readings, &readings->lent);
+    return now() - from;
+}
+
+static double grey_mesh_seconds(void *with)
+{
+    struct readings *readings = with;
+    return mesh_seconds(&readings->grey_lent);
+}
+
+/* As whole_seconds. */
+static double readings_whole_seconds(void *with)
+{
+    struct readings *readings = with;
+    struct mesh *left = &readings->grey.left;
+    uint32_t answer[ANSWER];
+    double from;
+    give_back(left);
+    from = now();
+    ask_readings_counts(readings, answer);
+    *left = room_for(answer);
+    ask_readings_mesh(readings, left);
+    return now() - from;
+}
+
+static double grey_whole_seconds(void *with)
+{
+    struct readings *readings = with;
+    return whole_seconds(&readings->grey);
+}
+
+/* A fraction below 1 changes no side of the threshold, so a peer that takes the readings as they are crosses the same
+   edges. */
+static void check_readings(const float *values)
+{
+    for (size_t index = 0; index < block.sample_count; index++)
+        if (!(values[index] >= (float)block.samples[index] && values[index] < (float)block.samples[index] + 1.0f))
+            stop("a reading is not its sample and a fraction below 1");
+}
+
+/* The names of the figures end with that word. */
+static void print_readings_turns(const char *word, double (*of_readings)(void *), double (*of_samples)(void *),
+                                 struct readings *readings)
+{
+    struct turns turns = by_turns(of_readings, of_samples, readings);
+    char name[32];
+    snprintf(name, sizeof name, "readings_%s", word);
+    printf("%s %.9f\ngrey_%s %.9f\n", name, turns.one, word, turns.other);
+    print_ratios(name, &turns);
+}
+
+static void print_readings(const float *values)
+{
+    struct readings readings = {0};
+    check_readings(values);
+    readings.values = values;
+    readings.grey.counts = parsniprow_counts;
+    readings.grey.mesh = parsniprow_mesh;
+    printf("crossed %zu\n", shape_of_block().crossed);
+    print_readings_turns("counts", readings_counts_seconds, grey_counts_seconds, &readings);
+    if (memcmp(readings.counted, readings.grey_counted, sizeof readings.counted) != 0)
+        stop("the counts of the readings differ from those of the samples");
+    readings.lent = room_for(readings.counted);
+    readings.grey_lent = room_for(readings.counted);
+    fill(&readings.lent);
+    fill(&readings.grey_lent);
+    print_readings_turns("mesh", readings_mesh_seconds, grey_mesh_seconds, &readings);
+    print_readings_turns("whole", readings_whole_seconds, grey_whole_seconds, &readings);
+    readings_whole_seconds(&readings);
+    if (!same(&readings.lent, &readings.grey_lent) || !same(&readings.grey.left, &readings.grey_lent))
+        stop("the mesh of the readings differs from that of the samples");
+    give_back(&readings.lent);
+    give_back(&readings.grey_lent);
+    give_back(&readings.grey.left);
+}
+
 /* Puts a quad of one vertex and, three times, another. */
 static void put_pair(struct mesh *list, uint32_t first, uint32_t other)
 {
@@ -907,10 +1042,20 @@ int main(int argc, char **argv)
         free(block.samples);
         return 0;
     }
+    if (argc == 8 && strcmp(argv[1], "readings") == 0) {
+        float *readings;
+        block = read_block(argv + 2);
+        readings = read_readings(argv[7], block.sample_count);
+        print_readings(readings);
+        free(readings);
+        free(block.samples);
+        return 0;
+    }
 #endif
     if (argc != 8)
         stop("usage: bench file nx ny nz t mesh.ply sealed.ply, or bench room file nx ny nz t, "
-             "or bench thresholds file nx ny nz t, or bench planes file nx ny nz t, or bench worst");
+             "or bench thresholds file nx ny nz t, or bench planes file nx ny nz t, "
+             "or bench readings file nx ny nz t readings, or bench worst");
     block = read_block(argv + 1);
     shape = shape_of_block();
     printf("crossed %zu\nrim %zu\ndoubtful %zu\n", shape.crossed, shape.rim, shape.doubtful);

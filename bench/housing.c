@@ -1,12 +1,14 @@
 /* Writes a block of n x n x n grey values for the benchmark and the picture, as raw little-endian 16-bit numbers, x
-   fastest. Usage: housing n kind seed file, the kind one of
+   fastest. Usage: housing n kind seed file [float], the kind one of
      housing  a cast pump housing with a few pores, nearly without noise
      noisy    the same housing seen by a poor detector: specks everywhere, many doubtful faces, small loops
      noise    no housing: every value by chance
      pore     a piece of the housing's wall around one pore of several merged bubbles
    Assumes doubles rounded to nearest, each operation by itself (-ffp-contract=off); the same arguments then give the
    same file on every machine. The surface of the housing and of the pore lies at the threshold 23000, half way between
-   metal and hollow; no value is at the ceiling. */
+   metal and hollow; no value is at the ceiling.
+   With the word float the file has readings in place of grey values, raw little-endian 32-bit floats: each is the same
+   grey value and a fraction of some 256ths, from 0 to 255 of them, which the float holds exactly. */
 #include <math.h>
 #include <stdint.h>
 #include <stdio.h>
@@ -209,8 +211,27 @@ static uint16_t grey(double distance, int is_poor)
     return (uint16_t)(value < 0 ? 0 : value);
 }
 
+/* Whether readings are written, and how many have been. */
+static int is_float;
+static uint64_t reading_count;
+
+/* The fraction hangs on the place alone. */
+static int put_reading(FILE *file, uint16_t value)
+{
+    uint64_t parts = reading_count++ * UINT64_C(0x9E3779B97F4A7C15) >> 56;
+    float reading = (float)value + (float)parts / 256.0f;
+    uint32_t bits;
+    int good = 1;
+    memcpy(&bits, &reading, sizeof bits);
+    for (int shift = 0; good && shift < 32; shift += 8)
+        good = putc((int)(bits >> shift & 255), file) != EOF;
+    return good;
+}
+
 static int put(FILE *file, uint16_t value)
 {
+    if (is_float)
+        return put_reading(file, value);
     return putc(value & 255, file) != EOF && putc(value >> 8, file) != EOF;
 }
 
@@ -278,15 +299,16 @@ static int write_block(FILE *file, size_t n, enum kind kind)
 
 int main(int argc, char **argv)
 {
-    size_t n = argc == 5 ? (size_t)strtoul(argv[1], NULL, 10) : 0;
-    enum kind kind = argc == 5 ? kind_called(argv[2]) : KINDS;
+    int is_complete = argc == 5 || (argc == 6 && strcmp(argv[5], "float") == 0), good;
+    size_t n = is_complete ? (size_t)strtoul(argv[1], NULL, 10) : 0;
+    enum kind kind = is_complete ? kind_called(argv[2]) : KINDS;
     FILE *file;
-    int good;
     if (n < (kind == PORE ? THINNEST_WALL : 2) || n > LONGEST_AXIS || kind == KINDS) {
-        fprintf(stderr, "usage: housing n housing|noisy|noise|pore seed file, with n from 2 (pore: %d) to %d\n",
+        fprintf(stderr, "usage: housing n housing|noisy|noise|pore seed file [float], with n from 2 (pore: %d) to %d\n",
                 THINNEST_WALL, LONGEST_AXIS);
         return 2;
     }
+    is_float = argc == 6;
     state = strtoull(argv[3], NULL, 10);
     file = fopen(argv[4], "wb");
     if (!file) {

@@ -1,8 +1,8 @@
 #!/usr/bin/python3
 """Times the programs that Debian has for the same work on one block. Usage:
   peers.py versions                prints a line for each peer: key, name, package, version ("-" if it is not
-                                   installed), and block or mesh, which is what it works on
-  peers.py key file nx ny nz t     prints "points polygons seconds" of the peer on the block
+                                   installed), and block, readings or mesh, which is what it works on
+  peers.py key file nx ny nz t     prints "points polygons seconds" of the peer on the block, or on the readings
   peers.py ply_writer mesh.ply     prints a line for each figure of VTK's PLY writer on the mesh, name and value:
                                      vtk_bytes    of the file that it writes
                                      vtk_memory   seconds of writing to a string
@@ -23,9 +23,10 @@
                                      vtk_count     regions that it found
                                    without those of a program that is not installed
 
-The file is raw little-endian 16-bit numbers, x fastest. A time is the best of 15 runs, or of as many as begin within
-half a second, but at least 2. The block is in memory, in the form that the peer takes, before the first run; the peer
-takes the memory of its mesh within the time, and the mesh of the run before is given back outside of it.
+The file is raw little-endian 16-bit numbers, x fastest, or of a peer on readings 32-bit floats. A time is the best of
+15 runs, or of as many as begin within half a second, but at least 2. The block is in memory, in the form that the peer
+takes, before the first run; the peer takes the memory of its mesh within the time, and the mesh of the run before is
+given back outside of it.
 Of the PLY writer only the call that writes is timed. Its mesh is that of the library's PLY file, in VTK's own form, and
 its file must hold the same quads, and the same places rounded to 32-bit floats, or there are no times.
 Of the feature edges only the call that finds them is timed, on the same mesh in the same form. VTK builds its links
@@ -62,13 +63,16 @@ def vtk_version():
     return vtkVersion.GetVTKVersion()
 
 
-def vtk_image(name, lengths):
-    """The block as an image, wholly in memory."""
+def vtk_image(name, lengths, is_float):
+    """The block as an image, wholly in memory: of 16-bit numbers, or of 32-bit floats as they are."""
     from vtkmodules.vtkIOImage import vtkImageReader2
     reader = vtkImageReader2()
     reader.SetFileName(name)
     reader.SetFileDimensionality(3)
-    reader.SetDataScalarTypeToUnsignedShort()
+    if is_float:
+        reader.SetDataScalarTypeToFloat()
+    else:
+        reader.SetDataScalarTypeToUnsignedShort()
     reader.SetDataByteOrderToLittleEndian()
     reader.SetNumberOfScalarComponents(1)
     reader.FileLowerLeftOn()
@@ -85,10 +89,12 @@ def one_vtk_thread():
         sys.exit("peers.py: VTK did not take its sequential backend")
 
 
-def vtk_contour(contour_class, name, lengths, t):
+def vtk_contour(contour_class, name, lengths, t, is_float=False):
     """Normals, gradients and scalars are off."""
     one_vtk_thread()
-    image = vtk_image(name, lengths)
+    image = vtk_image(name, lengths, is_float)
+    if image.GetScalarTypeAsString() != ("float" if is_float else "unsigned short"):
+        sys.exit("peers.py: VTK's image is not of the numbers that the file has")
 
     def run():
         contour = contour_class()
@@ -106,6 +112,11 @@ def vtk_contour(contour_class, name, lengths, t):
 def flying_edges(name, lengths, t):
     from vtkmodules.vtkFiltersCore import vtkFlyingEdges3D
     return vtk_contour(vtkFlyingEdges3D, name, lengths, t)
+
+
+def flying_edges_readings(name, lengths, t):
+    from vtkmodules.vtkFiltersCore import vtkFlyingEdges3D
+    return vtk_contour(vtkFlyingEdges3D, name, lengths, t, True)
 
 
 def marching_cubes(name, lengths, t):
@@ -352,10 +363,12 @@ def print_piece_times(name, told=None):
 # ---- all of them ----
 
 PEERS = {
-    "flying_edges": ("VTK Flying Edges", "python3-vtk9", vtk_version, flying_edges),
-    "marching_cubes": ("VTK Marching Cubes", "python3-vtk9", vtk_version, marching_cubes),
-    "lewiner": ("scikit-image", "python3-skimage", skimage_version, lewiner),
-    "volume_to_mesh": ("OpenVDB", "python3-openvdb", openvdb_version, volume_to_mesh),
+    "flying_edges": ("VTK Flying Edges", "python3-vtk9", vtk_version, flying_edges, "block"),
+    "marching_cubes": ("VTK Marching Cubes", "python3-vtk9", vtk_version, marching_cubes, "block"),
+    "lewiner": ("scikit-image", "python3-skimage", skimage_version, lewiner, "block"),
+    "volume_to_mesh": ("OpenVDB", "python3-openvdb", openvdb_version, volume_to_mesh, "block"),
+    "flying_edges_readings": ("VTK Flying Edges of floats", "python3-vtk9", vtk_version, flying_edges_readings,
+                              "readings"),
 }
 ON_A_MESH = {"ply_writer": print_ply_times, "feature_edges": print_edge_times, "pieces": print_piece_times}
 
@@ -368,8 +381,8 @@ def found_version(version):
 
 
 def print_versions():
-    for key, (name, package, version, _) in PEERS.items():
-        print(key, name, package, found_version(version), "block", sep="\t")
+    for key, (name, package, version, _, given) in PEERS.items():
+        print(key, name, package, found_version(version), given, sep="\t")
     print("components", "SciPy", "python3-scipy", found_version(scipy_version), "mesh", sep="\t")
 
 

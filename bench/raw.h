@@ -25,4 +25,8 @@ void *taken(size_t bytes);
    not hold just so many. The samples are to be given back by free. */
 struct block read_block(char *const words[5]);
 
+/* The readings in a file of raw little-endian 32-bit floats. Stops where the file does not hold just so many. They are
+   to be given back by free. Assumes that a float is an IEEE 754 single. */
+float *read_readings(const char *name, size_t count);
+
 #endif

@@ -1,12 +1,12 @@
 #!/usr/bin/python3
 """Prints the results of one run of the benchmark as Markdown. Usage: tables.py results part, the file that bench/run
-writes, and all, room, thresholds or planes, which is what it has timed.
+writes, and all, room, thresholds, planes or readings, which is what it has timed.
 
 Its lines, with tabs between the words: processor, compiler, library (the machine that its module was compiled for, or
-none); peer, key, name, package, version, and block or mesh, which is what it works on; figure, kind, size, name, value;
-made, kind, size, key, points, polygons, seconds; the name, which begins with worst_, and the value of a figure of the
-worst list for the pieces, if there is a library. Of a figure or a time that stands there twice the least counts; but
-a figure whose name ends with _ratio stands there for each run, and all of them are kept.
+none); peer, key, name, package, version, and block, readings or mesh, which is what it works on; figure, kind, size,
+name, value; made, kind, size, key, points, polygons, seconds; the name, which begins with worst_, and the value of a
+figure of the worst list for the pieces, if there is a library. Of a figure or a time that stands there twice the least
+counts; but a figure whose name ends with _ratio stands there for each run, and all of them are kept.
 Ends with status 1 if a peer's mesh is not of the size to be expected from the block's crossed edges, or if VTK finds a
 boundary edge in a closed mesh, for then the times are of different work."""
 import math
@@ -67,7 +67,7 @@ def with_ratio(block, seconds, time="whole", unit=1.0):
     return f"{shown} ({block[time] / seconds:.2f})" if time in block else shown
 
 
-# ---- the ten tables ----
+# ---- the twelve tables ----
 
 def module_mark(words):
     """What the head of a column says of a library that is not the one that ships."""
@@ -113,6 +113,10 @@ def print_growth(blocks):
                  "counts + mesh, ns a sample", "times the samples", "times the seconds"], rows)
 
 
+def sizes_of(made):
+    return f"{whole(made['points'])} / {whole(made['polygons'])}"
+
+
 def print_sizes(peers, blocks):
     heads = ["block", "crossed edges", "doubtful faces", "dual mesh: vertices / quads"]
     heads += [f"{peer['name']}: points / {'quads' if key == 'volume_to_mesh' else 'triangles'}"
@@ -121,7 +125,7 @@ def print_sizes(peers, blocks):
     for (kind, size), block in blocks.items():
         row = [f"{kind} {size}", whole(block["crossed"]), whole(block["doubtful"])]
         row.append(f"{whole(block['vertices'])} / {whole(block['quads'])}")
-        row += [f"{whole(made['points'])} / {whole(made['polygons'])}" for made in block["made"].values()]
+        row += [sizes_of(block["made"][key]) for key in peers]
         rows.append(row)
     print_table(heads, rows)
 
@@ -294,22 +298,68 @@ def print_planes_times(words, blocks):
                  "bytes of the planes' buffers"], rows)
 
 
+def readings_cells(block, word):
+    """Both times, the ratio of these, and the lowest, the middle and the highest ratio of a run."""
+    readings, grey = block[f"readings_{word}"], block[f"grey_{word}"]
+    return [f"**{three_digits(1e3 * readings)}**", three_digits(1e3 * grey), f"{readings / grey:.2f}",
+            spread_of(block[f"readings_{word}_ratios"])]
+
+
+READINGS_PEER = "flying_edges_readings"
+
+
+def print_readings_times(words, blocks):
+    """Where VTK is not installed, there is no column for it."""
+    mark = module_mark(words)
+    has_vtk = all(READINGS_PEER in block["made"] for block in blocks.values())
+    heads = ["block"]
+    for name in ("mesh", "counts", "counts + mesh"):
+        heads += [f"readings, {name}{mark}, ms", f"grey values, {name}{mark}, ms", "readings / grey values",
+                  "of the runs: lowest / middle / highest"]
+    rows = []
+    for (kind, size), block in blocks.items():
+        row = [f"{kind} {size}"]
+        for word in ("mesh", "counts", "whole"):
+            row += readings_cells(block, word)
+        if has_vtk:
+            row.append(with_ratio(block, block["made"][READINGS_PEER]["seconds"], "readings_whole", 1e3))
+        rows.append(row)
+    print_table(heads + (["VTK Flying Edges of floats, ms"] if has_vtk else []), rows)
+
+
+def print_readings_sizes(blocks):
+    rows = [[f"{kind} {size}", whole(block["crossed"]), sizes_of(block["made"][READINGS_PEER])]
+            for (kind, size), block in blocks.items() if READINGS_PEER in block["made"]]
+    if rows:
+        print_table(["block", "crossed edges", "VTK Flying Edges of floats: points / triangles"], rows)
+
+
 # ---- what the meshes must have in common ----
 
+def size_wanted(key, block):
+    """Which number of a peer's mesh is looked at, and the least and the most that it may be."""
+    crossed = block["crossed"]
+    if key == "volume_to_mesh":
+        return "polygons", crossed + block["rim"], crossed + block["rim"]
+    least, most = {"marching_cubes": (0.99, 1), "lewiner": (0.99, 1.1)}.get(key, (1, 1))
+    return "points", least * crossed, most * crossed
+
+
 def faults(peers, blocks):
-    """Flying Edges has a point for each crossed edge. Marching Cubes merges points at one place; scikit-image has
-    points inside cubes too; their bounds are wide and were set by what VTK 9.1.0 and scikit-image 0.19.3 made of these
-    blocks. OpenVDB has a quad for each crossed edge and for each step out of the block from metal: no manual says so,
-    it is what OpenVDB 10.0.1 made of all of them."""
+    """Flying Edges has a point for each crossed edge, of floats too: a reading is its sample and a fraction below 1, so
+    it is on the same side of the threshold, which is whole. For the same reason it makes as many triangles of floats as
+    of the block. Marching Cubes merges points at one place; scikit-image has points inside cubes too; their bounds are
+    wide and were set by what VTK 9.1.0 and scikit-image 0.19.3 made of these blocks. OpenVDB has a quad for each
+    crossed edge and for each step out of the block from metal: no manual says so, it is what OpenVDB 10.0.1 made of all
+    of them."""
     found = []
     for (kind, size), block in blocks.items():
-        crossed, with_rim = block["crossed"], block["crossed"] + block["rim"]
-        bounds = {"flying_edges": ("points", crossed, crossed),
-                  "marching_cubes": ("points", 0.99 * crossed, crossed),
-                  "lewiner": ("points", 0.99 * crossed, 1.1 * crossed),
-                  "volume_to_mesh": ("polygons", with_rim, with_rim)}
+        of_floats, of_block = (block["made"].get(key, {}).get("polygons") for key in (READINGS_PEER, "flying_edges"))
+        if None not in (of_floats, of_block) and of_floats != of_block:
+            found.append(f"{kind} {size}: Flying Edges made {of_floats} triangles of the floats, and of the block "
+                         f"{of_block}.")
         for key, made in block["made"].items():
-            what, least, most = bounds[key]
+            what, least, most = size_wanted(key, block)
             if not least <= made[what] <= most:
                 found.append(f"{kind} {size}: {peers[key]['name']} made {made[what]} {what}, which is not from "
                              f"{least:.0f} to {most:.0f}.")
@@ -478,6 +528,36 @@ before, and no memory is taken within a time.
 - No time makes the benchmark fail.
 """
 
+READINGS_TEXT = """
+Readings of the second bench. All times here are milliseconds. A block of readings has a 32-bit float for each sample of
+the block of grey values: the sample and a fraction of 0 to 255 256ths, which the float holds exactly. `readings` are
+the library's calls `parsniprow_readings_counts` and `parsniprow_readings_mesh` on these floats. `grey values` are its
+calls `parsniprow_counts` and `parsniprow_mesh` on the block of 16-bit numbers. `mesh` writes into memory that was
+written to before. `counts + mesh` is what a caller pays who knows nothing of the block: counts, malloc of that size,
+mesh, in one go.
+
+- Readings and grey values are asked by turns in one process, as `crossed` and `counts` are. A run is one of each. A
+  round is 15 runs, or as many as begin within half a second, at least 2. Each round is a process of its own. A time is
+  the best of two rounds.
+- `readings / grey values` is the best time of the one divided by the best time of the other. Each run has a ratio of
+  its own too: the lowest, the middle and the highest are those of all runs of both rounds.
+- The memory that a run of `counts + mesh` took is given back before the next run, of whichever of the two. So malloc
+  finds the same for both.
+- VTK Flying Edges has the same floats as an image of 32-bit floats before its time begins, and the same threshold. It
+  is timed by itself, and takes the memory of its mesh within its time. In brackets: the readings' counts + mesh divided
+  by that time.
+- Checked: each reading is its sample and a fraction below 1. The counts and the meshes of the readings are those of the
+  grey values, bit by bit.
+- No time makes the benchmark fail.
+"""
+
+READINGS_SIZES_TEXT = """
+What Flying Edges made of the floats. The threshold is whole, so a sample with a fraction is on the same side of it as
+the sample alone, and the same edges are crossed. Checked: Flying Edges has a point for each edge that is crossed in the
+block of grey values, which are counted from the samples alone. Where all parts of the benchmark are run, it also has
+just as many triangles as it makes of the block of grey values.
+"""
+
 SIZES_TEXT = """
 What each program made. A doubtful face is one with four crossed edges. Checked: Flying Edges has a point for each
 crossed edge, OpenVDB a quad for each crossed edge and for each step out of the block from metal, Marching Cubes 99 to
@@ -506,7 +586,23 @@ def print_planes(words, blocks):
     print_planes_times(words, blocks)
 
 
-PARTS = {"room": print_room, "thresholds": print_thresholds, "planes": print_planes}
+def print_readings(words, blocks):
+    print_text(READINGS_TEXT)
+    print_readings_times(words, blocks)
+    if any(READINGS_PEER in block["made"] for block in blocks.values()):
+        print_text(READINGS_SIZES_TEXT)
+        print_readings_sizes(blocks)
+
+
+PARTS = {"room": print_room, "thresholds": print_thresholds, "planes": print_planes, "readings": print_readings}
+
+
+def end_by_faults(wrong, is_checked):
+    for fault in wrong:
+        print(fault)
+    if is_checked and not wrong:
+        print("All meshes passed these checks.")
+    sys.exit(1 if wrong else 0)
 
 
 def main():
@@ -517,7 +613,7 @@ def main():
     print_heading(words, peers, [peer for key, peer in every_peer.items() if key not in peers])
     if sys.argv[2] != "all":
         PARTS[sys.argv[2]](words, blocks)
-        return
+        end_by_faults(faults(peers, blocks), bool(peers))
     makers = {key: peer for key, peer in peers.items() if peer["given"] == "block"}
     print_text(TIMES_TEXT)
     print_times(words, makers, blocks)
@@ -536,12 +632,7 @@ def main():
             print_part(words, blocks)
     print_text(SIZES_TEXT)
     print_sizes(makers, blocks)
-    wrong = faults(peers, blocks) + closed_faults(blocks)
-    for fault in wrong:
-        print(fault)
-    if makers and not wrong:
-        print("All meshes passed these checks.")
-    sys.exit(1 if wrong else 0)
+    end_by_faults(faults(peers, blocks) + closed_faults(blocks), bool(makers))
 
 
 main()

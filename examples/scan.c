@@ -1,18 +1,19 @@
-/* The scan tool: reads a raw block of 16-bit grey values, has the library draw the surface between metal and hollow,
-   and writes how many vertices and quads it has, whether it is closed, and in how many pieces it comes; on request also
-   the vertices and quads themselves, as plain text or as a PLY file for a viewer, a table of the pieces, and how many
-   vertices and quads there are at other thresholds. Or it reads the block plane by plane, so that it never holds more
-   than a layer of the mesh. Or it makes no mesh, and writes how much room one takes at most.
+/* The scan tool: reads a raw block of 16-bit grey values, or of 32-bit float readings, has the library draw the surface
+   between metal and hollow, and writes how many vertices and quads it has, whether it is closed, and in how many pieces
+   it comes; on request also the vertices and quads themselves, as plain text or as a PLY file for a viewer, a table of
+   the pieces, and how many vertices and quads there are at other thresholds. Or it reads the block plane by plane, so
+   that it never holds more than a layer of the mesh. Or it makes no mesh, and writes how much room one takes at most.
    Usage: scan FILE NX NY NZ THRESHOLD BYTE-ORDER [--mesh OUT] [--ply OUT --spacing X Y Z [--piece NUMBER]]
-   [--pieces OUT] [--thresholds LIST], or scan FILE NX NY NZ THRESHOLD BYTE-ORDER --by-planes [--ply OUT --spacing X Y
-   Z], or scan FILE NX NY NZ THRESHOLD BYTE-ORDER --room; "scan --help" says what each of them is.
-   Assumes a POSIX system, and the library linked in (include/parsniprow.h).
+   [--pieces OUT] [--thresholds LIST | --float], or scan FILE NX NY NZ THRESHOLD BYTE-ORDER --by-planes [--ply OUT
+   --spacing X Y Z], or scan FILE NX NY NZ THRESHOLD BYTE-ORDER --room; "scan --help" says what each of them is.
+   Assumes a POSIX system, a float that is an IEEE 754 single, and the library linked in (include/parsniprow.h).
 
    Standard output is the record, in lines of a word and what it says: what was asked, and the library's answer.
      file, axes, threshold, byte-order    what was asked, as it was read
-     spacing X Y Z                        the same, where a PLY file is asked for
+     readings HOW                         with --float: that FILE has float readings, and how they were read
+     spacing X Y Z                        what was asked too, where a PLY file is asked for
      piece NUMBER                         the same, where the PLY file is to have one piece alone
-     values LEAST to GREATEST             the grey values in the file
+     values LEAST to GREATEST             the grey values in the file, or those that its readings count as
      ceiling COUNT                        how many of them are 65535, the detector's ceiling
      vertices COUNT, quads COUNT          the mesh
      closed yes, closed no                whether each side of its quads is walked as often one way as the other
@@ -33,6 +34,11 @@
    byte, and the same quads; these stand in the order in which they come, by plane and then by axis. For a PLY file FILE
    is read twice, first to count and then to write, so it must be a file and no pipe. --mesh, --pieces, --piece and
    --thresholds do not go with --by-planes.
+   With --float FILE has 32-bit floats, the readings of the second bench. Each counts as the greatest whole number not
+   above it, or from 65535 on as 65535, and the mesh is that of the block so obtained. The readings are held once, and
+   there is no second block of grey values. The record is that of the block so obtained, but for the line readings and
+   for how the note on ceilings begins. Where a reading is no number, infinite or below zero, there is no mesh, and a
+   note says which reading it is. --thresholds, --by-planes and --room do not go with --float.
    With --room no mesh is made. In place of the lines from vertices to ply the record has:
      crossed COUNT                        how many edges of the block are crossed, those on the sides of the box too
      vertices-at-most COUNT               the mesh has no more: a vertex joins at least three crossed edges, and an edge
@@ -79,30 +85,34 @@
 #include <unistd.h>
 
 enum { ANSWER = 3, CLOSED_ANSWER = 4, AXES = 3 };
-enum { BYTES_A_SAMPLE = 2, WORDS_A_VERTEX = 2, OFFSETS_A_VERTEX = 3, VERTICES_A_QUAD = 4 };
+enum { BYTES_A_SAMPLE = 2, BYTES_A_READING = 4, WORDS_A_VERTEX = 2, OFFSETS_A_VERTEX = 3, VERTICES_A_QUAD = 4 };
 enum { LEAST_EDGES_A_VERTEX = 3, MOST_CUBES_AN_EDGE = 4, MOST_VERTICES_A_CUBE = 4, WORK_PLANES = 6 };
 enum { PLY_BYTES_A_VERTEX = 24, PLY_BYTES_A_QUAD = 17, MOST_PLY_HEAD = 256, VERTICES_SO_FAR = 4, QUADS_SO_FAR = 5 };
 enum { NO_REFUSAL, BAD_AXIS, BAD_COUNT, BAD_THRESHOLD, BAD_SPACING = 13, NO_ROOM = 15 };
+enum { NO_NUMBER = 19, INFINITE = 20, BELOW_ZERO = 21 }; /* refusals of readings */
 enum { STATUS_MESH, STATUS_FAILED, STATUS_ARGUMENTS, STATUS_REFUSED };
 enum { ARGUMENTS = 6, MOST_THRESHOLDS = 16, LENGTH = 1, MOST_AT_ONCE = 1 << 20, MEGABYTE = 1000000 };
-enum { MARK = 1 << 12 }; /* in the word of a vertex */
+enum { CEILING = 65535, MARK = 1 << 12 }; /* a grey value, and a bit in the word of a vertex */
 
 /* What was asked. Names as shown are one line, whatever the file is called. The spacing is that of the PLY file, if one
    is asked for, and the piece is the one that it is to have; as text they are null where they are not given. The mesh
    is at the threshold. The list has the thresholds of --thresholds. Where it is for room, no mesh is made. Where it is
-   by planes, the block and its mesh are never held as a whole. */
+   by planes, the block and its mesh are never held as a whole. Where it is float, the file has readings. */
 struct request {
     const char *file, *file_shown, *byte_order, *spacing_text[AXES], *piece_text;
     uint32_t length[AXES], piece;
     uint16_t threshold, listed[MOST_THRESHOLDS];
     size_t listed_count;
     double spacing[AXES];
-    int is_for_room, is_by_planes;
+    int is_for_room, is_by_planes, is_float;
 };
 
+/* A block has samples, or else readings, which then stand where their bytes were read. The least and the greatest are
+   grey values, also those of readings. */
 struct block {
     unsigned char *bytes;
     uint16_t *samples, least, greatest;
+    float *readings;
     size_t count;
     uint32_t ceiling_count, first_ceiling;
 };
@@ -324,7 +334,7 @@ static const char *shown(const char *text)
 static void help(void)
 {
     puts("target/scan FILE NX NY NZ THRESHOLD BYTE-ORDER [--mesh OUT] [--ply OUT --spacing X Y Z [--piece NUMBER]]\n"
-         "            [--pieces OUT] [--thresholds LIST]\n"
+         "            [--pieces OUT] [--thresholds LIST | --float]\n"
          "target/scan FILE NX NY NZ THRESHOLD BYTE-ORDER --by-planes [--ply OUT --spacing X Y Z]\n"
          "target/scan FILE NX NY NZ THRESHOLD BYTE-ORDER --room\n"
          "\n"
@@ -333,7 +343,8 @@ static void help(void)
          "\n"
          "  FILE        the scan: 16-bit grey values and nothing else, along x first, then y, then z\n"
          "  NX NY NZ    how many values there are along x, y and z, each 2 to 256. FILE must have 2 x NX x NY x NZ\n"
-         "              bytes. Axes that have changed places cannot be noticed: take them from the scanner's record\n"
+         "              bytes, with --float 4 x NX x NY x NZ. Axes that have changed places cannot be noticed: take\n"
+         "              them from the scanner's record\n"
          "  THRESHOLD   1 to 65534. A value of at least THRESHOLD is metal, any other is hollow\n"
          "  BYTE-ORDER  little if the low byte of each value comes first, big if the high byte does. The wrong one\n"
          "              cannot be noticed, but the line \"values\" then shows values that the part does not have\n"
@@ -348,6 +359,8 @@ static void help(void)
          "  --thresholds LIST\n"
          "              also says how many vertices and quads there are at each threshold of LIST, to choose one by.\n"
          "              LIST is 1 to 16 numbers with commas between them and no spaces\n"
+         "  --float     FILE has 32-bit floats, the readings of the second bench, in place of 16-bit values. Does not\n"
+         "              go with --thresholds, --by-planes and --room\n"
          "  --by-planes\n"
          "              reads the scan plane by plane and holds one layer of the mesh at a time, for scans that are\n"
          "              too large otherwise. Goes with --ply and with no other option\n"
@@ -361,6 +374,7 @@ static void help(void)
          "  target/scan housing.raw 256 256 200 23000 little --ply housing.ply --spacing 0.125 0.125 0.2\n"
          "  target/scan housing.raw 256 256 200 23000 little --pieces housing-pieces.csv\n"
          "  target/scan housing.raw 256 256 200 23000 little --thresholds 21000,22000,23000,24000,25000\n"
+         "  target/scan housing.raw 256 256 200 23000 little --float --pieces housing-pieces.csv\n"
          "  target/scan housing.raw 256 256 200 23000 little --by-planes --ply housing.ply --spacing 0.1 0.1 0.1\n"
          "  target/scan housing.raw 256 256 200 23000 little --room\n"
          "\n"
@@ -398,6 +412,13 @@ static void help(void)
          "all files are at THRESHOLD.\n"
          "The lines that begin with \"at\" are for choosing a threshold. Run the tool with the one that you choose,\n"
          "and enter that record beside the claim. Compare two housings only at the same threshold.");
+    puts("\n"
+         "With --float each value in FILE is an IEEE 754 single, a reading of the second bench. A reading below 65535\n"
+         "counts as the greatest whole number not above it: 22999.9 counts as 22999. Minus zero is 0. A reading of\n"
+         "65535 or more is at the ceiling and counts as 65535. The mesh is that of the grey values so obtained.\n"
+         "THRESHOLD is such a grey value too, and so are those of the line \"values\". The line \"readings\" says how\n"
+         "the readings were read. A reading that is no number is refused with 19, an infinite one with 20, and one\n"
+         "below zero with 21. A note then says which reading it is: the first one at fault decides.");
     puts("\n"
          "With --by-planes the lines \"closed\" and \"pieces\" are missing: they need the whole mesh at once. The\n"
          "note on an open mesh is missing too. The note on marked vertices reads otherwise, since --mesh needs\n"
@@ -509,6 +530,11 @@ static int read_option(struct request *request, char **words, int left)
         request->is_for_room = 1;
         return 0;
     }
+    if (strcmp(words[0], "--float") == 0) {
+        check_option(words[0], request->is_float, 1, "nothing");
+        request->is_float = 1;
+        return 0;
+    }
     if (strcmp(words[0], "--by-planes") == 0) {
         check_option(words[0], request->is_by_planes, 1, "nothing");
         request->is_by_planes = 1;
@@ -527,7 +553,7 @@ static int read_option(struct request *request, char **words, int left)
     }
     if (strcmp(words[0], "--spacing") != 0)
         fail(STATUS_ARGUMENTS, "\"%s\" stands where only --mesh, --ply, --pieces, --spacing, --piece, --thresholds, "
-             "--by-planes and --room can.", shown(words[0]));
+             "--float, --by-planes and --room can.", shown(words[0]));
     check_option(words[0], request->spacing_text[0] != NULL, left >= AXES, "X, Y and Z");
     read_spacing(request, words + 1);
     return AXES;
@@ -554,10 +580,23 @@ static void check_by_planes(const struct request *request)
              "Leave out one of them.");
 }
 
+/* What the library does with readings is to count and to mesh a whole block at one threshold. */
+static void check_float(const struct request *request)
+{
+    if (request->listed_count > 0)
+        fail(STATUS_ARGUMENTS, "--float is given together with --thresholds, which takes 16-bit values alone. Leave "
+             "out one of them. Of a float scan ask for one threshold in each run.");
+    if (request->is_by_planes || request->is_for_room)
+        fail(STATUS_ARGUMENTS, "--float is given together with %s, which takes 16-bit values alone. Leave out one of "
+             "them.", request->is_by_planes ? "--by-planes" : "--room");
+}
+
 static void read_options(struct request *request, int given, char **words)
 {
     for (int at = 0; at < given; at++)
         at += read_option(request, words + at, given - at - 1);
+    if (request->is_float)
+        check_float(request);
     if (request->is_for_room && given > 1) { /* every other option is about the mesh */
         const char *other = strcmp(words[0], "--room") == 0 ? words[1] : words[0];
         fail(STATUS_ARGUMENTS, "--room is given together with %s, and with --room no mesh is made. Ask for one of them "
@@ -604,6 +643,9 @@ static void put_request(FILE *to, const struct request *request)
     fprintf(to, "axes %" PRIu32 " %" PRIu32 " %" PRIu32 "\n", length[0], length[1], length[2]);
     fprintf(to, "threshold %" PRIu16 "\n", request->threshold);
     fprintf(to, "byte-order %s\n", request->byte_order);
+    if (request->is_float)
+        fprintf(to, "readings 32-bit floats of the second bench; below 65535 each counts as the greatest whole number "
+                "not above it, from 65535 on as 65535\n");
     if (request->spacing_text[0])
         fprintf(to, "spacing %s %s %s\n", request->spacing_text[0], request->spacing_text[1],
                 request->spacing_text[2]);
@@ -658,6 +700,18 @@ static void advise_on_spacing(const struct request *request, uint32_t axis)
            "xyz"[axis % AXES], request->spacing_text[axis % AXES]);
 }
 
+/* Which reading is at fault, and what to do about it. */
+static void advise_on_reading(const struct request *request, uint32_t refusal, uint32_t index)
+{
+    uint32_t nx = request->length[0], ny = request->length[1];
+    const char *kind = refusal == NO_NUMBER ? "no number" : refusal == INFINITE ? "infinite" : "below zero";
+    printf("note The reading at x = %" PRIu32 ", y = %" PRIu32 ", z = %" PRIu32 " (index %" PRIu32 ") is %s.\n",
+           index % nx, index / nx % ny, index / nx / ny, index, kind);
+    printf("note It is the first reading at fault, and there may be more. All four numbers are counted from 0.\n");
+    printf("note Check the byte order, and that the file has 32-bit floats. If both are right, the second bench gave "
+           "no grey value there: have the part scanned again. Do not change the reading in the file.\n");
+}
+
 static void refuse(const struct request *request, const uint32_t *answer)
 {
     put_request(stdout, request);
@@ -668,6 +722,8 @@ static void refuse(const struct request *request, const uint32_t *answer)
         printf("note The threshold must be from 1 to 65534. Choose one between the greys of hollow and of metal.\n");
     else if (answer[0] == BAD_SPACING)
         advise_on_spacing(request, answer[1]);
+    else if (answer[0] >= NO_NUMBER && answer[0] <= BELOW_ZERO)
+        advise_on_reading(request, answer[0], answer[1]);
     else /* no other can come about: samples, room and mesh are as the library says */
         printf("note This is a fault of the scan tool and not of the scan. Report it together with these lines.\n");
     remove_parts();
@@ -678,10 +734,11 @@ static void refuse(const struct request *request, const uint32_t *answer)
 static void note_first_ceiling(const struct request *request, const struct block *block)
 {
     uint32_t nx = request->length[0], ny = request->length[1], index = block->first_ceiling;
-    printf("note Some values are 65535, the detector's ceiling. The first is sample %" PRIu32 ", at (%" PRIu32
-           ", %" PRIu32 ", %" PRIu32 ") counted from 0. What the detector saw there is not known. It is drawn as "
-           "metal. A pore inside such a saturated region cannot be seen.\n",
-           index, index % nx, index / nx % ny, index / nx / ny);
+    printf("note Some %s, the detector's ceiling. The first is sample %" PRIu32 ", at (%" PRIu32 ", %" PRIu32
+           ", %" PRIu32 ") counted from 0. What the detector saw there is not known. It is drawn as metal. A pore "
+           "inside such a saturated region cannot be seen.\n",
+           request->is_float ? "readings are 65535 or more" : "values are 65535", index, index % nx, index / nx % ny,
+           index / nx / ny);
 }
 
 /* What the values at the ceiling mean. A cube with such a corner and a hollow one has a vertex, and it is marked. */
@@ -779,9 +836,15 @@ static void report_room(const struct request *request, const struct block *block
 static void wrong_length(const struct request *request, const char *has, uint64_t bytes, uint64_t wanted)
 {
     const uint32_t *length = request->length;
+    const char *values = request->is_float ? "32-bit floats" : "16-bit values", *other = "";
+    if (!request->is_float && bytes == 2 * wanted)
+        other = " If it has 32-bit floats, as a scan of the second bench has, add --float.";
+    else if (request->is_float && 2 * bytes == wanted)
+        other = " If it has 16-bit values, leave out --float.";
     fail(STATUS_FAILED, "%s %s %" PRIu64 " bytes, and axes %" PRIu32 ", %" PRIu32 " and %" PRIu32 " want %" PRIu64
-         ", two a value. Check the axes, that the file has 16-bit values and no header, and that it was copied whole.",
-         request->file_shown, has, bytes, length[0], length[1], length[2], wanted);
+         ", %s. Check the axes, that the file has %s and no header, and that it was copied whole.%s",
+         request->file_shown, has, bytes, length[0], length[1], length[2], wanted,
+         request->is_float ? "four a reading" : "two a value", values, other);
 }
 
 /* The file, which has the right length, as far as a length can be known before it is read. */
@@ -810,7 +873,7 @@ static void unreadable(const struct request *request)
 /* Reads one byte more than is wanted, if there is one: a file can change while it is read, and a pipe has no length. */
 static void read_bytes(const struct request *request, struct block *block)
 {
-    size_t wanted = BYTES_A_SAMPLE * block->count, have = 0;
+    size_t wanted = (request->is_float ? BYTES_A_READING : BYTES_A_SAMPLE) * block->count, have = 0;
     int file = open_block(request, wanted);
     ssize_t got = 1;
     block->bytes = room(wanted + 1, wanted + 1, "The scan");
@@ -843,9 +906,29 @@ static void read_samples(const struct request *request, const unsigned char *byt
     }
 }
 
+/* The readings from their bytes, each in the place of its four. What is no reading is left to the library. */
+static void read_readings(const struct request *request, struct block *block)
+{
+    int is_big = strcmp(request->byte_order, "big") == 0;
+    block->readings = (float *)(void *)block->bytes;
+    for (size_t index = 0; index < block->count; index++) {
+        const unsigned char *at = block->bytes + BYTES_A_READING * index;
+        uint32_t bits = 0;
+        float value;
+        for (int byte = 0; byte < BYTES_A_READING; byte++)
+            bits = bits << 8 | at[is_big ? byte : BYTES_A_READING - 1 - byte];
+        memcpy(&value, &bits, sizeof value);
+        block->readings[index] = value;
+    }
+}
+
 static void read_block(const struct request *request, struct block *block)
 {
     read_bytes(request, block);
+    if (request->is_float) {
+        read_readings(request, block);
+        return;
+    }
     block->samples = room(block->count * sizeof *block->samples, block->count * sizeof *block->samples, "The scan");
     read_samples(request, block->bytes, block->samples, block->count, block);
     free(block->bytes);
@@ -854,22 +937,31 @@ static void read_block(const struct request *request, struct block *block)
 
 /* ---- the library ---- */
 
-/* Asks how large the mesh of so many samples is, or with --room how many edges are crossed. Both refuse the same. */
-static void ask_size(const struct request *request, const uint16_t *samples, size_t count, uint32_t *answer)
+/* Asks how large the mesh of a block is, or with --room how many edges are crossed. All refuse the same, and only of
+   readings one can be at fault. */
+static void ask_size(const struct request *request, const struct block *block, uint32_t *answer)
 {
     const uint32_t *length = request->length;
-    if (request->is_for_room)
-        parsniprow_crossed(length[0], length[1], length[2], samples, count, request->threshold, answer, ANSWER);
+    size_t count = block->count;
+    if (request->is_float)
+        parsniprow_readings_counts(length[0], length[1], length[2], block->readings, count, request->threshold, answer,
+                                   ANSWER);
+    else if (request->is_for_room)
+        parsniprow_crossed(length[0], length[1], length[2], block->samples, count, request->threshold, answer, ANSWER);
     else
-        parsniprow_counts(length[0], length[1], length[2], samples, count, request->threshold, answer, ANSWER);
+        parsniprow_counts(length[0], length[1], length[2], block->samples, count, request->threshold, answer, ANSWER);
 }
 
-/* How many samples the axes want. The library, asked without one, refuses an axis or else says how many it wants. */
-static size_t samples_wanted(const struct request *request)
+/* How many values the axes want. The library, asked without one, refuses an axis or else says how many it wants. */
+static size_t values_wanted(const struct request *request)
 {
     uint16_t no_sample = 0;
+    float no_reading = 0;
+    struct block nothing = {0};
     uint32_t answer[ANSWER];
-    ask_size(request, &no_sample, 0, answer);
+    nothing.samples = &no_sample;
+    nothing.readings = &no_reading;
+    ask_size(request, &nothing, answer);
     if (answer[0] != BAD_COUNT)
         refuse(request, answer);
     return answer[1];
@@ -911,10 +1003,26 @@ static void count_ceilings(struct block *block)
     block->first_ceiling = answer[2];
 }
 
+/* The grey values that the readings count as, of which none is at fault: the least, the greatest, and those at the
+   ceiling. */
+static void count_greys(struct block *block)
+{
+    for (size_t index = 0; index < block->count; index++) {
+        uint32_t answer[ANSWER];
+        uint16_t value;
+        parsniprow_reading(block->readings[index], answer, ANSWER);
+        value = (uint16_t)answer[1];
+        block->least = value < block->least ? value : block->least;
+        block->greatest = value > block->greatest ? value : block->greatest;
+        if (value == CEILING && block->ceiling_count++ == 0)
+            block->first_ceiling = (uint32_t)index;
+    }
+}
+
 static void find_size(const struct request *request, const struct block *block, uint32_t *answer)
 {
     enter(COUNTING);
-    ask_size(request, block->samples, block->count, answer);
+    ask_size(request, block, answer);
     if (answer[0] != NO_REFUSAL)
         refuse(request, answer);
 }
@@ -973,8 +1081,13 @@ static void make_mesh(const struct request *request, const struct block *block, 
     mesh->words = room(words, needed, "The mesh");
     mesh->offsets = room(offsets, needed, "The mesh");
     mesh->quads = room(quads, needed, "The mesh");
-    parsniprow_mesh(length[0], length[1], length[2], block->samples, block->count, request->threshold, mesh->words,
-                    words_len, mesh->offsets, offsets_len, mesh->quads, quads_len, answer, ANSWER);
+    if (request->is_float)
+        parsniprow_readings_mesh(length[0], length[1], length[2], block->readings, block->count, request->threshold,
+                                 mesh->words, words_len, mesh->offsets, offsets_len, mesh->quads, quads_len, answer,
+                                 ANSWER);
+    else
+        parsniprow_mesh(length[0], length[1], length[2], block->samples, block->count, request->threshold, mesh->words,
+                        words_len, mesh->offsets, offsets_len, mesh->quads, quads_len, answer, ANSWER);
     if (answer[0] != NO_REFUSAL)
         refuse(request, answer);
     if (answer[1] != mesh->vertex_count || answer[2] != mesh->quad_count)
@@ -1572,7 +1685,10 @@ static void tell_mesh(const struct request *request, struct block *block)
     uint32_t row[ANSWER * MOST_THRESHOLDS] = {0};
     if (request->listed_count > 0)
         count_row(request, block, row);
-    count_ceilings(block);
+    if (request->is_float)
+        count_greys(block);
+    else
+        count_ceilings(block);
     make_mesh(request, block, &mesh);
     check_closed(request, &mesh);
     find_pieces(request, &mesh);
@@ -1594,7 +1710,7 @@ int main(int argc, char **argv)
     for (int which = 0; which < OUTS; which++)
         if (outs[which].name)
             check_new(&outs[which]);
-    block.count = samples_wanted(&request);
+    block.count = values_wanted(&request);
     if (outs[PLY_FILE].name)
         check_spacing(&request);
     if (request.is_by_planes)

@@ -1,4 +1,5 @@
-/* Parsniprow: the surface between metal and hollow in a block of 16-bit grey values, as a mesh of quads.
+/* Parsniprow: the surface between metal and hollow in a block of 16-bit grey values, or of readings that become such,
+   as a mesh of quads.
 
    WHAT IS TRUE OF EVERY FUNCTION HERE
    - It may be asked anything: every number and every length is taken, and every call ends.
@@ -10,9 +11,10 @@
      where none writes what another's call reads or writes. What a mesh that is made plane by plane must remember stands
      in two buffers that the caller lends to each plane, the state and the work. A call takes less than 64 KiB of the
      stack. The library has no tables: its constants are less than 512 bytes. Of a C library it needs memcpy and memset.
-     The processor rounds to nearest, as a C program starts.
+     The processor rounds to nearest, traps at no float and takes the smallest floats as they are, as a C program
+     starts. (Linked with -ffast-math a program may start otherwise: readings just below zero then pass as zeros.)
    - C cuts an argument that is too large for its type before the call: 65636 as t arrives as 100. Check wider numbers
-     first.
+     first. It also rounds a double that is given as a float: 65534.999 as a reading arrives as 65535.
    - Nothing outside the lent buffers is touched, and what is lent as const is not written to.
    - An answer place is always written, with zeros where the answer does not use it. It takes the number of items that
      the function says. If the place is shorter, as many are written as it has room for. What lies behind is kept.
@@ -24,6 +26,11 @@
    same block and threshold. parsniprow_mesh fills the buffers. Then parsniprow_closed_with, parsniprow_pieces and
    parsniprow_ply may be asked about the mesh. The other questions stand by themselves: parsniprow_ceilings,
    parsniprow_edge, parsniprow_cube and parsniprow_closed.
+   A block of readings goes the same way: parsniprow_readings_counts says how long the buffers must be, and
+   parsniprow_readings_mesh fills them. What may be asked about a mesh may be asked about this one too. All other
+   questions about a block take grey values. parsniprow_reading says of one reading which grey value it becomes. So
+   whoever wants the crossed edges, the ceilings, several thresholds or a mesh plane by plane of a block of readings
+   makes the grey values first.
    A scan that is too large to be held at once goes plane by plane: parsniprow_start once, then parsniprow_plane for
    each of the nz planes by rising z, then parsniprow_end. Each call of parsniprow_plane writes the part of the mesh
    that its plane finishes. Neither the counts nor the crossed edges need be asked before.
@@ -34,8 +41,9 @@
 
      number  given exactly when                value
      1       an axis is under 2 or over 256    lowest such axis, 0 to 2
-     2       samples_len is not nx * ny * nz,  nx * ny * nz, or of a
-             or plane_len is not nx * ny       plane nx * ny
+     2       samples_len or readings_len is    nx * ny * nz, or of a
+             not nx * ny * nz, or plane_len    plane nx * ny
+             is not nx * ny
      3       t or a threshold is 0 or 65535    that threshold
      5       words_len is under 2 a vertex,    vertices needed, for a
              or offsets_len is under 3 a       plane by this call
@@ -60,6 +68,13 @@
              have been taken
      18      the end is asked before nz        planes taken
              planes have been taken
+     19      of the readings at fault the one  its index; of a single
+             with the lowest index is no       reading 0
+             number
+     20      the same one is infinite, of      its index; of a single
+             either sign                       reading 0
+     21      the same one is below zero and    its index; of a single
+             not infinite                      reading 0
      22      words_len and offsets_len are     words_len
              not twice and three times one
              count of at most 66325500
@@ -79,6 +94,15 @@
    whose cube has a corner at 65535 carries a mark: bit 12 (4096) of its word. Neither the counts nor the number of
    crossed edges shows a mark. A ceiling with metal all round leaves no vertex and so no mark: parsniprow_ceilings
    counts every one.
+
+   READINGS
+   A second bench delivers 32-bit floats. Such a reading becomes a grey value: the greatest whole number that is not
+   above it, so 400.75 becomes 400. 65535 and every finite reading above it become 65535, the ceiling. Minus zero is
+   zero. A reading that has no grey value is at fault: it is no number (NaN, with any bits and either sign), infinite or
+   below zero, be it ever so little. Of several at fault in a block the one with the lowest index decides, whatever its
+   fault is. Readings stand in the order of samples, and they are not changed: no block of grey values is lent or
+   allocated. The mesh is that of the block of grey values, with its marks. So fractions do not count: a crossing lies
+   where the grey values put it.
 
    THE MESH
    An edge joins two samples that are neighbours along x, y or z; its lower end has the smaller coordinate. It is
@@ -185,6 +209,35 @@ void parsniprow_thresholds(uint32_t nx, uint32_t ny, uint32_t nz, const uint16_t
 void parsniprow_mesh(uint32_t nx, uint32_t ny, uint32_t nz, const uint16_t *samples, size_t samples_len, uint16_t t,
                      uint32_t *words, size_t words_len, double *offsets, size_t offsets_len, uint32_t *quads,
                      size_t quads_len, uint32_t *answer, size_t answer_len);
+
+/* What a reading is.
+     x       the reading, any float
+     answer  answer place, 3 items: 0, its grey value, which is 65535 at the ceiling, 0; or refusal 19, 20 or 21, 0 (a
+             single reading has the index 0), 0 */
+void parsniprow_reading(float x, uint32_t *answer, size_t answer_len);
+
+/* How many vertices and quads the mesh of a block of readings has: as many as parsniprow_counts answers for the block
+   of their grey values.
+     nx, ny, nz  axis lengths in samples, each 2 to 256
+     readings    nx * ny * nz readings
+     t           the threshold, 1 to 65534
+     answer      answer place, 3 items: 0, vertices, quads; or refusal (1, 2 or 3, tried in this order, then 19, 20 or
+                 21, whichever the lowest reading at fault has), its value, 0 */
+void parsniprow_readings_counts(uint32_t nx, uint32_t ny, uint32_t nz, const float *readings, size_t readings_len,
+                                uint16_t t, uint32_t *answer, size_t answer_len);
+
+/* The mesh of a block of readings: what parsniprow_mesh writes for the block of their grey values, to the last bit. Ask
+   parsniprow_readings_counts first, which says the exact lengths. More room is allowed.
+     nx, ny, nz, readings, t  as of parsniprow_readings_counts
+     words, offsets, quads    as of parsniprow_mesh. The mark, bit 12 of a word, is set if the reading at a corner of
+                              the cube is at the ceiling
+     answer  answer place, 3 items: 0, vertices, quads; or refusal (1, 2 or 3, tried in this order, then 19, 20 or 21,
+             whichever the lowest reading at fault has, then 5, then 6), its value, 0
+   The three buffers keep their contents on refusal, and always behind the mesh. They are handed on as of
+   parsniprow_mesh. */
+void parsniprow_readings_mesh(uint32_t nx, uint32_t ny, uint32_t nz, const float *readings, size_t readings_len,
+                              uint16_t t, uint32_t *words, size_t words_len, double *offsets, size_t offsets_len,
+                              uint32_t *quads, size_t quads_len, uint32_t *answer, size_t answer_len);
 
 /* The mesh of a block, plane by plane. The block need not be held in memory: its planes are handed over by rising z,
    plane k the nx * ny samples from index nx * ny * k on. The calls for one block are a run:

@@ -1,11 +1,12 @@
 /* A caller of the installed library, in the words that C and C++ share: the paper's samples through each of the
-   fourteen functions, in a thread with a stack of 64 KiB, which the header says is enough. Prints what is wrong and
+   seventeen functions, in a thread with a stack of 64 KiB, which the header says is enough. Prints what is wrong and
    ends with status 1, or ends with status 0.
    Assumes the installed header and archive, and POSIX threads. */
 #define _POSIX_C_SOURCE 200809L
 
 #include <parsniprow.h>
 
+#include <math.h>
 #include <pthread.h>
 #include <stdio.h>
 #include <string.h>
@@ -13,6 +14,7 @@
 enum { STACK = 65536, SAMPLES = 27, VERTICES = 8, MARKED_VERTICES = 9, QUADS = 6, MARK = 4096 };
 enum { EDGES = 6, MARKED_EDGES = 9, RESERVED = 4 * MARKED_EDGES / 3 };
 enum { THRESHOLDS = 7, MOST_THRESHOLDS = 16 };
+enum { LARGE_PLANES = 40 };
 enum { PLANES = 3, PLANE = 9, PLANE_WORK = 6 * PLANE, PLANES_TAKEN = PARSNIPROW_STATE - 1 };
 enum { WORK = VERTICES + 4 * QUADS, FILE_BYTES = 466, HEAD_BYTES = 172 };
 
@@ -137,6 +139,82 @@ static void ask_thresholds(void)
     expect("their counts", answers(row, 0, VERTICES, QUADS) && answers(row + 9, 0, VERTICES, QUADS) &&
                                answers(row + 12, 0, 0, 0) && answers(row + 15, 0, VERTICES, QUADS) &&
                                answers(row + 18, 0, VERTICES, QUADS));
+}
+
+static void ask_reading(void)
+{
+    uint32_t answer[3] = {9, 9, 9};
+    parsniprow_reading(400.75f, answer, 2);
+    expect("an answer place of two items for a reading", answers(answer, 0, 400, 9));
+    parsniprow_reading(-0.0f, answer, 3);
+    expect("minus zero", answers(answer, 0, 0, 0));
+    parsniprow_reading(65534.996f, answer, 3);
+    expect("a reading below the ceiling", answers(answer, 0, 65534, 0));
+    parsniprow_reading(65535, answer, 3);
+    expect("a reading at the ceiling", answers(answer, 0, 65535, 0));
+    parsniprow_reading(1e9f, answer, 3);
+    expect("a reading above it", answers(answer, 0, 65535, 0));
+    parsniprow_reading(NAN, answer, 3);
+    expect("no number", answers(answer, 19, 0, 0));
+    parsniprow_reading(-INFINITY, answer, 3);
+    expect("infinite below zero", answers(answer, 20, 0, 0));
+    parsniprow_reading(-1e-45f, answer, 3);
+    expect("below zero", answers(answer, 21, 0, 0));
+}
+
+/* The paper's block as readings: of several at fault the first decides, after 3 and before 5. */
+static void ask_refused_readings(float *readings, uint32_t *words, double *offsets, uint32_t *quads)
+{
+    uint32_t answer[3] = {9, 9, 9};
+    readings[5] = -1;
+    readings[7] = NAN;
+    parsniprow_readings_counts(3, 1, 257, readings, 3, 0, answer, 3);
+    expect("counts of readings with an axis that is none", answers(answer, 1, 1, 0));
+    parsniprow_readings_counts(3, 3, 3, readings, SAMPLES - 1, 0, answer, 3);
+    expect("counts with a reading less", answers(answer, 2, SAMPLES, 0));
+    parsniprow_readings_counts(3, 3, 3, readings, SAMPLES, 65535, answer, 3);
+    expect("counts of readings at a threshold that is none", answers(answer, 3, 65535, 0));
+    parsniprow_readings_counts(3, 3, 3, readings, SAMPLES, 100, answer, 3);
+    expect("counts of readings, two of them at fault", answers(answer, 21, 5, 0));
+    readings[5] = 0.25f;
+    parsniprow_readings_mesh(3, 3, 3, readings, SAMPLES, 100, words, 0, offsets, 0, quads, 0, answer, 3);
+    expect("a mesh of readings, one of them no number, without room", answers(answer, 19, 7, 0));
+    readings[7] = INFINITY;
+    parsniprow_readings_mesh(3, 3, 3, readings, SAMPLES, 100, words, 2 * VERTICES, offsets, 3 * VERTICES, quads,
+                             4 * QUADS, answer, 3);
+    expect("a mesh of readings, one of them infinite", answers(answer, 20, 7, 0));
+    readings[7] = 0.25f;
+    parsniprow_readings_mesh(3, 3, 3, readings, SAMPLES, 100, words, 2 * VERTICES, offsets, 3 * VERTICES - 1, quads, 0,
+                             answer, 3);
+    expect("no room for the vertices of readings", answers(answer, 5, VERTICES, 0));
+    parsniprow_readings_mesh(3, 3, 3, readings, SAMPLES, 100, words, 2 * VERTICES, offsets, 3 * VERTICES, quads,
+                             4 * QUADS - 1, answer, 3);
+    expect("no room for the quads of readings", answers(answer, 6, QUADS, 0));
+    expect("buffers that are kept", words[0] == 99 && offsets[0] == 99 && quads[0] == 99);
+}
+
+static void ask_readings(void)
+{
+    float readings[SAMPLES];
+    uint32_t words[2 * MARKED_VERTICES], quads[4 * QUADS], answer[3] = {9, 9, 9};
+    double offsets[3 * MARKED_VERTICES];
+    for (size_t at = 0; at < SAMPLES; at++)
+        readings[at] = 0.25f;
+    readings[13] = 400.75f;
+    words[0] = quads[0] = 99;
+    offsets[0] = 99;
+    ask_refused_readings(readings, words, offsets, quads);
+    parsniprow_readings_counts(3, 3, 3, readings, SAMPLES, 100, answer, 3);
+    expect("counts of readings", answers(answer, 0, VERTICES, QUADS));
+    parsniprow_readings_mesh(3, 3, 3, readings, SAMPLES, 100, words, 2 * VERTICES, offsets, 3 * VERTICES, quads,
+                             4 * QUADS, answer, 3);
+    expect("a mesh of readings", answers(answer, 0, VERTICES, QUADS) && words[1] == 0x888 && offsets[0] == 0.75 &&
+                                     quads[1] == 4);
+    readings[26] = 1e9f;
+    parsniprow_readings_mesh(3, 3, 3, readings, SAMPLES, 100, words, 2 * MARKED_VERTICES, offsets, 3 * MARKED_VERTICES,
+                             quads, 4 * QUADS, answer, 3);
+    expect("a reading above the ceiling in a mesh", answers(answer, 0, MARKED_VERTICES, QUADS) && words[1] == 0x888 &&
+                                                        words[15] == MARK + 0x111 && words[17] == MARK + 0x888);
 }
 
 /* The state has an item more than it needs. */
@@ -324,6 +402,26 @@ static void ask_large_planes(void)
     expect("the end of a large block", answers(answer, 0, VERTICES, QUADS));
 }
 
+/* Readings of 256 samples along x and y: one of metal in the second plane, and then one at fault at the end. */
+static void ask_large_readings(void)
+{
+    static float readings[256 * 256 * LARGE_PLANES];
+    uint32_t words[2 * VERTICES], quads[4 * QUADS], answer[3] = {9, 9, 9};
+    double offsets[3 * VERTICES];
+    size_t count = sizeof readings / sizeof *readings;
+    for (size_t at = 0; at < count; at++)
+        readings[at] = 0.25f;
+    readings[1 + 256 * (1 + 256)] = 400.75f;
+    parsniprow_readings_counts(256, 256, LARGE_PLANES, readings, count, 100, answer, 3);
+    expect("counts of many readings", answers(answer, 0, VERTICES, QUADS));
+    parsniprow_readings_mesh(256, 256, LARGE_PLANES, readings, count, 100, words, 2 * VERTICES, offsets, 3 * VERTICES,
+                             quads, 4 * QUADS, answer, 3);
+    expect("a mesh of many readings", answers(answer, 0, VERTICES, QUADS) && words[1] == 0x888 && offsets[0] == 0.75);
+    readings[count - 1] = -1;
+    parsniprow_readings_mesh(256, 256, LARGE_PLANES, readings, count, 100, words, 0, offsets, 0, quads, 0, answer, 3);
+    expect("many readings, the last below zero", answers(answer, 21, (uint32_t)count - 1, 0));
+}
+
 static void *ask(void *unused)
 {
     uint32_t quads[4 * QUADS];
@@ -332,6 +430,8 @@ static void *ask(void *unused)
     ask_block(quads);
     ask_crossed();
     ask_thresholds();
+    ask_reading();
+    ask_readings();
     ask_planes();
     ask_closed(quads);
     ask_closed_with(quads);
@@ -339,6 +439,7 @@ static void *ask(void *unused)
     ask_ply();
     ask_large();
     ask_large_planes();
+    ask_large_readings();
     return unused;
 }
 

@@ -1,9 +1,10 @@
 /* Compares the library with the plain implementation on many random blocks, their crossed edges and rows of thresholds,
-   on blocks that are handed over plane by plane, on edges, cubes, lists of quads and their pieces, lists of samples and
-   meshes that become files: the answers, and every byte of every lent buffer, with what is beside it. Of blocks that
-   have a margin of one sign the mesh must be closed.
-   Usage: compare [blocks [seed [first block]]].
-   From 20,000 blocks on it also tries what takes seconds, and fails if something that it should try never occurred. The
+   on blocks that are handed over plane by plane, on readings and blocks of them, on edges, cubes, lists of quads and
+   their pieces, lists of samples and meshes that become files: the answers, and every byte of every lent buffer, with
+   what is beside it. Of blocks that have a margin of one sign the mesh must be closed.
+   Usage: compare [blocks [seed [first block]]], or compare all.
+   From 20,000 blocks on it also tries what takes seconds, and fails if something that it should try never occurred.
+   With the word all it asks each of the 2^32 readings there are and nothing else, which takes a minute or more. The
    last line is a summary, and the exit status is 0 only if nothing differed and nothing was missing.
    Assumes that the library is linked in; built with -DSELF the plain implementation stands in for it. */
 #include "compare.h"
@@ -18,10 +19,11 @@
 enum { DEFAULT_BLOCKS = 20000, DEFAULT_SEED = 1, ENOUGH_BLOCKS = 20000, LINE = 118, MOST_MISSING = 64 };
 
 static const char *const function_names[FUNCTIONS] = {
-    "parsniprow_edge",       "parsniprow_cube",        "parsniprow_crossed", "parsniprow_counts",
-    "parsniprow_thresholds", "parsniprow_mesh",        "parsniprow_start",   "parsniprow_plane",
-    "parsniprow_end",        "parsniprow_closed",      "parsniprow_closed_with",
-    "parsniprow_pieces",     "parsniprow_ceilings",    "parsniprow_ply",
+    "parsniprow_edge",          "parsniprow_cube",        "parsniprow_crossed", "parsniprow_counts",
+    "parsniprow_thresholds",    "parsniprow_mesh",        "parsniprow_reading", "parsniprow_readings_counts",
+    "parsniprow_readings_mesh", "parsniprow_start",       "parsniprow_plane",   "parsniprow_end",
+    "parsniprow_closed",        "parsniprow_closed_with", "parsniprow_pieces",  "parsniprow_ceilings",
+    "parsniprow_ply",
 };
 
 static uint64_t asked[FUNCTIONS][BESIDES], differences;
@@ -193,6 +195,8 @@ static void try_fixed(void)
     try_fixed_rows();
     working_on(strcpy(occasion, "among the planes that are asked once"));
     try_fixed_planes();
+    working_on(strcpy(occasion, "among the readings that are asked once"));
+    try_fixed_readings();
 }
 
 static void try_with_block(uint64_t seed, uint64_t block)
@@ -216,6 +220,8 @@ static void try_with_block(uint64_t seed, uint64_t block)
     try_rows(&trial);
     if (block % 2 == 1)
         try_planes(&trial);
+    else
+        try_readings(&trial);
 }
 
 static void print_missing(void)
@@ -226,7 +232,7 @@ static void print_missing(void)
 
 static int report(uint64_t blocks)
 {
-    uint64_t edges, cubes, lists, ceilings, files, margins, pieces, rooms, rows, planes;
+    uint64_t edges, cubes, lists, ceilings, files, margins, pieces, rooms, rows, planes, readings;
     char of_missing[40] = "";
     int enough = blocks >= ENOUGH_BLOCKS;
     tally_blocks();
@@ -240,6 +246,7 @@ static int report(uint64_t blocks)
     rooms = tally_rooms();
     rows = tally_rows();
     planes = tally_planes();
+    readings = tally_readings();
     tally_asked();
     printf("\n");
     if (enough) {
@@ -248,11 +255,11 @@ static int report(uint64_t blocks)
     }
     printf("compare: %llu blocks, %llu edges, %llu cubes, %llu lists of quads, %llu of samples, %llu files, "
            "%llu blocks with a margin, %llu lists for pieces, %llu blocks for room, %llu rows of thresholds, "
-           "%llu blocks plane by plane, %s%llu differences\n",
+           "%llu blocks plane by plane, %llu blocks of readings, %s%llu differences\n",
            (unsigned long long)blocks, (unsigned long long)edges, (unsigned long long)cubes, (unsigned long long)lists,
            (unsigned long long)ceilings, (unsigned long long)files, (unsigned long long)margins,
            (unsigned long long)pieces, (unsigned long long)rooms, (unsigned long long)rows,
-           (unsigned long long)planes, of_missing,
+           (unsigned long long)planes, (unsigned long long)readings, of_missing,
            (unsigned long long)differences);
     return differences > 0 || (enough && missing_count > 0);
 }
@@ -267,15 +274,27 @@ static uint64_t argument(int argc, char **argv, int which, uint64_t otherwise)
     errno = 0;
     number = strtoull(argv[which], &end, 10);
     if (errno != 0 || end == argv[which] || *end != '\0' || argv[which][0] == '-') {
-        fprintf(stderr, "compare: '%s' is no number; usage: compare [blocks [seed [first block]]]\n", argv[which]);
+        fprintf(stderr, "compare: '%s' is no number; usage: compare [blocks [seed [first block]]], or compare all\n",
+                argv[which]);
         exit(2);
     }
     return number;
 }
 
+static int compare_all_readings(void)
+{
+    uint64_t readings;
+    strcpy(occasion, "among all readings");
+    readings = try_all_readings();
+    printf("compare: %llu readings, %llu differences\n", (unsigned long long)readings,
+           (unsigned long long)differences);
+    return differences > 0;
+}
+
 int main(int argc, char **argv)
 {
-    uint64_t blocks = argument(argc, argv, 1, DEFAULT_BLOCKS);
+    int is_all = argc == 2 && strcmp(argv[1], "all") == 0;
+    uint64_t blocks = is_all ? 1 : argument(argc, argv, 1, DEFAULT_BLOCKS);
     uint64_t seed = argument(argc, argv, 2, DEFAULT_SEED);
     uint64_t first = argument(argc, argv, 3, 0);
     if (blocks == 0) {
@@ -284,6 +303,8 @@ int main(int argc, char **argv)
     }
     setvbuf(stdout, NULL, _IOLBF, BUFSIZ); /* so that a crash loses no line */
     watch_for_crashes();
+    if (is_all)
+        return compare_all_readings();
     printf("compare: seed %llu, blocks from %llu\n", (unsigned long long)seed, (unsigned long long)first);
     try_fixed();
     if (blocks >= ENOUGH_BLOCKS) {
@@ -295,6 +316,8 @@ int main(int argc, char **argv)
         try_largest_rows();
         working_on(strcpy(occasion, "with the planes of large blocks"));
         try_largest_planes();
+        working_on(strcpy(occasion, "with many readings and the largest block of them"));
+        try_largest_readings();
     }
     for (uint64_t block = first; block - first < blocks; block++)
         try_with_block(seed, block);

@@ -15,6 +15,9 @@
 #define parsniprow_counts plain_counts
 #define parsniprow_thresholds plain_thresholds
 #define parsniprow_mesh plain_mesh
+#define parsniprow_reading plain_reading
+#define parsniprow_readings_counts plain_readings_counts
+#define parsniprow_readings_mesh plain_readings_mesh
 #define parsniprow_start plain_start
 #define parsniprow_plane plain_plane
 #define parsniprow_end plain_end
@@ -37,6 +40,9 @@ enum function {
     COUNTS,
     THRESHOLDS,
     MESH,
+    READING,
+    READINGS_COUNTS,
+    READINGS_MESH,
     START,
     PLANES,
     END,
@@ -107,8 +113,8 @@ struct trial {
 /* Asks the counts and the mesh of a block and fills in the trial but for its chance; then what goes with the block:
    some edges, some of its cubes, some lists of quads, its samples at the ceiling, some files, another block, whose
    samples on the faces of the box are all of one sign, the pieces of some lists, its crossed edges with those of some
-   other blocks, its counts by rows of thresholds with those of some other blocks, and some other blocks plane by
-   plane. */
+   other blocks, its counts by rows of thresholds with those of some other blocks, some other blocks plane by plane, and
+   some readings with a block of readings. */
 void try_block(struct trial *trial);
 void try_edges(struct trial *trial);
 void try_cubes(struct trial *trial);
@@ -120,6 +126,7 @@ void try_pieces(struct trial *trial);
 void try_room(struct trial *trial);
 void try_rows(struct trial *trial);
 void try_planes(struct trial *trial);
+void try_readings(struct trial *trial);
 
 /* The closed question takes the square of a list without work, so it is asked so only up to this many quads. */
 enum { SQUARE_QUADS = 352 };
@@ -147,12 +154,17 @@ void try_fixed_pieces(void);
 void try_fixed_rooms(void);
 void try_fixed_rows(void);
 void try_fixed_planes(void);
+void try_fixed_readings(void);
 
 /* What takes seconds, and is asked only with enough blocks. */
 void try_longest_file(void);
 void try_largest_blocks(void);
 void try_largest_rows(void);
 void try_largest_planes(void);
+void try_largest_readings(void);
+
+/* What takes minutes: all 2^32 readings. Gives how many were asked. */
+uint64_t try_all_readings(void);
 
 /* Print what has occurred, and give the number of calls. */
 void tally_blocks(void);
@@ -166,5 +178,6 @@ uint64_t tally_pieces(void);
 uint64_t tally_rooms(void);
 uint64_t tally_rows(void);
 uint64_t tally_planes(void);
+uint64_t tally_readings(void);
 
 #endif

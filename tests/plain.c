@@ -4,7 +4,10 @@
    longest search is found as the paper says it, since that is a rule about a method. A file is refused by one rule
    after the other, each over the whole mesh, and its head is made by printf. A run of planes remembers the samples of
    the last two planes and nothing of the mesh: with the next plane they are a block of their own, meshed as any other.
-   Assumes doubles rounded to nearest, each operation by itself (-ffp-contract=off). */
+   Of a reading only the bits are looked at, with no float arithmetic, and the block of its grey values is put together
+   before it is meshed.
+   Assumes doubles rounded to nearest, each operation by itself (-ffp-contract=off), and floats of 32 bits by IEEE 754
+   whose bytes stand as those of a uint32_t. */
 #include "plain.h"
 
 #include <stdio.h>
@@ -14,6 +17,7 @@
 enum { AXES = 3, CORNERS = 8, EDGES = 12, FACES = 6, MOST_LOOPS = 4, CEILING = 65535, MARK = 4096 };
 enum { SHORTEST_AXIS = 2, LONGEST_AXIS = 256, WORDS = 2, SIDES = 4, ANSWER = 3, CLOSED_ANSWER = 4 };
 enum { MOST_THRESHOLDS = 16, STATE = 7, WORK_PLANES = 6, KEPT_PLANES = 2 };
+enum { FRACTION_BITS = 23, EXPONENT_BITS = 8, NO_EXPONENT = 255, BIAS = 127 };
 enum { MOST_VERTICES = 66325500, WIDEST_SPACING = 1000, MOST_HEAD = 256, DOUBLE_BYTES = 8, INT_BYTES = 4 };
 
 /* Corner pairs of the edges, the lower one first. */
@@ -997,6 +1001,68 @@ void plain_cut(uint32_t nx, uint32_t ny, uint32_t nz, const uint32_t *words, uin
     }
 }
 
+/* ---- readings ---- */
+
+/* The greatest whole number not above significand * 2^power, or 65535 where that is less. The significand is at least
+   2^23 and below 2^24. */
+static uint16_t whole_part(uint32_t significand, int power)
+{
+    uint32_t whole;
+    if (power >= 0)
+        return CEILING;
+    if (power < -FRACTION_BITS)
+        return 0;
+    whole = significand >> -power;
+    return (uint16_t)(whole < CEILING ? whole : CEILING);
+}
+
+/* What the reading with this index is: a refusal, or a grey value. The lowest exponent has no leading bit. */
+static struct refusal read_one(float x, uint32_t index, uint16_t *grey)
+{
+    uint32_t bits, fraction, exponent;
+    int is_negative;
+    memcpy(&bits, &x, sizeof bits);
+    fraction = bits & (((uint32_t)1 << FRACTION_BITS) - 1);
+    exponent = bits >> FRACTION_BITS & (((uint32_t)1 << EXPONENT_BITS) - 1);
+    is_negative = bits >> (FRACTION_BITS + EXPONENT_BITS) == 1;
+    *grey = 0;
+    if (exponent == NO_EXPONENT)
+        return fraction != 0 ? refuse(19, index) : refuse(20, index);
+    if (is_negative && (exponent != 0 || fraction != 0))
+        return refuse(21, index);
+    if (exponent != 0)
+        *grey = whole_part(fraction | (uint32_t)1 << FRACTION_BITS, (int)exponent - BIAS - FRACTION_BITS);
+    return accepted;
+}
+
+/* The grey values of all readings, or the refusal of the first that is none. */
+static struct refusal read_all(const float *readings, size_t count, uint16_t *greys)
+{
+    for (size_t index = 0; index < count; index++) {
+        struct refusal refusal = read_one(readings[index], (uint32_t)index, &greys[index]);
+        if (refusal.number)
+            return refusal;
+    }
+    return accepted;
+}
+
+/* Where the readings make a block, its samples, which the caller frees; else null, and the refusal is said. */
+static uint16_t *block_of_readings(uint32_t nx, uint32_t ny, uint32_t nz, const float *readings, size_t readings_len,
+                                   uint16_t t, uint32_t *answer, size_t answer_len)
+{
+    struct refusal refusal = check_block(nx, ny, nz, readings_len, t);
+    uint16_t *samples = NULL;
+    if (!refusal.number) {
+        samples = room_for(readings_len, sizeof *samples);
+        refusal = read_all(readings, readings_len, samples);
+    }
+    if (!refusal.number)
+        return samples;
+    say_refused(answer, answer_len, refusal);
+    free(samples);
+    return NULL;
+}
+
 /* ---- the questions ---- */
 
 void plain_edge(uint16_t p, uint16_t q, uint16_t t, double *fraction, size_t fraction_len, uint32_t *answer,
@@ -1100,6 +1166,38 @@ void plain_mesh(uint32_t nx, uint32_t ny, uint32_t nz, const uint16_t *samples, 
         say(answer, answer_len, 0, vertex_count, quad_count);
     }
     free(first);
+}
+
+void plain_reading(float x, uint32_t *answer, size_t answer_len)
+{
+    uint16_t grey;
+    struct refusal refusal = read_one(x, 0, &grey);
+    if (refusal.number)
+        say_refused(answer, answer_len, refusal);
+    else
+        say(answer, answer_len, 0, grey, 0);
+}
+
+void plain_readings_counts(uint32_t nx, uint32_t ny, uint32_t nz, const float *readings, size_t readings_len,
+                           uint16_t t, uint32_t *answer, size_t answer_len)
+{
+    uint16_t *samples = block_of_readings(nx, ny, nz, readings, readings_len, t, answer, answer_len);
+    if (!samples)
+        return;
+    plain_counts(nx, ny, nz, samples, readings_len, t, answer, answer_len);
+    free(samples);
+}
+
+void plain_readings_mesh(uint32_t nx, uint32_t ny, uint32_t nz, const float *readings, size_t readings_len, uint16_t t,
+                         uint32_t *words, size_t words_len, double *offsets, size_t offsets_len, uint32_t *quads,
+                         size_t quads_len, uint32_t *answer, size_t answer_len)
+{
+    uint16_t *samples = block_of_readings(nx, ny, nz, readings, readings_len, t, answer, answer_len);
+    if (!samples)
+        return;
+    plain_mesh(nx, ny, nz, samples, readings_len, t, words, words_len, offsets, offsets_len, quads, quads_len, answer,
+               answer_len);
+    free(samples);
 }
 
 void plain_start(uint32_t nx, uint32_t ny, uint32_t nz, uint16_t t, uint32_t *work, size_t work_len, uint32_t *state,

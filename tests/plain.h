@@ -43,6 +43,21 @@ void plain_mesh(uint32_t nx, uint32_t ny, uint32_t nz, const uint16_t *samples, 
                 uint32_t *words, size_t words_len, double *offsets, size_t offsets_len, uint32_t *quads,
                 size_t quads_len, uint32_t *answer, size_t answer_len);
 
+/* What a reading of the second bench is. Answer: 0, grey value, which is 65535 at the ceiling, 0. Refusals 19, 20, 21,
+   each with the value 0. */
+void plain_reading(float x, uint32_t *answer, size_t answer_len);
+
+/* The counts of the mesh of the block that the readings become. Answer: 0, vertices, quads. Refusals 1, 2, 3, then that
+   of the lowest reading at fault, 19, 20 or 21. */
+void plain_readings_counts(uint32_t nx, uint32_t ny, uint32_t nz, const float *readings, size_t readings_len,
+                           uint16_t t, uint32_t *answer, size_t answer_len);
+
+/* The mesh of that block into lent buffers, as plain_mesh writes it. Answer: 0, vertices, quads. Refusals as of
+   plain_readings_counts, then 5, 6. */
+void plain_readings_mesh(uint32_t nx, uint32_t ny, uint32_t nz, const float *readings, size_t readings_len, uint16_t t,
+                         uint32_t *words, size_t words_len, double *offsets, size_t offsets_len, uint32_t *quads,
+                         size_t quads_len, uint32_t *answer, size_t answer_len);
+
 /* The mesh plane by plane. A state has seven words: nx, ny, nz, t, vertices so far, quads so far, planes taken; what is
    missing is read as 0, and t modulo 65536. What stands in work is another matter than what the library puts there.
    The start writes the state with no plane taken. Answer: 0, 0, 0. Refusals 1, 3, 15. */

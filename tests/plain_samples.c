@@ -1,13 +1,15 @@
 /* Runs the plain implementation on the paper's samples: the example block with its whole output, the nine cubes, the
    edges, the refusals, lists of quads and the table of faces; on samples at the ceiling, which are metal and leave a
-   mark; on rows of thresholds for the example block; on that block plane by plane; on blocks whose crossed edges were
-   worked out by hand or come from a formula; on two samples that are joined across a face, whose mesh is closed; on the
-   work of the closed question; on the pieces of small lists that were worked out by hand and of the example's mesh; and
-   on files of that mesh and of the empty one. Prints each sample and its verdict; exits with 1 if one differs.
+   mark; on rows of thresholds for the example block; on that block plane by plane; on readings and small blocks of them
+   that were worked out by hand; on blocks whose crossed edges were worked out by hand or come from a formula; on two
+   samples that are joined across a face, whose mesh is closed; on the work of the closed question; on the pieces of
+   small lists that were worked out by hand and of the example's mesh; and on files of that mesh and of the empty one.
+   Prints each sample and its verdict; exits with 1 if one differs.
    Assumes nothing of the library. */
 #include "bench_cubes.h"
 #include "hand_blocks.h"
 #include "hand_lists.h"
+#include "hand_readings.h"
 #include "plain.h"
 
 #include <stdio.h>
@@ -458,6 +460,85 @@ static void planes_refused(void)
     plane_refused("quads for none: 6, value 1", 1, EXAMPLE_PLANE, EXAMPLE_WORK, 8, 12, 3, 6, 1);
 }
 
+/* ---- readings ---- */
+
+static void readings_by_hand(void)
+{
+    for (size_t i = 0; i < HAND_READINGS; i++) {
+        const struct hand_reading *hand = &hand_readings[i];
+        uint32_t answer[ANSWER] = {UNTOUCHED, UNTOUCHED, UNTOUCHED}, cut[ANSWER] = {UNTOUCHED, UNTOUCHED, UNTOUCHED};
+        char name[64];
+        plain_reading(reading_of(hand->bits), answer, ANSWER);
+        plain_reading(reading_of(hand->bits), cut, 1);
+        sprintf(name, "reading %s", hand->name);
+        verdict(name, says(answer, hand->number, hand->grey, 0) && says(cut, hand->number, UNTOUCHED, UNTOUCHED));
+    }
+}
+
+/* Where the mesh is refused, what there is room for is kept. */
+static void blocks_of_readings(void)
+{
+    enum { ROOM = 12 };
+    for (size_t i = 0; i < HAND_READING_BLOCKS; i++) {
+        const struct hand_reading_block *block = &hand_reading_blocks[i];
+        const uint32_t *n = block->length, *counts = block->counted, *mesh = block->meshed;
+        uint32_t words[2 * ROOM], quads[4 * ROOM], counted[ANSWER], answer[ANSWER];
+        size_t vertex_count = mesh[0] == 0 ? mesh[1] : 0, quad_count = mesh[0] == 0 ? mesh[2] : 0;
+        float readings[MOST_HAND_READINGS];
+        double offsets[3 * ROOM];
+        int is_kept = 1;
+        fill_hand_reading_block(block, readings);
+        for (size_t at = 0; at < 4 * ROOM; at++)
+            quads[at] = words[at % (2 * ROOM)] = UNTOUCHED;
+        for (size_t at = 0; at < 3 * ROOM; at++)
+            offsets[at] = 9;
+        plain_readings_counts(n[0], n[1], n[2], readings, block->readings_len, block->t, counted, ANSWER);
+        plain_readings_mesh(n[0], n[1], n[2], readings, block->readings_len, block->t, words, 2 * block->vertices,
+                            offsets, 3 * block->vertices, quads, 4 * block->quads, answer, ANSWER);
+        for (size_t at = 2 * vertex_count; at < 2 * ROOM; at++)
+            is_kept = is_kept && words[at] == UNTOUCHED;
+        for (size_t at = 3 * vertex_count; at < 3 * ROOM; at++)
+            is_kept = is_kept && offsets[at] == 9;
+        for (size_t at = 4 * quad_count; at < 4 * ROOM; at++)
+            is_kept = is_kept && quads[at] == UNTOUCHED;
+        verdict(block->name, is_kept && says(counted, counts[0], counts[1], counts[2]) &&
+                                 says(answer, mesh[0], mesh[1], mesh[2]));
+    }
+}
+
+/* The example as readings with fractions has the example's mesh, and at the ceiling the marked one. */
+static void example_of_readings(const char *name, float last, uint16_t last_sample, uint32_t vertices, uint32_t marked)
+{
+    uint16_t samples[EXAMPLE_SAMPLES];
+    uint32_t words[2][2 * MOST_VERTICES], quads[2][4 * EXAMPLE_QUADS], answer[2][ANSWER], found = 0;
+    double offsets[2][3 * MOST_VERTICES];
+    float readings[EXAMPLE_SAMPLES];
+    example_block(samples);
+    samples[EXAMPLE_SAMPLES - 1] = last_sample;
+    for (size_t index = 0; index < EXAMPLE_SAMPLES; index++)
+        readings[index] = 0.25f;
+    readings[13] = 400.75f;
+    readings[EXAMPLE_SAMPLES - 1] = last;
+    plain_mesh(3, 3, 3, samples, EXAMPLE_SAMPLES, 100, words[0], 2 * vertices, offsets[0], 3 * vertices, quads[0],
+               4 * EXAMPLE_QUADS, answer[0], ANSWER);
+    plain_readings_mesh(3, 3, 3, readings, EXAMPLE_SAMPLES, 100, words[1], 2 * vertices, offsets[1], 3 * vertices,
+                        quads[1], 4 * EXAMPLE_QUADS, answer[1], ANSWER);
+    for (size_t vertex = 0; says(answer[1], 0, vertices, EXAMPLE_QUADS) && vertex < vertices; vertex++)
+        found += words[1][2 * vertex + 1] >= 4096;
+    verdict(name, says(answer[0], 0, vertices, EXAMPLE_QUADS) && says(answer[1], 0, vertices, EXAMPLE_QUADS) &&
+                      memcmp(words[0], words[1], 2 * vertices * sizeof **words) == 0 &&
+                      memcmp(offsets[0], offsets[1], 3 * vertices * sizeof **offsets) == 0 &&
+                      memcmp(quads[0], quads[1], sizeof *quads) == 0 && found == marked);
+}
+
+static void examples_of_readings(void)
+{
+    example_of_readings("the example as readings: its mesh", 0.75f, 0, EXAMPLE_VERTICES, 0);
+    example_of_readings("its last reading 65535: marked", 65535.0f, CEILING, MOST_VERTICES, 2);
+    example_of_readings("its last reading 1e9: marked", 1e9f, CEILING, MOST_VERTICES, 2);
+    example_of_readings("its last reading 65534.996: not marked", 65534.996f, 65534, MOST_VERTICES, 0);
+}
+
 /* ---- crossed edges ---- */
 
 enum { MOST_FORMULA_SAMPLES = 512 };
@@ -813,6 +894,9 @@ int main(void)
     parts_of_example();
     starts();
     planes_refused();
+    readings_by_hand();
+    blocks_of_readings();
+    examples_of_readings();
     crossed_of_hand_blocks();
     crossed_of_formulas();
     lists();
