@@ -95,7 +95,7 @@ cube-allows corners cut =
 
 -- ---- counting and meshing
 
-counted-of : (b : Answer Totals) → (r : Counted) × (saidCounts r ≡ b)
+pub counted-of : (b : Answer Totals) → (r : Counted) × (saidCounts r ≡ b)
 counted-of (accepted c) = (counted.Counts c, refl)
 counted-of (refused x) = (counted.Refused x, refl)
 

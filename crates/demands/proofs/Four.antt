@@ -47,6 +47,9 @@ use Rattle.by_planes.specs.Answer.{saidStart, saidTaken, StartAnswered, FinishA
 use Rattle.by_planes.specs.Left.{PlaneTaken}
 use Rattle.told.specs.Numbers.{stateOf}
 use Rattle.demands.proofs.PlaneRows.{PlaneNumber, start-numbers, plane-numbers, end-numbers}
+use Rattle.readings.specs.Reading.{readingOf, saidReading}
+use Rattle.readings_mesh.specs.Answer.{ReadingsCounted, ReadingsMeshed}
+use Rattle.demands.proofs.Readings.{FaultNumber, ReadingsNumber, reading-numbers, reading-refuses, readings-counts-numbers, readings-mesh-numbers}
 use Rattle.demands.proofs.Thresholds.{RowNumber, row-numbers, row-is-one-by-one, row-told-answered}
 
 edge-other : (p q t : ℕ) (r : Crossing) → EdgeAnswered p q t r → NotFour (saidEdge r)
@@ -127,6 +130,24 @@ plane-other m x e = of-plane (x .number) (plane-numbers m x e)
 finish-other : (st : Stream) (r : Counted) → FinishAnswered st r → NotFour (saidCounts r)
 finish-other st r m x e f = omega (arith, f, end-numbers st x (refused-exactly _ _ _ m x .0 e))
 
+of-readings : (n : ℕ) → ReadingsNumber n → n ≡ 4 → ⊥
+of-readings n (inl h) e = omega (arith, h .1, e)
+of-readings n (inr (inl h)) e = omega (arith, h .0, e)
+of-readings n (inr (inr h)) e = omega (arith, h .0, e)
+
+of-faults : (n : ℕ) → ((1 ≤ n) × (n ≤ 3)) ⊎ FaultNumber n → n ≡ 4 → ⊥
+of-faults n (inl h) e = omega (arith, h .1, e)
+of-faults n (inr h) e = omega (arith, h .0, e)
+
+reading-other : (x : Float) → NotFour (saidReading (readingOf x))
+reading-other x y e f = omega (arith, f, reading-numbers 0 (readingOf x) y (reading-refuses x (readingOf x) refl y .0 e) .0)
+
+readings-counts-other : (nx ny nz : ℕ) (xs : List Float) (cut : Cut) (r : Counted) → ReadingsCounted nx ny nz xs cut r → NotFour (saidCounts r)
+readings-counts-other nx ny nz xs cut r m x e = of-faults (x .number) (readings-counts-numbers nx ny nz xs cut x (refused-exactly _ _ _ m x .0 e))
+
+readings-mesh-other : (nx ny nz : ℕ) (xs : List Float) (cut : Cut) (w : List ℕ) (o : List Float) (q : List ℕ) (r : Counted) (w′ : List ℕ) (o′ : List Float) (q′ : List ℕ) → ReadingsMeshed nx ny nz xs cut w o q r w′ o′ q′ → NotFour (saidCounts r)
+readings-mesh-other nx ny nz xs cut w o q r w′ o′ q′ m x e = of-readings (x .number) (readings-mesh-numbers nx ny nz xs cut (length w) (length o) (length q) x (refused-exactly _ _ _ (m .answer) x .0 e))
+
 pub four-never : FourNever
 four-never = record {
   size = λ nx ny nz r m x e f. omega (arith, f, size-numbers nx ny nz x (refused-exactly _ _ _ m x .0 e));
@@ -136,6 +157,9 @@ four-never = record {
   counts = λ nx ny nz s cut r m x e f. omega (arith, f, counts-numbers nx ny nz s cut x (refused-exactly _ _ _ m x .0 e) .1);
   row = λ nx ny nz s ts b r b′ m. (row-other nx ny nz s ts b r b′ m, row-each nx ny nz s ts b r b′ m);
   mesh = λ nx ny nz s cut w o q r w′ o′ q′ m x e. of-mesh (x .number) (mesh-numbers nx ny nz s cut (length w) (length o) (length q) x (refused-exactly _ _ _ (m .answer) x .0 e));
+  reading = reading-other;
+  readings-counts = readings-counts-other;
+  readings-mesh = readings-mesh-other;
   start = start-other;
   plane = λ st plane work w o q r work′ w′ o′ q′ m. plane-other m;
   finish = finish-other;
@@ -154,6 +178,9 @@ four-never = record {
     λ z. row-each nx ny nz s ts b (m .answer) b′ (m .answered) (row-told-answered nx ny nz s ts b place b′ place′ m z),
   );
   mesh-told = λ nx ny nz s t w o q place w′ o′ q′ place′ m. four-untold 3 _ (saidCounts (m .answer)) place place′ (m .is-told) (λ x e. of-mesh (x .number) (mesh-numbers nx ny nz s (cutOf t) (length w) (length o) (length q) x (refused-exactly _ _ _ (m .meshed .answer) x .0 e)));
+  reading-told = λ x place place′ m. four-untold 3 _ (saidReading (readingOf x)) place place′ m (reading-other x);
+  readings-counts-told = λ nx ny nz xs t place place′ m. four-untold 3 _ (saidCounts (m .answer)) place place′ (m .is-told) (readings-counts-other nx ny nz xs (cutOf t) (m .answer) (m .answered));
+  readings-mesh-told = λ nx ny nz xs t w o q place w′ o′ q′ place′ m. four-untold 3 _ (saidCounts (m .answer)) place place′ (m .is-told) (readings-mesh-other nx ny nz xs (cutOf t) w o q (m .answer) w′ o′ q′ (m .meshed));
   start-told = λ nx ny nz t work state place state′ place′ m. four-untold 3 _ (saidStart (m .answer)) place place′ (m .is-told) (start-other nx ny nz (cutOf t) (length work) (m .answer) (m .answered));
   plane-told = λ state plane work w o q place state′ work′ w′ o′ q′ place′ m. four-untold 3 _ (saidTaken (m .answer)) place place′ (m .is-told) (plane-other (m .answered));
   end-told = λ state place place′ m. four-untold 3 _ (saidCounts (m .answer)) place place′ (m .is-told) (finish-other (stateOf state) (m .answer) (m .answered));

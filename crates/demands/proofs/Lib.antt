@@ -17,6 +17,7 @@ pub mod PlaneRows
 pub mod Enough
 pub mod Runs
 pub mod Closing
+pub mod Readings
 pub mod Four
 pub mod StandIn
 pub mod Idle

@@ -94,15 +94,16 @@ module _ (corners : List ℕ) (t : ℕ) (w : List ℕ) (o : List Float) (place w
 
 -- ---- the mesh
 
+-- counts that are not refused are given
+pub counts-given : (r : Counted) → NotRefused (saidCounts r) → (c : Totals) × (saidCounts r ≡ accepted c)
+counts-given (counted.Counts c) h = (c, refl)
+counts-given (counted.Refused x) h = absurd (h x refl)
+
 module _ (nx ny nz : ℕ) (s : List ℕ) (t : ℕ) (w : List ℕ) (o : List Float) (q place w′ : List ℕ) (o′ : List Float) (q′ place′ : List ℕ)
     (m : MeshTold nx ny nz s t w o q place w′ o′ q′ place′) (z : getD place′ 0 1 ≡ 0) where
-  counts-of : (r : Counted) → NotRefused (saidCounts r) → (c : Totals) × (saidCounts r ≡ accepted c)
-  counts-of (counted.Counts c) h = (c, refl)
-  counts-of (counted.Refused x) h = absurd (h x refl)
-
   counts : (c : Totals) × (saidCounts (m .answer) ≡ accepted c)
   counts =
-      counts-of (m .answer)
+      counts-given (m .answer)
       (none-told 3 _ (saidCounts (m .answer)) place place′ (m .is-told) z
       (λ x e. ⊎-elim (λ h. h .0) (λ h. omega (arith, h .0)) (mesh-numbers nx ny nz s (cutOf t) (length w) (length o) (length q) x (refused-exactly _ _ _ (m .meshed .answer) x .0 e))))
 

@@ -10,6 +10,7 @@ use Rattle.block.specs.Answer.{Answer, accepted, refused}
 use Rattle.mesh.specs.declared.Totals.{Totals}
 use Rattle.mesh.specs.declared.Counted.{Counted}
 use Rattle.mesh.specs.Answer.{saidCounts, Meshed}
+use Rattle.readings_mesh.specs.Answer.{ReadingsMeshed}
 
 -- anything but a refusal
 abbrev pub NotRefused : {A : Type 0} → Answer A → Type 0
@@ -28,7 +29,20 @@ pub record MeshCall (nx ny nz : ℕ) (s : List ℕ) (cut : Cut) : Type 0 where
   pub counts : Totals
   pub accepts : saidCounts answer ≡ accepted counts
 
--- the quads that it wrote
+-- the same of `mesh` of readings
+pub record ReadingsCall (nx ny nz : ℕ) (xs : List Float) (cut : Cut) : Type 0 where
+  pub words : List ℕ
+  pub offsets : List Float
+  pub quads : List ℕ
+  pub answer : Counted
+  pub words-after : List ℕ
+  pub offsets-after : List Float
+  pub quads-after : List ℕ
+  pub promise : ReadingsMeshed nx ny nz xs cut words offsets quads answer words-after offsets-after quads-after
+  pub counts : Totals
+  pub accepts : saidCounts answer ≡ accepted counts
+
+-- the quads that a call of `mesh` wrote
 abbrev pub quadsWritten : {nx ny nz : ℕ} {s : List ℕ} {cut : Cut} → MeshCall nx ny nz s cut → List ℕ
 quadsWritten a = take (4 * a .counts .quads) (a .quads-after)
 

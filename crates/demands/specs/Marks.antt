@@ -38,7 +38,9 @@ use Rattle.by_planes.specs.Left.{PlaneTaken}
 use Rattle.thresholds.specs.declared.RowAnswer.{RowAnswer}
 use Rattle.thresholds.specs.Answer.{saidRow, RowAnswered}
 use Rattle.lines.specs.Output.{refusalLine, Prints, Ran}
-use Rattle.parsniprow_c.specs.Told.{CeilingsTold, EdgeTold, CubeTold, CrossedTold, CountsTold, RowTold, MeshTold, StartTold, PlaneTold, EndTold, ClosedTold, ClosedWithTold, PiecesTold, PlyTold}
+use Rattle.readings.specs.Reading.{readingOf, saidReading}
+use Rattle.readings_mesh.specs.Answer.{ReadingsCounted, ReadingsMeshed}
+use Rattle.parsniprow_c.specs.Told.{CeilingsTold, ReadingTold, ReadingsCountsTold, ReadingsMeshTold, EdgeTold, CubeTold, CrossedTold, CountsTold, RowTold, MeshTold, StartTold, PlaneTold, EndTold, ClosedTold, ClosedWithTold, PiecesTold, PlyTold}
 use Rattle.demands.specs.Answers.{MeshCall}
 
 -- the mark of a vertex is bit 12 of its word
@@ -83,6 +85,10 @@ pub record FourNever : Type 0 where
       → NotFour (saidRow r) × (saidRow r ≡ accepted tt → (i : ℕ) → i < length ts → getD b′ (3 * i) 0 ≡ 4 → ⊥)
   pub mesh : (nx ny nz : ℕ) (s : List ℕ) (cut : Cut) (w : List ℕ) (o : List Float) (q : List ℕ) (r : Counted) (w′ : List ℕ) (o′ : List Float) (q′ : List ℕ)
       → Meshed nx ny nz s cut w o q r w′ o′ q′ → NotFour (saidCounts r)
+  pub reading : (x : Float) → NotFour (saidReading (readingOf x))
+  pub readings-counts : (nx ny nz : ℕ) (xs : List Float) (cut : Cut) (r : Counted) → ReadingsCounted nx ny nz xs cut r → NotFour (saidCounts r)
+  pub readings-mesh : (nx ny nz : ℕ) (xs : List Float) (cut : Cut) (w : List ℕ) (o : List Float) (q : List ℕ) (r : Counted) (w′ : List ℕ) (o′ : List Float) (q′ : List ℕ)
+      → ReadingsMeshed nx ny nz xs cut w o q r w′ o′ q′ → NotFour (saidCounts r)
   pub start : (nx ny nz : ℕ) (cut : Cut) (room : ℕ) (r : Started) → StartAnswered nx ny nz cut room r → NotFour (saidStart r)
   pub plane : (st : Stream) (plane work w : List ℕ) (o : List Float) (q : List ℕ) (r : Taken) (work′ w′ : List ℕ) (o′ : List Float) (q′ : List ℕ)
       → PlaneTaken st plane work w o q r work′ w′ o′ q′ → NotFour (saidTaken r)
@@ -103,6 +109,10 @@ pub record FourNever : Type 0 where
       → (getD place′ 0 0 ≡ 4 → ⊥) × (getD place′ 0 1 ≡ 0 → (i : ℕ) → i < length ts → getD b′ (3 * i) 0 ≡ 4 → ⊥)
   pub mesh-told : (nx ny nz : ℕ) (s : List ℕ) (t : ℕ) (w : List ℕ) (o : List Float) (q place w′ : List ℕ) (o′ : List Float) (q′ place′ : List ℕ)
       → MeshTold nx ny nz s t w o q place w′ o′ q′ place′ → getD place′ 0 0 ≡ 4 → ⊥
+  pub reading-told : (x : Float) (place place′ : List ℕ) → ReadingTold x place place′ → getD place′ 0 0 ≡ 4 → ⊥
+  pub readings-counts-told : (nx ny nz : ℕ) (xs : List Float) (t : ℕ) (place place′ : List ℕ) → ReadingsCountsTold nx ny nz xs t place place′ → getD place′ 0 0 ≡ 4 → ⊥
+  pub readings-mesh-told : (nx ny nz : ℕ) (xs : List Float) (t : ℕ) (w : List ℕ) (o : List Float) (q place w′ : List ℕ) (o′ : List Float) (q′ place′ : List ℕ)
+      → ReadingsMeshTold nx ny nz xs t w o q place w′ o′ q′ place′ → getD place′ 0 0 ≡ 4 → ⊥
   pub start-told : (nx ny nz t : ℕ) (work state place state′ place′ : List ℕ) → StartTold nx ny nz t work state place state′ place′ → getD place′ 0 0 ≡ 4 → ⊥
   pub plane-told : (state plane work w : List ℕ) (o : List Float) (q place state′ work′ w′ : List ℕ) (o′ : List Float) (q′ place′ : List ℕ)
       → PlaneTold state plane work w o q place state′ work′ w′ o′ q′ place′ → getD place′ 0 0 ≡ 4 → ⊥

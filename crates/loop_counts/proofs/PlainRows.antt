@@ -21,7 +21,7 @@ use Rattle.cube_rule.specs.Decider.{joined, loopsOf}
 use Rattle.cube_rule.proofs.Laws.{cube-laws}
 use Rattle.planes.specs.Planes.{eightOf, activeOf, limitOf}
 use Rattle.faces.specs.Faces.{plainOf}
-use Rattle.rows.specs.Quiet.{activeIn, cubeWords}
+use Rattle.rows.specs.Quiet.{activeIn, wordsInRow}
 use Rattle.rows.specs.Rows.{rowMasks, RowReady}
 use Rattle.rows.proofs.Quiets.{every-at}
 use Rattle.rows.proofs.Words.{word-ready}
@@ -46,7 +46,7 @@ module _ (a b : List ℕ) (nx j : ℕ) where
   active-more w m r act q at is = rw add-one (omega (arith, q, is, ap ones at))
 
   -- what `plain_row` answers
-  pub plain-all : (m w : ℕ) → true ≡ allPlain a b nx j → m ≡ activeTo a b nx j w → w ≡ cubeWords nx → Plain m ≡ plainRow a b nx j
+  pub plain-all : (m w : ℕ) → true ≡ allPlain a b nx j → m ≡ activeTo a b nx j w → w ≡ wordsInRow nx → Plain m ≡ plainRow a b nx j
   plain-all m w p q e = rw (← p) (ap Plain (q ∙ ap (activeTo a b nx j) e))
 
   pub plain-doubt : false ≡ allPlain a b nx j → Doubtful ≡ plainRow a b nx j
@@ -62,26 +62,26 @@ module _ {lo hi : List ℕ} {cut : Cut} {a b : List ℕ} {nx j : ℕ} (ready : R
       less h k = omega arith
 
   -- one word: a loop for each of its active cubes
-  word-counted : (w : ℕ) → w < cubeWords nx → w < 4 → (m : ℕ) → m ≡ length (masksTo loopsOf lo hi cut nx (64 * w)) → m + ones (activeIn a b nx j w) ≡ length (masksTo loopsOf lo hi cut nx (64 * (w + 1)))
+  word-counted : (w : ℕ) → w < wordsInRow nx → w < 4 → (m : ℕ) → m ≡ length (masksTo loopsOf lo hi cut nx (64 * w)) → m + ones (activeIn a b nx j w) ≡ length (masksTo loopsOf lo hi cut nx (64 * (w + 1)))
   word-counted w h k m e =
       counted-word (cube-laws joined) ready w k (record { eight-is = refl; active-is = refl; limit-is = refl }) m (ones (activeIn a b nx j w)) e
       (plain-counted (word-ready ready w k) refl (act-small w)
-      (eqb-true _ _ (every-at (λ (w : ℕ). plainWord (eightOf a b (5 * j + w)) (activeIn a b nx j w)) (cubeWords nx) w p h)))
+      (eqb-true _ _ (every-at (λ (w : ℕ). plainWord (eightOf a b (5 * j + w)) (activeIn a b nx j w)) (wordsInRow nx) w p h)))
 
-  counted-to : (w : ℕ) → w ≤ cubeWords nx → activeTo a b nx j w ≡ length (masksTo loopsOf lo hi cut nx (64 * w))
+  counted-to : (w : ℕ) → w ≤ wordsInRow nx → activeTo a b nx j w ≡ length (masksTo loopsOf lo hi cut nx (64 * w))
   unfolding total below
   counted-to zero h = refl
   counted-to (suc w) h =
       add-comm (ones (activeIn a b nx j w)) (activeTo a b nx j w) ∙ word-counted w (omega arith) (omega (arith, ready .long)) (activeTo a b nx j w) (counted-to w (omega arith))
       ∙ ap (λ (m : ℕ). length (masksTo loopsOf lo hi cut nx (64 * m))) (add-one w)
 
-  pub plain-counts : activeTo a b nx j (cubeWords nx) ≡ length (rowMasks loopsOf lo hi cut nx)
-  plain-counts = counted-to (cubeWords nx) (omega arith) ∙ count-end loopsOf lo hi cut nx (cubeWords nx) (omega arith)
+  pub plain-counts : activeTo a b nx j (wordsInRow nx) ≡ length (rowMasks loopsOf lo hi cut nx)
+  plain-counts = counted-to (wordsInRow nx) (omega arith) ∙ count-end loopsOf lo hi cut nx (wordsInRow nx) (omega arith)
 
 -- what `plain_row` says of a row is so
 pub plain-says : {lo hi : List ℕ} {cut : Cut} {a b : List ℕ} {nx j : ℕ} → RowReady lo hi cut a b nx j → (v : ℕ) → plainRow a b nx j ≡ Plain v → v ≡ length (rowMasks loopsOf lo hi cut nx)
 plain-says {lo} {hi} {cut} {a} {b} {nx} {j} ready v e = go (allPlain a b nx j) refl e
   where
-    go : (t : Bool) → allPlain a b nx j ≡ t → cond t (Plain (activeTo a b nx j (cubeWords nx))) Doubtful ≡ Plain v → v ≡ length (rowMasks loopsOf lo hi cut nx)
-    go true p q = let same : v ≡ activeTo a b nx j (cubeWords nx) = cc in same ∙ plain-counts ready p
+    go : (t : Bool) → allPlain a b nx j ≡ t → cond t (Plain (activeTo a b nx j (wordsInRow nx))) Doubtful ≡ Plain v → v ≡ length (rowMasks loopsOf lo hi cut nx)
+    go true p q = let same : v ≡ activeTo a b nx j (wordsInRow nx) = cc in same ∙ plain-counts ready p
     go false p q = let z : _≡_ {A = ℕ} 0 1 = cc in absurd (omega arith)

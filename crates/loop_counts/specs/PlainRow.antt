@@ -8,7 +8,7 @@ use lib.Dec.{eqb}
 use Rattle.laws.specs.Counting.{total}
 use Rattle.planes.specs.Planes.{eightOf}
 use Rattle.faces.specs.Faces.{plainOf}
-use Rattle.rows.specs.Quiet.{activeIn, cubeWords, every}
+use Rattle.rows.specs.Quiet.{activeIn, wordsInRow, every}
 use Rattle.loop_counts.specs.declared.RowLoops.{RowLoops}
 use Rattle.loop_counts.specs.declared.RowLoops.the-variants.{Plain, Doubtful}
 
@@ -18,7 +18,7 @@ plainWord e act = eqb (bitAnd act (plainOf e)) act
 
 -- the active cubes of the row are
 abbrev pub allPlain : List ℕ → List ℕ → ℕ → ℕ → Bool
-allPlain a b nx j = every (λ (w : ℕ). plainWord (eightOf a b (5 * j + w)) (activeIn a b nx j w)) (cubeWords nx)
+allPlain a b nx j = every (λ (w : ℕ). plainWord (eightOf a b (5 * j + w)) (activeIn a b nx j w)) (wordsInRow nx)
 
 -- how many active cubes its first w words have
 abbrev pub activeTo : List ℕ → List ℕ → ℕ → ℕ → ℕ → ℕ
@@ -26,4 +26,4 @@ activeTo a b nx j w = total (λ (v : ℕ). ones (activeIn a b nx j v)) w
 
 -- how many loops the row has, if its active cubes are all plain
 abbrev pub plainRow : List ℕ → List ℕ → ℕ → ℕ → RowLoops
-plainRow a b nx j = cond (allPlain a b nx j) (Plain (activeTo a b nx j (cubeWords nx))) Doubtful
+plainRow a b nx j = cond (allPlain a b nx j) (Plain (activeTo a b nx j (wordsInRow nx))) Doubtful

@@ -13,5 +13,5 @@ blockOf Samples s xs = s
 blockOf Readings s xs = greysOf xs
 
 -- where readings are read, none is at fault
-abbrev pub Readable : Source → List Float → Type 0
-Readable source xs = source ≡ Readings → Sound xs
+abbrev pub FaultFree : Source → List Float → Type 0
+FaultFree source xs = source ≡ Readings → Sound xs

@@ -22,7 +22,7 @@ ghost use Rattle.readings.specs.Steps.{Sound};
 ghost use Rattle.laws.specs.Below.{over};
 ghost use Rattle.block.specs.Numbering.{sampleCount};
 ghost use Rattle.signs.specs.Signs.{planeWords};
-ghost use Rattle.mesh.specs.Source.{blockOf, Readable};
+ghost use Rattle.mesh.specs.Source.{blockOf, FaultFree};
 ghost use Rattle.mesh.specs.Answer.{bufferRows, countsOf, saidCounts, CountsAnswered, MeshedBy, Meshed};
 ghost use Rattle.mesh_rule.specs.Layers.{layerFirst};
 ghost use Rattle.mesh.specs.Steps.{Meshable, totalsOf, Few, rowOf, Counting, Tallied};
@@ -118,7 +118,7 @@ fn signs_of(
     k: usize,
     plane: &mut [u64],
 )
-    requires { ⌜ Sampled size (blockOf source (now samples) (now readings)) × Readable source (now readings) × (k < size .nz) × (length (now plane) ≡ 1280) ⌝ }
+    requires { ⌜ Sampled size (blockOf source (now samples) (now readings)) × FaultFree source (now readings) × (k < size .nz) × (length (now plane) ≡ 1280) ⌝ }
     ensures { λ _. ⌜ now (plane .exit) ≡ over (planeWords size (blockOf source (now (samples .entry)) (now (readings .entry))) cut k) (now (plane .entry)) ⌝ }
 {
     match source {
@@ -198,7 +198,7 @@ fn count_row(
     j: usize,
     k: usize,
 ) -> Marks
-    requires { ⌜ Ready size (blockOf source (now samples) (now readings)) cut (now a) (now b) k × (j + 1 < size .ny) × Counting loopsOf size (blockOf source (now samples) (now readings)) cut j k m × Readable source (now readings) ⌝ }
+    requires { ⌜ Ready size (blockOf source (now samples) (now readings)) cut (now a) (now b) k × (j + 1 < size .ny) × Counting loopsOf size (blockOf source (now samples) (now readings)) cut j k m × FaultFree source (now readings) ⌝ }
     ensures { λ r. ⌜ Counting loopsOf size (blockOf source (now (samples .entry)) (now (readings .entry))) cut (j + 1) k r ⌝ }
 {
     match source {
@@ -220,7 +220,7 @@ fn with_layer(
     b: &[u64],
     k: usize,
 ) -> Marks
-    requires { ⌜ Ready size (blockOf source (now samples) (now readings)) cut (now a) (now b) k × Counting loopsOf size (blockOf source (now samples) (now readings)) cut 0 k m × Readable source (now readings) ⌝ }
+    requires { ⌜ Ready size (blockOf source (now samples) (now readings)) cut (now a) (now b) k × Counting loopsOf size (blockOf source (now samples) (now readings)) cut 0 k m × FaultFree source (now readings) ⌝ }
     ensures { λ r. ⌜ Counting loopsOf size (blockOf source (now (samples .entry)) (now (readings .entry))) cut 0 (k + 1) r ⌝ }
 {
     let rows = size.ny() - 1;
@@ -244,7 +244,7 @@ fn layers_from(
     from: usize,
     to: usize,
 ) -> Marks
-    requires { ⌜ Sampled size (blockOf source (now samples) (now readings)) × Readable source (now readings) × (from ≤ to) × (to + 1 ≤ size .nz) × Counting loopsOf size (blockOf source (now samples) (now readings)) cut 0 from m ⌝ }
+    requires { ⌜ Sampled size (blockOf source (now samples) (now readings)) × FaultFree source (now readings) × (from ≤ to) × (to + 1 ≤ size .nz) × Counting loopsOf size (blockOf source (now samples) (now readings)) cut 0 from m ⌝ }
     ensures { λ r. ⌜ Counting loopsOf size (blockOf source (now (samples .entry)) (now (readings .entry))) cut 0 to r ⌝ }
 {
     let mut a = [0u64; 1280];
@@ -272,7 +272,7 @@ pub fn with_layers(m: Marks, size: Size, samples: &[u16], cut: Cut, from: usize,
 
 // How many vertices the mesh of a block has, and how many words its quads along each axis take.
 fn tally_block(size: Size, source: Source, samples: &[u16], readings: &[f32], cut: Cut) -> Marks
-    requires { ⌜ Sampled size (blockOf source (now samples) (now readings)) × Readable source (now readings) ⌝ }
+    requires { ⌜ Sampled size (blockOf source (now samples) (now readings)) × FaultFree source (now readings) ⌝ }
     ensures { λ r. ⌜ Tallied loopsOf size (blockOf source (now (samples .entry)) (now (readings .entry))) cut r ⌝ }
 {
     let none = Marks {
@@ -293,7 +293,7 @@ pub fn counts_from(
     readings: &[f32],
     cut: Cut,
 ) -> Totals
-    requires { ⌜ Sampled size (blockOf source (now samples) (now readings)) × Readable source (now readings) ⌝ }
+    requires { ⌜ Sampled size (blockOf source (now samples) (now readings)) × FaultFree source (now readings) ⌝ }
     ensures { λ r. ⌜ r ≡ countsOf size (blockOf source (now (samples .entry)) (now (readings .entry))) cut ⌝ }
 {
     total(tally_block(size, source, samples, readings, cut))
@@ -459,7 +459,7 @@ fn step_row(
     under: &[u32],
     tab: &mut [u32],
 ) -> Marks
-    requires { ⌜ Ready size (blockOf source (now samples) (now readings)) cut (now a) (now b) k × Meshable size (blockOf source (now samples) (now readings)) cut × TablesReady loopsOf size (blockOf source (now samples) (now readings)) cut j k (now under) (now tab) × Underway loopsOf size (blockOf source (now samples) (now readings)) cut j k m (now words) (now offsets) (now quads) × Readable source (now readings) ⌝ }
+    requires { ⌜ Ready size (blockOf source (now samples) (now readings)) cut (now a) (now b) k × Meshable size (blockOf source (now samples) (now readings)) cut × TablesReady loopsOf size (blockOf source (now samples) (now readings)) cut j k (now under) (now tab) × Underway loopsOf size (blockOf source (now samples) (now readings)) cut j k m (now words) (now offsets) (now quads) × FaultFree source (now readings) ⌝ }
     ensures { λ r. ⌜ RowMore loopsOf size (blockOf source (now (samples .entry)) (now (readings .entry))) cut j k m r (now (words .entry)) (now (words .exit)) (now (offsets .entry)) (now (offsets .exit)) (now (quads .entry)) (now (quads .exit)) (now (tab .exit)) ⌝ }
 {
     match source {
@@ -512,7 +512,7 @@ fn write_layer(
     offsets: &mut [f64],
     quads: &mut [u32],
 ) -> Marks
-    requires { ⌜ Ready size (blockOf source (now samples) (now readings)) cut (now a) (now b) k × Meshable size (blockOf source (now samples) (now readings)) cut × (0 < k → below ≡ layerFirst loopsOf size (blockOf source (now samples) (now readings)) cut (k - 1)) × Underway loopsOf size (blockOf source (now samples) (now readings)) cut 0 k m (now words) (now offsets) (now quads) × Readable source (now readings) ⌝ }
+    requires { ⌜ Ready size (blockOf source (now samples) (now readings)) cut (now a) (now b) k × Meshable size (blockOf source (now samples) (now readings)) cut × (0 < k → below ≡ layerFirst loopsOf size (blockOf source (now samples) (now readings)) cut (k - 1)) × Underway loopsOf size (blockOf source (now samples) (now readings)) cut 0 k m (now words) (now offsets) (now quads) × FaultFree source (now readings) ⌝ }
     ensures { λ r. ⌜ LayerMore loopsOf size (blockOf source (now (samples .entry)) (now (readings .entry))) cut k m r (now (words .entry)) (now (words .exit)) (now (offsets .entry)) (now (offsets .exit)) (now (quads .entry)) (now (quads .exit)) ⌝ }
 {
     let first = m.v;
@@ -572,7 +572,7 @@ fn write_block(
     offsets: &mut [f64],
     quads: &mut [u32],
 )
-    requires { ⌜ Meshable size (blockOf source (now samples) (now readings)) cut × Tallied loopsOf size (blockOf source (now samples) (now readings)) cut t × Roomy loopsOf size (blockOf source (now samples) (now readings)) cut (now words) (now offsets) (now quads) × Readable source (now readings) ⌝ }
+    requires { ⌜ Meshable size (blockOf source (now samples) (now readings)) cut × Tallied loopsOf size (blockOf source (now samples) (now readings)) cut t × Roomy loopsOf size (blockOf source (now samples) (now readings)) cut (now words) (now offsets) (now quads) × FaultFree source (now readings) ⌝ }
     ensures { λ _. ⌜ BlockWritten loopsOf size (blockOf source (now (samples .entry)) (now (readings .entry))) cut (now (words .entry)) (now (words .exit)) (now (offsets .entry)) (now (offsets .exit)) (now (quads .entry)) (now (quads .exit)) ⌝ }
 {
     let nz = size.nz();
@@ -622,7 +622,7 @@ pub fn mesh_from(
     offsets: &mut [f64],
     quads: &mut [u32],
 ) -> Counted
-    requires { ⌜ Meshable size (blockOf source (now samples) (now readings)) cut × Readable source (now readings) ⌝ }
+    requires { ⌜ Meshable size (blockOf source (now samples) (now readings)) cut × FaultFree source (now readings) ⌝ }
     ensures { λ r. ⌜ MeshedBy (inOrder (bufferRows (countsOf size (blockOf source (now (samples .entry)) (now (readings .entry))) cut) (length (now (words .entry))) (length (now (offsets .entry))) (length (now (quads .entry))))) size (blockOf source (now (samples .entry)) (now (readings .entry))) cut (now (words .entry)) (now (offsets .entry)) (now (quads .entry)) r (now (words .exit)) (now (offsets .exit)) (now (quads .exit)) ⌝ }
 {
     let t = tally_block(size, source, samples, readings, cut);

@@ -29,6 +29,8 @@ use Rattle.ply.specs.declared.Spacing.{Spacing}
 use Rattle.ply.specs.declared.Filed.{Filed}
 use Rattle.ply.specs.Answer.{saidFile}
 use Rattle.ply.proofs.Fixed.{ply-fixed}
+use Rattle.readings.specs.Reading.{readingOf, saidReading}
+use Rattle.readings_mesh.proofs.Fixed.{readings-counts-fixed, readings-mesh-fixed}
 use Rattle.room.specs.declared.Edged.{Edged}
 use Rattle.room.specs.Answer.{saidCrossed}
 use Rattle.room.proofs.Fixed.{crossed-fixed}
@@ -40,11 +42,14 @@ use Rattle.by_planes.proofs.Fixed.{start-fixed, finish-fixed, plane-fixed}
 use Rattle.thresholds.specs.declared.RowAnswer.{RowAnswer}
 use Rattle.thresholds.specs.Answer.{saidRow}
 use Rattle.thresholds.proofs.Fixed.{row-fixed}
-use Rattle.parsniprow_c.specs.Told.{tellOver, CeilingsTold, EdgeTold, CubeTold, CrossedTold, CountsTold, RowTold, MeshTold, stateAfter, growthAfter, StartTold, PlaneTold, EndTold, ClosedTold, ClosedWithTold, PiecesTold, PlyTold}
+use Rattle.parsniprow_c.specs.Told.{tellOver, CeilingsTold, ReadingTold, EdgeTold, CubeTold, CrossedTold, CountsTold, RowTold, MeshTold, ReadingsCountsTold, ReadingsMeshTold, stateAfter, growthAfter, StartTold, PlaneTold, EndTold, ClosedTold, ClosedWithTold, PiecesTold, PlyTold}
 use Rattle.told.specs.Numbers.{toldCeilings, toldEdge, toldFraction, toldNumber, toldClosed, toldPieces, toldLength, toldNothing, toldGrowth, stateOf}
 
 pub ceilings-told-fixed : (samples place : List ℕ) → Fixes (CeilingsTold samples place)
 ceilings-told-fixed samples place = equation-fixes (tellOver (toldCeilings (accepted (ceilingsIn samples))) place)
+
+pub reading-told-fixed : (x : Float) (place : List ℕ) → Fixes (ReadingTold x place)
+reading-told-fixed x place = equation-fixes (tellOver (toldNumber (saidReading (readingOf x))) place)
 
 -- the lent places at exit: of the edge question the fraction and the answer
 pub edge-told-fixed : (p q t : ℕ) (fraction : List Float) (place : List ℕ) → Fixes (λ (f : List Float × List ℕ). EdgeTold p q t fraction place (f .0) (f .1))
@@ -76,11 +81,16 @@ crossed-told-fixed nx ny nz s t place a b p q =
     ∙ ap (λ (x : Edged). tellOver (toldNumber (saidCrossed x)) place) (crossed-fixed nx ny nz s (cutOf t) (p .answer) (q .answer) (p .answered) (q .answered))
     ∙ sym (q .is-told)
 
+-- counts are told alike where they are the same
+told-alike : (place : List ℕ) {a b : List ℕ} {x y : Counted} → x ≡ y → a ≡ tellOver (toldCounts (saidCounts x)) place → b ≡ tellOver (toldCounts (saidCounts y)) place → a ≡ b
+told-alike place e p q = p ∙ ap (λ (x : Counted). tellOver (toldCounts (saidCounts x)) place) e ∙ sym q
+
 pub counts-told-fixed : (nx ny nz : ℕ) (s : List ℕ) (t : ℕ) (place : List ℕ) → Fixes (CountsTold nx ny nz s t place)
-counts-told-fixed nx ny nz s t place a b p q =
-    p .is-told
-    ∙ ap (λ (x : Counted). tellOver (toldCounts (saidCounts x)) place) (counts-fixed nx ny nz s (cutOf t) (p .answer) (q .answer) (p .answered) (q .answered))
-    ∙ sym (q .is-told)
+counts-told-fixed nx ny nz s t place a b p q = told-alike place (counts-fixed nx ny nz s (cutOf t) (p .answer) (q .answer) (p .answered) (q .answered)) (p .is-told) (q .is-told)
+
+pub readings-counts-told-fixed : (nx ny nz : ℕ) (xs : List Float) (t : ℕ) (place : List ℕ) → Fixes (ReadingsCountsTold nx ny nz xs t place)
+readings-counts-told-fixed nx ny nz xs t place a b p q =
+    told-alike place (readings-counts-fixed nx ny nz xs (cutOf t) (p .answer) (q .answer) (p .answered) (q .answered)) (p .is-told) (q .is-told)
 
 -- the buffer and the answer
 pub row-told-fixed : (nx ny nz : ℕ) (s ts b place : List ℕ) → Fixes (λ (f : List ℕ × List ℕ). RowTold nx ny nz s ts b place (f .0) (f .1))
@@ -90,13 +100,22 @@ row-told-fixed nx ny nz s ts b place x y p q =
     ∙ ap (λ (u : List ℕ). (y .0, u)) (sym (q .is-told))
 
 -- the three buffers and the answer
+buffers-alike : (place : List ℕ) {a b : List ℕ × List Float × List ℕ × List ℕ} {x y : Counted} → _≡_ {A = Counted × List ℕ × List Float × List ℕ} (x, a .0, a .1, a .2) (y, b .0, b .1, b .2)
+    → a .3 ≡ tellOver (toldCounts (saidCounts x)) place → b .3 ≡ tellOver (toldCounts (saidCounts y)) place → a ≡ b
+buffers-alike place {a} {b} {x} {y} e p q =
+    ap (λ (u : List ℕ). (a .0, a .1, a .2, u)) p
+    ∙ ap (λ (z : Counted × List ℕ × List Float × List ℕ). (z .1, z .2, z .3, tellOver (toldCounts (saidCounts (z .0))) place)) e
+    ∙ ap (λ (u : List ℕ). (b .0, b .1, b .2, u)) (sym q)
+
 pub mesh-told-fixed : (nx ny nz : ℕ) (s : List ℕ) (t : ℕ) (w : List ℕ) (o : List Float) (q place : List ℕ)
     → Fixes (λ (f : List ℕ × List Float × List ℕ × List ℕ). MeshTold nx ny nz s t w o q place (f .0) (f .1) (f .2) (f .3))
 mesh-told-fixed nx ny nz s t w o q place a b p r =
-    ap (λ (u : List ℕ). (a .0, a .1, a .2, u)) (p .is-told)
-    ∙ ap (λ (x : Counted × List ℕ × List Float × List ℕ). (x .1, x .2, x .3, tellOver (toldCounts (saidCounts (x .0))) place))
-    (mesh-fixed nx ny nz s (cutOf t) w o q (p .answer, a .0, a .1, a .2) (r .answer, b .0, b .1, b .2) (p .meshed) (r .meshed))
-    ∙ ap (λ (u : List ℕ). (b .0, b .1, b .2, u)) (sym (r .is-told))
+    buffers-alike place {a = a} {b = b} (mesh-fixed nx ny nz s (cutOf t) w o q (p .answer, a .0, a .1, a .2) (r .answer, b .0, b .1, b .2) (p .meshed) (r .meshed)) (p .is-told) (r .is-told)
+
+pub readings-mesh-told-fixed : (nx ny nz : ℕ) (xs : List Float) (t : ℕ) (w : List ℕ) (o : List Float) (q place : List ℕ)
+    → Fixes (λ (f : List ℕ × List Float × List ℕ × List ℕ). ReadingsMeshTold nx ny nz xs t w o q place (f .0) (f .1) (f .2) (f .3))
+readings-mesh-told-fixed nx ny nz xs t w o q place a b p r =
+    buffers-alike place {a = a} {b = b} (readings-mesh-fixed nx ny nz xs (cutOf t) w o q (p .answer, a .0, a .1, a .2) (r .answer, b .0, b .1, b .2) (p .meshed) (r .meshed)) (p .is-told) (r .is-told)
 
 pub closed-told-fixed : (quads place : List ℕ) → Fixes (ClosedTold quads place)
 closed-told-fixed quads place a b p q =
@@ -154,7 +173,4 @@ plane-told-fixed state plane work w o q place s left more is state₁ state₂ w
     )
 
 pub end-told-fixed : (state place : List ℕ) → Fixes (EndTold state place)
-end-told-fixed state place a b p q =
-    p .is-told
-    ∙ ap (λ (x : Counted). tellOver (toldCounts (saidCounts x)) place) (finish-fixed (stateOf state) (p .answer) (q .answer) (p .answered) (q .answered))
-    ∙ sym (q .is-told)
+end-told-fixed state place a b p q = told-alike place (finish-fixed (stateOf state) (p .answer) (q .answer) (p .answered) (q .answered)) (p .is-told) (q .is-told)

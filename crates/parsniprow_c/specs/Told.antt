@@ -23,6 +23,8 @@ use Rattle.pieces.specs.Answer.{saidPieces, PiecesFound}
 use Rattle.ply.specs.declared.Spacing.{Spacing}
 use Rattle.ply.specs.declared.Filed.{Filed}
 use Rattle.ply.specs.Answer.{saidFile, PlyWritten}
+use Rattle.readings.specs.Reading.{readingOf, saidReading}
+use Rattle.readings_mesh.specs.Answer.{ReadingsCounted, ReadingsMeshed}
 use Rattle.room.specs.declared.Edged.{Edged}
 use Rattle.room.specs.Answer.{saidCrossed, CrossedAnswered}
 use Rattle.by_planes.specs.declared.Stream.{Stream}
@@ -42,6 +44,9 @@ tellOver values place = over (take (length place) values) place
 -- the promises: the library's own, and what of its answer is told; each place at entry and at exit
 abbrev pub CeilingsTold : List ℕ → List ℕ → List ℕ → Type 0
 CeilingsTold samples place place′ = place′ ≡ tellOver (toldCeilings (accepted (ceilingsIn samples))) place
+
+abbrev pub ReadingTold : Float → List ℕ → List ℕ → Type 0
+ReadingTold x place place′ = place′ ≡ tellOver (toldNumber (saidReading (readingOf x))) place
 
 pub record EdgeTold (p q t : ℕ) (fraction : List Float) (place : List ℕ) (fraction′ : List Float) (place′ : List ℕ) : Type 0 where
   pub answer : Crossing
@@ -76,6 +81,17 @@ pub record RowTold (nx ny nz : ℕ) (s ts b place b′ place′ : List ℕ) : Ty
 pub record MeshTold (nx ny nz : ℕ) (s : List ℕ) (t : ℕ) (w : List ℕ) (o : List Float) (q place w′ : List ℕ) (o′ : List Float) (q′ place′ : List ℕ) : Type 0 where
   pub answer : Counted
   pub meshed : Meshed nx ny nz s (cutOf t) w o q answer w′ o′ q′
+  pub is-told : place′ ≡ tellOver (toldCounts (saidCounts answer)) place
+
+-- the answer and the three buffers are those of `counts` and `mesh` of readings
+pub record ReadingsCountsTold (nx ny nz : ℕ) (xs : List Float) (t : ℕ) (place place′ : List ℕ) : Type 0 where
+  pub answer : Counted
+  pub answered : ReadingsCounted nx ny nz xs (cutOf t) answer
+  pub is-told : place′ ≡ tellOver (toldCounts (saidCounts answer)) place
+
+pub record ReadingsMeshTold (nx ny nz : ℕ) (xs : List Float) (t : ℕ) (w : List ℕ) (o : List Float) (q place w′ : List ℕ) (o′ : List Float) (q′ place′ : List ℕ) : Type 0 where
+  pub answer : Counted
+  pub meshed : ReadingsMeshed nx ny nz xs (cutOf t) w o q answer w′ o′ q′
   pub is-told : place′ ≡ tellOver (toldCounts (saidCounts answer)) place
 
 -- a place for a state afterwards: the state, or what it held on refusal

@@ -7,7 +7,7 @@ use ply::Spacing;
 ghost use mathlib.Core.Path.{_≡_};
 ghost use mathlib.Core.List.{[], _∷_};
 ghost use Rattle.by_planes.specs.Answer.{saidStart, saidTaken};
-ghost use Rattle.parsniprow_c.specs.Told.{tellOver, CeilingsTold, EdgeTold, CubeTold, CrossedTold, CountsTold, RowTold, MeshTold, StartTold, PlaneTold, EndTold, stateAfter, growthAfter, ClosedTold, ClosedWithTold, PiecesTold, PlyTold};
+ghost use Rattle.parsniprow_c.specs.Told.{tellOver, CeilingsTold, ReadingTold, EdgeTold, CubeTold, CrossedTold, CountsTold, RowTold, MeshTold, ReadingsCountsTold, ReadingsMeshTold, StartTold, PlaneTold, EndTold, stateAfter, growthAfter, ClosedTold, ClosedWithTold, PiecesTold, PlyTold};
 
 // How many samples are at the detector's ceiling, and the lowest index of one.
 #[no_mangle]
@@ -16,6 +16,16 @@ pub extern "C" fn parsniprow_ceilings(samples: &[u16], answer: &mut [u32])
 {
     let seen = block::ceilings(samples);
     let told = told::tell_ceilings(seen);
+    put(answer, &told);
+}
+
+// The grey value of a reading of the second bench.
+#[no_mangle]
+pub extern "C" fn parsniprow_reading(x: f32, answer: &mut [u32])
+    ensures { λ _. ⌜ ReadingTold x (now (answer .entry)) (now (answer .exit)) ⌝ }
+{
+    let reading = readings::read(x);
+    let told = told::tell_reading(reading);
     put(answer, &told);
 }
 
@@ -128,6 +138,43 @@ pub extern "C" fn parsniprow_mesh(
     ensures { λ _. ⌜ MeshTold nx ny nz (now (samples .entry)) t (now (words .entry)) (now (offsets .entry)) (now (quads .entry)) (now (answer .entry)) (now (words .exit)) (now (offsets .exit)) (now (quads .exit)) (now (answer .exit)) ⌝ }
 {
     let counted = mesh::mesh(nx, ny, nz, samples, Cut { t: t }, words, offsets, quads);
+    let told = told::tell_counts(counted);
+    put(answer, &told);
+}
+
+// How many vertices and quads the mesh of a block of readings has.
+#[no_mangle]
+pub extern "C" fn parsniprow_readings_counts(
+    nx: u32,
+    ny: u32,
+    nz: u32,
+    readings: &[f32],
+    t: u16,
+    answer: &mut [u32],
+)
+    ensures { λ _. ⌜ ReadingsCountsTold nx ny nz (now (readings .entry)) t (now (answer .entry)) (now (answer .exit)) ⌝ }
+{
+    let counted = readings_mesh::counts(nx, ny, nz, readings, Cut { t: t });
+    let told = told::tell_counts(counted);
+    put(answer, &told);
+}
+
+// The mesh of a block of readings in three lent buffers.
+#[no_mangle]
+pub extern "C" fn parsniprow_readings_mesh(
+    nx: u32,
+    ny: u32,
+    nz: u32,
+    readings: &[f32],
+    t: u16,
+    words: &mut [u32],
+    offsets: &mut [f64],
+    quads: &mut [u32],
+    answer: &mut [u32],
+)
+    ensures { λ _. ⌜ ReadingsMeshTold nx ny nz (now (readings .entry)) t (now (words .entry)) (now (offsets .entry)) (now (quads .entry)) (now (answer .entry)) (now (words .exit)) (now (offsets .exit)) (now (quads .exit)) (now (answer .exit)) ⌝ }
+{
+    let counted = readings_mesh::mesh(nx, ny, nz, readings, Cut { t: t }, words, offsets, quads);
     let told = told::tell_counts(counted);
     put(answer, &told);
 }

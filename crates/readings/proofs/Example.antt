@@ -6,7 +6,7 @@ use lib.Ieee.{Float, ofBits, binary32}
 use Rattle.laws.specs.Below.{below}
 use Rattle.block.specs.Answer.{refuses, inOrder}
 use Rattle.readings.specs.declared.Reading.the-variants.{Grey, Ceiling, NoNumber, Infinite, BelowZero}
-use Rattle.readings.specs.Reading.{readingOf, faultRow}
+use Rattle.readings.specs.Reading.{readingOf, badRow}
 
 -- ---- the faults: no number, plus and minus infinity, −1, and the greatest float below zero
 
@@ -74,6 +74,6 @@ one = ofBits binary32 0x3F800000
 abbrev two-faults : List Float
 two-faults = one ∷ one ∷ one ∷ one ∷ one ∷ ofBits binary32 0xBF800000 ∷ one ∷ ofBits binary32 0x7FC00000 ∷ one ∷ []
 
-lowest-decides : faultRow two-faults ≡ refuses 21 5
-unfolding faultRow inOrder below readingOf ofBits
+lowest-decides : badRow two-faults ≡ refuses 21 5
+unfolding badRow inOrder below readingOf ofBits
 lowest-decides = refl

@@ -9,7 +9,7 @@ use Rattle.laws.specs.Fixed.{Fixes}
 use Rattle.laws.proofs.Fixed.{equation-fixes}
 use Rattle.block.specs.declared.Checked.{Checked}
 use Rattle.readings.specs.declared.Reading.{Reading}
-use Rattle.readings.specs.Reading.{readingOf, greysOf, faultRow}
+use Rattle.readings.specs.Reading.{readingOf, greysOf, badRow}
 
 -- of `read`
 pub read-fixed : (x : Float) → Fixes (λ (r : Reading). r ≡ readingOf x)
@@ -20,5 +20,5 @@ pub fill-fixed : (part : List Float) (window : List ℕ) → Fixes (λ (w : List
 fill-fixed part window = equation-fixes (over (greysOf part) window)
 
 -- of `check_readings`
-pub check-readings-fixed : (readings : List Float) → Fixes (λ (r : Checked). r ≡ faultRow readings)
-check-readings-fixed readings = equation-fixes (faultRow readings)
+pub check-readings-fixed : (readings : List Float) → Fixes (λ (r : Checked). r ≡ badRow readings)
+check-readings-fixed readings = equation-fixes (badRow readings)

@@ -24,7 +24,7 @@ use Rattle.block.specs.declared.Checked.the-variants.{Passes, Refuses}
 use Rattle.block.specs.Grey.{SixteenBit}
 use Rattle.readings.specs.declared.Reading.{Reading}
 use Rattle.readings.specs.declared.Reading.the-variants.{Grey, Ceiling, NoNumber, Infinite, BelowZero}
-use Rattle.readings.specs.Reading.{wholePart, readingOf, greyOf, greysOf, faultAt, faultRow}
+use Rattle.readings.specs.Reading.{wholePart, readingOf, greyOf, greysOf, badAt, badRow}
 use Rattle.readings.specs.Steps.{faulty, Sound}
 use Rattle.readings.proofs.Cases.{not-above, at-ceiling, under-ceiling}
 use Rattle.readings.proofs.Rows.{row-refuses, row-passes, row-passed, row-refused, refuses-faulty, part-at}
@@ -207,7 +207,7 @@ sound-part xs a n s i h = rw (part-at xs a n i h) (s (a + i) (omega (arith, leng
 
 -- ---- the row of a list
 
-pub fault-none : (xs : List Float) → (faultRow xs ≡ Passes) ↔ Sound xs
+pub fault-none : (xs : List Float) → (badRow xs ≡ Passes) ↔ Sound xs
 fault-none xs = (row-passed xs, row-passes xs)
 
 -- the reading i is at fault, and none before it
@@ -216,8 +216,8 @@ pub record LowestFault (xs : List Float) (i : ℕ) : Type 0 where
   pub there : faulty (readingOf (getD xs i nan)) ≡ true
   pub before : (k : ℕ) → k < i → faulty (readingOf (getD xs k nan)) ≡ false
 
-pub fault-lowest : (xs : List Float) (r : Refusal) → (faultRow xs ≡ Refuses r) ↔ ((i : ℕ) × LowestFault xs i × (Refuses r ≡ faultAt i (readingOf (getD xs i nan))))
+pub fault-lowest : (xs : List Float) (r : Refusal) → (badRow xs ≡ Refuses r) ↔ ((i : ℕ) × LowestFault xs i × (Refuses r ≡ badAt i (readingOf (getD xs i nan))))
 fault-lowest xs r = (there, λ h. row-refuses xs (h .0) r (h .1 .before) (h .1 .inside) (sym (h .2)))
   where
-    there : faultRow xs ≡ Refuses r → (i : ℕ) × LowestFault xs i × (Refuses r ≡ faultAt i (readingOf (getD xs i nan)))
+    there : badRow xs ≡ Refuses r → (i : ℕ) × LowestFault xs i × (Refuses r ≡ badAt i (readingOf (getD xs i nan)))
     there e = let f = row-refused xs r e in (f .0, record { inside = f .1; there = refuses-faulty (f .0) (readingOf (getD xs (f .0) nan)) r (f .2); before = f .3 }, sym (f .2))

@@ -20,7 +20,7 @@ use Rattle.block.specs.Answer.{inOrder}
 use Rattle.block.proofs.Order.{passes-refuses, first-exactly, none-exactly}
 use Rattle.readings.specs.declared.Reading.{Reading}
 use Rattle.readings.specs.declared.Reading.the-variants.{Grey, Ceiling, NoNumber, Infinite, BelowZero}
-use Rattle.readings.specs.Reading.{readingOf, faultAt, faultRow}
+use Rattle.readings.specs.Reading.{readingOf, badAt, badRow}
 use Rattle.readings.specs.Steps.{faulty, Sound, SoundTo}
 
 -- a fault that is told as 0 is none
@@ -30,21 +30,21 @@ bit-none false e = refl
 
 -- ---- the check of one reading
 
-pub sound-passes : (i : ℕ) (r : Reading) → faulty r ≡ false → faultAt i r ≡ Passes
+pub sound-passes : (i : ℕ) (r : Reading) → faulty r ≡ false → badAt i r ≡ Passes
 sound-passes i (Grey g) h = refl
 sound-passes i Ceiling h = refl
 sound-passes i NoNumber h = absurd (true≢false h)
 sound-passes i Infinite h = absurd (true≢false h)
 sound-passes i BelowZero h = absurd (true≢false h)
 
-pub passes-sound : (i : ℕ) (r : Reading) → faultAt i r ≡ Passes → faulty r ≡ false
+pub passes-sound : (i : ℕ) (r : Reading) → badAt i r ≡ Passes → faulty r ≡ false
 passes-sound i (Grey g) h = refl
 passes-sound i Ceiling h = refl
 passes-sound i NoNumber h = absurd (passes-refuses (sym h))
 passes-sound i Infinite h = absurd (passes-refuses (sym h))
 passes-sound i BelowZero h = absurd (passes-refuses (sym h))
 
-pub refuses-faulty : (i : ℕ) (r : Reading) (q : Refusal) → faultAt i r ≡ Refuses q → faulty r ≡ true
+pub refuses-faulty : (i : ℕ) (r : Reading) (q : Refusal) → badAt i r ≡ Refuses q → faulty r ≡ true
 refuses-faulty i (Grey g) q h = absurd (passes-refuses h)
 refuses-faulty i Ceiling q h = absurd (passes-refuses h)
 refuses-faulty i NoNumber q h = refl
@@ -55,13 +55,13 @@ refuses-faulty i BelowZero q h = refl
 
 module _ (xs : List Float) where
   abbrev pub checkAt : ℕ → Checked
-  checkAt i = faultAt i (readingOf (getD xs i nan))
+  checkAt i = badAt i (readingOf (getD xs i nan))
 
   abbrev pub checks : List Checked
   checks = each checkAt (length xs)
 
-  pub row-is : faultRow xs ≡ inOrder checks
-  unfolding faultRow
+  pub row-is : badRow xs ≡ inOrder checks
+  unfolding badRow
   row-is = refl
 
   checks-length : length checks ≡ length xs
@@ -71,7 +71,7 @@ module _ (xs : List Float) where
   checks-at i h = each-at checkAt (length xs) i Passes h
 
   -- none is at fault before i, and the reading i is
-  pub row-refuses : (i : ℕ) (q : Refusal) → ((k : ℕ) → k < i → faulty (readingOf (getD xs k nan)) ≡ false) → i < length xs → checkAt i ≡ Refuses q → faultRow xs ≡ Refuses q
+  pub row-refuses : (i : ℕ) (q : Refusal) → ((k : ℕ) → k < i → faulty (readingOf (getD xs k nan)) ≡ false) → i < length xs → checkAt i ≡ Refuses q → badRow xs ≡ Refuses q
   row-refuses i q s h e = row-is ∙ first-exactly checks q .1 (record {
     place = i;
     there = omega (arith, checks-length);
@@ -80,14 +80,14 @@ module _ (xs : List Float) where
   })
 
   -- none of all is
-  pub row-passes : Sound xs → faultRow xs ≡ Passes
+  pub row-passes : Sound xs → badRow xs ≡ Passes
   row-passes s = row-is ∙ none-exactly checks .1 (λ k l. let h : k < length xs = omega (arith, checks-length) in checks-at k h ∙ sound-passes k (readingOf (getD xs k nan)) (s k h))
 
-  pub row-passed : faultRow xs ≡ Passes → Sound xs
+  pub row-passed : badRow xs ≡ Passes → Sound xs
   row-passed e i h = passes-sound i (readingOf (getD xs i nan)) (sym (checks-at i h) ∙ none-exactly checks .0 (sym row-is ∙ e) i (omega (arith, checks-length)))
 
   -- what a refusal says: the first check that refuses
-  pub row-refused : (q : Refusal) → faultRow xs ≡ Refuses q → (i : ℕ) × (i < length xs) × (checkAt i ≡ Refuses q) × ((k : ℕ) → k < i → faulty (readingOf (getD xs k nan)) ≡ false)
+  pub row-refused : (q : Refusal) → badRow xs ≡ Refuses q → (i : ℕ) × (i < length xs) × (checkAt i ≡ Refuses q) × ((k : ℕ) → k < i → faulty (readingOf (getD xs k nan)) ≡ false)
   row-refused q e =
       let f = first-exactly checks q .0 (sym row-is ∙ e) in
       let h : f .place < length xs = omega (arith, checks-length, f .there) in (

@@ -40,17 +40,17 @@ abbrev pub greysOf : List Float → List ℕ
 greysOf xs = map (λ (x : Float). greyOf (readingOf x)) xs
 
 -- the reading with the index i as a check: "19 for no number, 20 for infinite of either sign, 21 for below zero", "with the index as value"
-abbrev pub faultAt : ℕ → Reading → Checked
-faultAt i (Grey g) = Passes
-faultAt i Ceiling = Passes
-faultAt i NoNumber = refuses 19 i
-faultAt i Infinite = refuses 20 i
-faultAt i BelowZero = refuses 21 i
+abbrev pub badAt : ℕ → Reading → Checked
+badAt i (Grey g) = Passes
+badAt i Ceiling = Passes
+badAt i NoNumber = refuses 19 i
+badAt i Infinite = refuses 20 i
+badAt i BelowZero = refuses 21 i
 
 -- "the lowest bad index decides"
-unfoldable pub faultRow : List Float → Checked
-faultRow xs = inOrder (below (λ (i : ℕ). faultAt i (readingOf (getD xs i nan)) ∷ []) (length xs))
+unfoldable pub badRow : List Float → Checked
+badRow xs = inOrder (below (λ (i : ℕ). badAt i (readingOf (getD xs i nan)) ∷ []) (length xs))
 
 -- 01's number and values of each case: a single reading has the index 0
 abbrev pub saidReading : Reading → Answer ℕ
-saidReading r = judged (faultAt 0 r) (greyOf r)
+saidReading r = judged (badAt 0 r) (greyOf r)

@@ -8,7 +8,7 @@ ghost use lib.Ieee.{fits, binary32};
 ghost use lib.ListN.{length};
 ghost use Rattle.laws.specs.Below.{over};
 ghost use Rattle.laws.specs.Bits.{bit};
-ghost use Rattle.readings.specs.Reading.{readingOf, greyOf, greysOf, faultAt, faultRow};
+ghost use Rattle.readings.specs.Reading.{readingOf, greyOf, greysOf, badAt, badRow};
 ghost use Rattle.readings.specs.Steps.{faulty, Sound, SoundTo, InRange, WholeOf, Capped};
 
 // What a reading is.
@@ -107,7 +107,7 @@ fn some_fault(part: &[f32]) -> bool
 
 // Rows 19 to 21 of one reading, which has this index.
 fn check_reading(i: usize, x: f32) -> Checked
-    ensures { λ r. ⌜ r ≡ faultAt i (readingOf x) ⌝ }
+    ensures { λ r. ⌜ r ≡ badAt i (readingOf x) ⌝ }
 {
     let what = read(x);
     match what {
@@ -122,7 +122,7 @@ fn check_reading(i: usize, x: f32) -> Checked
 // The first reading at fault decides, where none before the index is at fault: one reading at a time.
 fn first_fault(readings: &[f32], from: usize) -> Checked
     requires { ⌜ SoundTo (now readings) from ⌝ }
-    ensures { λ r. ⌜ r ≡ faultRow (now (readings .entry)) ⌝ }
+    ensures { λ r. ⌜ r ≡ badRow (now (readings .entry)) ⌝ }
 {
     let n = readings.len();
     let mut i: usize = from;
@@ -150,7 +150,7 @@ fn run_end(p: usize, n: usize) -> usize
 
 // Rows 19 to 21: the first reading at fault decides. The readings are gone through 1,024 at a time, and only a run with a fault is searched.
 pub fn check_readings(readings: &[f32]) -> Checked
-    ensures { λ r. ⌜ r ≡ faultRow (now (readings .entry)) ⌝ }
+    ensures { λ r. ⌜ r ≡ badRow (now (readings .entry)) ⌝ }
 {
     let n = readings.len();
     let mut p: usize = 0;

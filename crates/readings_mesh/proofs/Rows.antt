@@ -16,7 +16,7 @@ use Rattle.block.specs.Steps.{Sampled}
 use Rattle.block.proofs.Blocks.{count-passed}
 use Rattle.block.proofs.Order.{order-refuses, order-passes, order-last, order-first, order-rest}
 use Rattle.mesh.specs.Steps.{Meshable}
-use Rattle.readings.specs.Reading.{greysOf, faultRow}
+use Rattle.readings.specs.Reading.{greysOf, badRow}
 use Rattle.readings.specs.Steps.{Sound}
 use Rattle.readings.proofs.Readings.{greys-length, fault-none}
 use Rattle.readings_mesh.specs.Answer.{readingRows}
@@ -26,8 +26,8 @@ module _ (n : Size) (xs : List Float) (cut : Cut) where
   pub threshold-refused : countRow n (length xs) ≡ Passes → (r : Refusal) → thresholdRow cut ≡ Refuses r → Refuses r ≡ inOrder (readingRows n xs cut)
   threshold-refused e r f = sym (order-passes (countRow n (length xs)) _ e ∙ order-refuses (thresholdRow cut) _ r f)
 
-  pub faults-decide : countRow n (length xs) ≡ Passes → thresholdRow cut ≡ Passes → (k : Checked) → k ≡ faultRow xs → k ≡ inOrder (readingRows n xs cut)
-  faults-decide e f k g = g ∙ sym (order-passes (countRow n (length xs)) _ e ∙ order-passes (thresholdRow cut) _ f ∙ order-last (faultRow xs))
+  pub faults-decide : countRow n (length xs) ≡ Passes → thresholdRow cut ≡ Passes → (k : Checked) → k ≡ badRow xs → k ≡ inOrder (readingRows n xs cut)
+  faults-decide e f k g = g ∙ sym (order-passes (countRow n (length xs)) _ e ∙ order-passes (thresholdRow cut) _ f ∙ order-last (badRow xs))
 
   -- all pass
   module _ (l : Limits n) (e : inOrder (readingRows n xs cut) ≡ Passes) where
@@ -35,7 +35,7 @@ module _ (n : Size) (xs : List Float) (cut : Cut) where
     readings-sampled = record { limits = l; samples = greys-length xs ∙ count-passed n (length xs) (order-first (countRow n (length xs)) _ e) }
 
     pub readings-sound : Sound xs
-    readings-sound = fault-none xs .0 (sym (order-last (faultRow xs)) ∙ order-rest (thresholdRow cut) _ (order-rest (countRow n (length xs)) _ e))
+    readings-sound = fault-none xs .0 (sym (order-last (badRow xs)) ∙ order-rest (thresholdRow cut) _ (order-rest (countRow n (length xs)) _ e))
 
     pub readings-meshable : Meshable n (greysOf xs) cut
     readings-meshable = record {

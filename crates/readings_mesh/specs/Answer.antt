@@ -10,14 +10,14 @@ use Rattle.block.specs.declared.Checked.{Checked}
 use Rattle.block.specs.Answer.{Answer, inOrder, judged}
 use Rattle.block.specs.Rows.{axisRow, countRow, thresholdRow}
 use Rattle.block.specs.Size.{sizeOf}
-use Rattle.readings.specs.Reading.{greysOf, faultRow}
+use Rattle.readings.specs.Reading.{greysOf, badRow}
 use Rattle.mesh.specs.declared.Totals.{Totals}
 use Rattle.mesh.specs.declared.Counted.{Counted}
 use Rattle.mesh.specs.Answer.{countsOf, saidCounts, bufferRows, MeshedBy}
 
 -- rows 2 and 3, and then 19 to 21, of readings whose size is made
 abbrev pub readingRows : Size → List Float → Cut → List Checked
-readingRows n xs cut = countRow n (length xs) ∷ thresholdRow cut ∷ faultRow xs ∷ []
+readingRows n xs cut = countRow n (length xs) ∷ thresholdRow cut ∷ badRow xs ∷ []
 
 -- what counting a block of readings answers: the counts of the block so obtained, or the refusal of the first row that holds
 abbrev pub readingsAnswer : ℕ → ℕ → ℕ → List Float → Cut → Answer Totals

@@ -19,7 +19,7 @@ use Rattle.cube_rule.specs.Laws.{CubeLaws}
 use Rattle.cube_rule.specs.Links.{Decider}
 use Rattle.planes.specs.Planes.{eightOf, activeOf, limitOf}
 use Rattle.planes.proofs.Masks.{limit-keeps}
-use Rattle.rows.specs.Quiet.{activeIn, cubeWords, every, quietRow}
+use Rattle.rows.specs.Quiet.{activeIn, wordsInRow, every, quietRow}
 use Rattle.rows.specs.Rows.{loopsAt, rowMasks, RowReady}
 use Rattle.rows.proofs.WordSteps.{WordTold}
 use Rattle.rows.proofs.Words.{quiet}
@@ -66,8 +66,8 @@ module _ (f : ℕ → Bool) where
 -- ---- a row without an active cube
 
 -- no word has one
-pub quiet-word : (a b : List ℕ) (nx j w : ℕ) → quietRow a b nx j ≡ true → w < cubeWords nx → activeIn a b nx j w ≡ 0
-quiet-word a b nx j w q l = eqb-true (activeIn a b nx j w) 0 (every-at (λ (w : ℕ). eqb (activeIn a b nx j w) 0) (cubeWords nx) w q l)
+pub quiet-word : (a b : List ℕ) (nx j w : ℕ) → quietRow a b nx j ≡ true → w < wordsInRow nx → activeIn a b nx j w ≡ 0
+quiet-word a b nx j w q l = eqb-true (activeIn a b nx j w) 0 (every-at (λ (w : ℕ). eqb (activeIn a b nx j w) 0) (wordsInRow nx) w q l)
 
 module _ (a b : List ℕ) (nx j : ℕ) where
   -- the cube 64 w + i of the row is not active

@@ -11,8 +11,8 @@ abbrev pub activeIn : List ℕ → List ℕ → ℕ → ℕ → ℕ → ℕ
 activeIn a b nx j w = bitAnd (activeOf (eightOf a b (5 * j + w))) (limitOf (nx - 1) w)
 
 -- how many words hold a row of cubes
-abbrev pub cubeWords : ℕ → ℕ
-cubeWords nx = (nx - 1 + 63) / 64
+abbrev pub wordsInRow : ℕ → ℕ
+wordsInRow nx = (nx - 1 + 63) / 64
 
 -- the test holds of every number below n
 unfoldable pub every : (ℕ → Bool) → ℕ → Bool
@@ -21,4 +21,4 @@ every f (suc n) = every f n && f n
 
 -- there is none in the row
 abbrev pub quietRow : List ℕ → List ℕ → ℕ → ℕ → Bool
-quietRow a b nx j = every (λ (w : ℕ). eqb (activeIn a b nx j w) 0) (cubeWords nx)
+quietRow a b nx j = every (λ (w : ℕ). eqb (activeIn a b nx j w) 0) (wordsInRow nx)

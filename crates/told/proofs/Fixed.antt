@@ -27,7 +27,7 @@ tell-edge-fixed x = equation-fixes (toldEdge x)
 pub tell-fraction-fixed : (x : Answer (List Float)) → Fixes (λ (r : List Float). r ≡ toldFraction x)
 tell-fraction-fixed x = equation-fixes (toldFraction x)
 
--- of `tell_cube` and `tell_crossed`
+-- of `tell_reading`, `tell_cube` and `tell_crossed`
 pub tell-number-fixed : (x : Answer ℕ) → Fixes (λ (r : List ℕ). r ≡ toldNumber x)
 tell-number-fixed x = equation-fixes (toldNumber x)
 

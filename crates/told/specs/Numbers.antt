@@ -26,7 +26,7 @@ abbrev pub toldFraction : Answer (List Float) → List Float
 toldFraction (accepted f) = filled 1 plusZero f
 toldFraction (refused r) = filled 1 plusZero []
 
--- one number: the loops of a cube, the crossed edges of a block
+-- one number: the grey value of a reading, the loops of a cube, the crossed edges of a block
 abbrev pub toldNumber : Answer ℕ → List ℕ
 toldNumber = told 3 (λ n. n ∷ [])
 

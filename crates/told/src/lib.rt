@@ -11,6 +11,7 @@ use pieces::Pieced;
 use place::Crossing;
 use place::Offset;
 use ply::Filed;
+use readings::Reading;
 use room::Edged;
 use thresholds::RowAnswer;
 ghost use mathlib.Core.Path.{_≡_};
@@ -25,6 +26,7 @@ ghost use Rattle.thresholds.specs.Answer.{saidRow};
 ghost use Rattle.closed.specs.Closed.{saidClosure};
 ghost use Rattle.pieces.specs.Answer.{saidPieces};
 ghost use Rattle.ply.specs.Answer.{saidFile};
+ghost use Rattle.readings.specs.Reading.{saidReading};
 ghost use Rattle.room.specs.Answer.{saidCrossed};
 ghost use Rattle.told.specs.Numbers.{toldCeilings, toldEdge, toldFraction, toldNumber, toldClosed, toldPieces, toldLength, toldNothing, toldGrowth, stateNumbers, stateOf};
 
@@ -33,6 +35,19 @@ pub fn tell_ceilings(seen: CeilingCount) -> [u32; 3]
     ensures { λ r. ⌜ r ≡ toldCeilings (accepted seen) ⌝ }
 {
     [0, seen.count, seen.lowest]
+}
+
+// The grey value of a reading, or its fault.
+pub fn tell_reading(reading: Reading) -> [u32; 3]
+    ensures { λ r. ⌜ r ≡ toldNumber (saidReading reading) ⌝ }
+{
+    match reading {
+        Reading::Grey(g) => [0, g as u32, 0],
+        Reading::Ceiling => [0, 65535, 0],
+        Reading::NoNumber => [19, 0, 0],
+        Reading::Infinite => [20, 0, 0],
+        Reading::BelowZero => [21, 0, 0],
+    }
 }
 
 // How many crossings an edge has, 0 or 1.

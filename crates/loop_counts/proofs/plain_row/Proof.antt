@@ -12,7 +12,7 @@ use borrow.Author.Needs.{needs}
 use borrow.Author.Tests.{not-true, not-false}
 use Rattle.laws.specs.Counting.{total}
 use Rattle.planes.specs.Planes.{eightOf, activeOf}
-use Rattle.rows.specs.Quiet.{activeIn, cubeWords, every}
+use Rattle.rows.specs.Quiet.{activeIn, wordsInRow, every}
 use Rattle.rows.proofs.Quiets.{every-start, every-more, every-not}
 use Rattle.loop_counts.specs.PlainRow.{plainWord, activeTo}
 use Rattle.loop_counts.proofs.PlainRows.{active-start, active-more, plain-all, plain-doubt}
@@ -24,7 +24,7 @@ abbrev plainAt : List ℕ → List ℕ → ℕ → ℕ → ℕ → Bool
 plainAt a b nx j w = plainWord (eightOf a b (5 * j + w)) (activeIn a b nx j w)
 
 abbrev Inv-loop : tie.InvT-loop
-Inv-loop row a b cubes w₀ m₀ w m = (w ≤ cubeWords (row .nx)) × (true ≡ every (plainAt a b (row .nx) (row .j)) w) × (m ≡ activeTo a b (row .nx) (row .j) w) × (m ≤ 64 * w)
+Inv-loop row a b cubes w₀ m₀ w m = (w ≤ wordsInRow (row .nx)) × (true ≡ every (plainAt a b (row .nx) (row .j)) w) × (m ≡ activeTo a b (row .nx) (row .j) w) × (m ≤ 64 * w)
 
 abbrev μ-loop : tie.MeasureT-loop
 μ-loop row a b cubes w₀ m₀ w m = 4 - w
@@ -33,7 +33,7 @@ abbrev start : tie.At-loop Inv-loop μ-loop → tie.Start Inv-loop μ-loop
 start d = d .before .before .before .before
 
 -- a row has four words at most
-four : (d : tie.In-loop Inv-loop μ-loop) → (d .before .loop .w < 4) × (d .before .loop .w < cubeWords (start (d .before) .args .row .nx))
+four : (d : tie.In-loop Inv-loop μ-loop) → (d .before .loop .w < 4) × (d .before .loop .w < wordsInRow (start (d .before) .args .row .nx))
 four d = (omega (arith, d .loop-test .taken, start (d .before) .pre .1), omega (arith, d .loop-test .taken, start (d .before) .pre .0))
 
 abbrev turn : tie.After-limit Inv-loop μ-loop → tie.In-loop Inv-loop μ-loop
@@ -83,7 +83,7 @@ returns c =
     let d = turn (p .before) in
     let a = start (d .before) .args in
     plain-doubt (now (a .a)) (now (a .b)) (a .row .nx) (a .row .j)
-    (every-not (plainAt (now (a .a)) (now (a .b)) (a .row .nx) (a .row .j)) (d .before .loop .w) (cubeWords (a .row .nx)) (sym (plain-is p) ∙ not-true _ (c .if1 .taken)) (four d .1))
+    (every-not (plainAt (now (a .a)) (now (a .b)) (a .row .nx) (a .row .j)) (d .before .loop .w) (wordsInRow (a .row .nx)) (sym (plain-is p) ∙ not-true _ (c .if1 .taken)) (four d .1))
 
 add-m : tie.Need-add-m Inv-loop μ-loop
 add-m c = let d = turn (asked c) in omega (arith, d .before .loop .inv .3, four d .0, c .ones-of .ensures .1)
@@ -110,7 +110,7 @@ returns-2 : tie.Need-returns-2 Inv-loop μ-loop
 returns-2 c =
     let h = c .before .loop in
     let a = start (c .before) .args in
-    let e : h .w ≡ cubeWords (a .row .nx) = omega (arith, c .loop-test .left, h .inv .0) in
+    let e : h .w ≡ wordsInRow (a .row .nx) = omega (arith, c .loop-test .left, h .inv .0) in
     plain-all (now (a .a)) (now (a .b)) (a .row .nx) (a .row .j) (h .m) (h .w) (subst (λ w. true ≡ every (plainAt (now (a .a)) (now (a .b)) (a .row .nx) (a .row .j)) w) e (h .inv .1)) (h .inv .2) e
 
 pub plain-row-spec : {M : Type 1} → statement M

@@ -4,7 +4,7 @@ use borrow.Author.Needs.{needs}
 use Prim.Native.Nat.{ℕ}
 use mathlib.Core.Path.{sym, ap, _∙_}
 use Rattle.block.specs.declared.Checked.the-variants.{Refuses}
-use Rattle.readings.specs.Reading.{faultAt}
+use Rattle.readings.specs.Reading.{badAt}
 use Rattle.readings.proofs.check_reading.Statement.{statement}
 use Rattle.readings.proofs.check_reading.Tie as tie
 use Rattle.readings.proofs.check_reading.Reads as reads
@@ -50,28 +50,28 @@ refuse-requires-3 : tie.Need-refuse-requires-3
 refuse-requires-3 c κs = search needs
 
 returns : tie.Need-returns
-returns c = sym (ap (faultAt (c .before .before .before .args .i)) (sym (c .before .before .read .ensures) ∙ c .enum-told .given .1))
+returns c = sym (ap (badAt (c .before .before .before .args .i)) (sym (c .before .before .read .ensures) ∙ c .enum-told .given .1))
 
 returns-2 : tie.Need-returns-2
-returns-2 c = sym (ap (faultAt (c .before .before .before .args .i)) (sym (c .before .before .read .ensures) ∙ c .enum-told2 .given .1))
+returns-2 c = sym (ap (badAt (c .before .before .before .args .i)) (sym (c .before .before .read .ensures) ∙ c .enum-told2 .given .1))
 
 returns-3 : tie.Need-returns-3
 returns-3 c =
     c .refuse .ensures
     ∙ ap (λ (v : ℕ). Refuses (record { number = 19; value = v })) (c .before .short .ensures)
-    ∙ sym (ap (faultAt (c .before .before .before .before .before .args .i)) (sym (c .before .before .before .before .read .ensures) ∙ c .before .before .enum-told3 .given .1))
+    ∙ sym (ap (badAt (c .before .before .before .before .before .args .i)) (sym (c .before .before .before .before .read .ensures) ∙ c .before .before .enum-told3 .given .1))
 
 returns-4 : tie.Need-returns-4
 returns-4 c =
     c .refuse2 .ensures
     ∙ ap (λ (v : ℕ). Refuses (record { number = 20; value = v })) (c .before .short2 .ensures)
-    ∙ sym (ap (faultAt (c .before .before .before .before .before .args .i)) (sym (c .before .before .before .before .read .ensures) ∙ c .before .before .enum-told4 .given .1))
+    ∙ sym (ap (badAt (c .before .before .before .before .before .args .i)) (sym (c .before .before .before .before .read .ensures) ∙ c .before .before .enum-told4 .given .1))
 
 returns-5 : tie.Need-returns-5
 returns-5 c =
     c .refuse3 .ensures
     ∙ ap (λ (v : ℕ). Refuses (record { number = 21; value = v })) (c .before .short3 .ensures)
-    ∙ sym (ap (faultAt (c .before .before .before .before .before .args .i)) (sym (c .before .before .before .before .read .ensures) ∙ c .before .before .enum-told5 .given .1))
+    ∙ sym (ap (badAt (c .before .before .before .before .before .args .i)) (sym (c .before .before .before .before .read .ensures) ∙ c .before .before .enum-told5 .given .1))
 
 pub check-reading-spec : {M : Type 1} → statement M
 check-reading-spec =

@@ -11,7 +11,7 @@ use lib.Bits.{bitAnd}
 use native.Mathlib.Omega.{arith}
 use borrow.Author.Needs.{needs}
 use Rattle.planes.specs.Planes.{eightOf, activeOf, limitOf}
-use Rattle.rows.specs.Quiet.{activeIn, cubeWords, every}
+use Rattle.rows.specs.Quiet.{activeIn, wordsInRow, every}
 use Rattle.rows.proofs.Quiets.{every-start, every-more, every-not}
 use Rattle.rows.proofs.quiet.Statement.{statement}
 use Rattle.rows.proofs.quiet.Tie as tie
@@ -21,7 +21,7 @@ abbrev none : List ℕ → List ℕ → ℕ → ℕ → ℕ → Bool
 none a b nx j w = eqb (activeIn a b nx j w) 0
 
 abbrev Inv-loop : tie.InvT-loop
-Inv-loop row a b cubes w₀ w = (w ≤ cubeWords (row .nx)) × (true ≡ every (none a b (row .nx) (row .j)) w)
+Inv-loop row a b cubes w₀ w = (w ≤ wordsInRow (row .nx)) × (true ≡ every (none a b (row .nx) (row .j)) w)
 
 abbrev μ-loop : tie.MeasureT-loop
 μ-loop row a b cubes w₀ w = 4 - w
@@ -30,7 +30,7 @@ abbrev start : tie.At-loop Inv-loop μ-loop → tie.Start Inv-loop μ-loop
 start d = d .before .before .before .before
 
 -- a row has four words at most
-four : (d : tie.In-loop Inv-loop μ-loop) → (d .before .loop .w < 4) × (d .before .loop .w < cubeWords (start (d .before) .args .row .nx))
+four : (d : tie.In-loop Inv-loop μ-loop) → (d .before .loop .w < 4) × (d .before .loop .w < wordsInRow (start (d .before) .args .row .nx))
 four d = (omega (arith, d .loop-test .taken, start (d .before) .pre .1), omega (arith, d .loop-test .taken, start (d .before) .pre .0))
 
 abbrev turn : tie.After-limit Inv-loop μ-loop → tie.In-loop Inv-loop μ-loop
@@ -68,7 +68,7 @@ returns : tie.Need-returns Inv-loop μ-loop
 returns c =
     let d = turn (c .before) in
     let a = start (d .before) .args in
-    every-not (none (now (a .a)) (now (a .b)) (a .row .nx) (a .row .j)) (d .before .loop .w) (cubeWords (a .row .nx)) (ne-eqb _ 0 (λ z. c .if1 .taken (act-is (c .before) ∙ z))) (four d .1)
+    every-not (none (now (a .a)) (now (a .b)) (a .row .nx) (a .row .j)) (d .before .loop .w) (wordsInRow (a .row .nx)) (ne-eqb _ 0 (λ z. c .if1 .taken (act-is (c .before) ∙ z))) (four d .1)
 
 add-w : tie.Need-add-w Inv-loop μ-loop
 add-w c = omega (arith, four (turn (c .before)) .0)
