@@ -33,8 +33,7 @@ use Rattle.mesh.specs.Answer.{vertexCount, quadCount, countsOf, saidCounts, tol
 use Rattle.mesh.proofs.Verdicts.{counts-fixed, mesh-fixed}
 use Rattle.readings.specs.declared.Reading.{Reading}
 use Rattle.readings.specs.declared.Reading.the-variants.{Grey, Ceiling, NoNumber, Infinite, BelowZero}
-use Rattle.readings.specs.Reading.{readingOf, greyOf, greysOf, badAt, badRow, saidReading}
-use Rattle.readings.specs.Steps.{Sound}
+use Rattle.readings.specs.Reading.{readingOf, greyOf, greysOf, badAt, badRow, saidReading, Sound}
 use Rattle.readings.proofs.Readings.{greys-length, greys-at, greys-sixteen, reading-sign, fault-none, fault-lowest}
 use Rattle.readings_mesh.specs.Answer.{readingRows, readingsAnswer, ReadingsCounted, readingsVerdict, ReadingsMeshed}
 use Rattle.parsniprow_c.specs.Told.{tellOver, ReadingTold, ReadingsCountsTold, ReadingsMeshTold, CountsTold, MeshTold}

@@ -3,8 +3,7 @@ use Prim.Native.Nat.{ℕ}
 use mathlib.Core.Path.{_≡_}
 use mathlib.Core.List.{List}
 use lib.Ieee.{Float}
-use Rattle.readings.specs.Reading.{greysOf}
-use Rattle.readings.specs.Steps.{Sound}
+use Rattle.readings.specs.Reading.{greysOf, Sound}
 use Rattle.mesh.specs.declared.Source.{Source}
 use Rattle.mesh.specs.declared.Source.the-variants.{Samples, Readings}
 

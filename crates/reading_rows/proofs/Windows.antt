@@ -14,8 +14,7 @@ use Rattle.laws.specs.Bits.{bit}
 use Rattle.block.specs.declared.Cut.{Cut}
 use Rattle.cube_rule.specs.Decider.{joined, loopsOf}
 use Rattle.cube_rule.proofs.Laws.{cube-laws}
-use Rattle.readings.specs.Reading.{readingOf, greyOf, greysOf}
-use Rattle.readings.specs.Steps.{faulty, Sound}
+use Rattle.readings.specs.Reading.{readingOf, greyOf, greysOf, faulty, Sound}
 use Rattle.readings.proofs.Readings.{reading-sign, greys-length, greys-at, greys-part}
 use Rattle.signs.specs.Steps.{SignBytes, planeFrom, fiveWords}
 use Rattle.signs.proofs.RowSigns.{row-short, row-stored}

@@ -17,8 +17,8 @@ use Rattle.laws.specs.Bits.{bit}
 use Rattle.laws.proofs.Tests.{lt-or-ge}
 use mathlib.Core.Logic.{_⊎_, inl, inr}
 use Rattle.readings.specs.declared.Reading.the-variants.{Grey, Ceiling, NoNumber, Infinite, BelowZero}
-use Rattle.readings.specs.Reading.{readingOf, greyOf}
-use Rattle.readings.specs.Steps.{faulty, InRange, Capped}
+use Rattle.readings.specs.Reading.{readingOf, greyOf, faulty}
+use Rattle.readings.specs.Steps.{InRange, Capped}
 
 abbrev pub zero32 : Float
 zero32 = fin false 0 (pos 0)

@@ -16,8 +16,8 @@ pub read-fixed : (x : Float) → Fixes (λ (r : Reading). r ≡ readingOf x)
 read-fixed x = equation-fixes (readingOf x)
 
 -- of `fill`: the window afterwards
-pub fill-fixed : (part : List Float) (window : List ℕ) → Fixes (λ (w : List ℕ). w ≡ over (greysOf part) window)
-fill-fixed part window = equation-fixes (over (greysOf part) window)
+pub readings-fill-fixed : (part : List Float) (window : List ℕ) → Fixes (λ (w : List ℕ). w ≡ over (greysOf part) window)
+readings-fill-fixed part window = equation-fixes (over (greysOf part) window)
 
 -- of `check_readings`
 pub check-readings-fixed : (readings : List Float) → Fixes (λ (r : Checked). r ≡ badRow readings)

@@ -24,8 +24,7 @@ use Rattle.block.specs.declared.Checked.the-variants.{Passes, Refuses}
 use Rattle.block.specs.Grey.{SixteenBit}
 use Rattle.readings.specs.declared.Reading.{Reading}
 use Rattle.readings.specs.declared.Reading.the-variants.{Grey, Ceiling, NoNumber, Infinite, BelowZero}
-use Rattle.readings.specs.Reading.{wholePart, readingOf, greyOf, greysOf, badAt, badRow}
-use Rattle.readings.specs.Steps.{faulty, Sound}
+use Rattle.readings.specs.Reading.{wholePart, readingOf, greyOf, greysOf, badAt, badRow, faulty, Sound}
 use Rattle.readings.proofs.Cases.{not-above, at-ceiling, under-ceiling}
 use Rattle.readings.proofs.Rows.{row-refuses, row-passes, row-passed, row-refused, refuses-faulty, part-at}
 

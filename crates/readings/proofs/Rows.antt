@@ -20,8 +20,8 @@ use Rattle.block.specs.Answer.{inOrder}
 use Rattle.block.proofs.Order.{passes-refuses, first-exactly, none-exactly}
 use Rattle.readings.specs.declared.Reading.{Reading}
 use Rattle.readings.specs.declared.Reading.the-variants.{Grey, Ceiling, NoNumber, Infinite, BelowZero}
-use Rattle.readings.specs.Reading.{readingOf, badAt, badRow}
-use Rattle.readings.specs.Steps.{faulty, Sound, SoundTo}
+use Rattle.readings.specs.Reading.{readingOf, badAt, badRow, faulty, Sound}
+use Rattle.readings.specs.Steps.{SoundTo}
 
 -- a fault that is told as 0 is none
 pub bit-none : (b : Bool) → bit b ≡ 0 → b ≡ false

@@ -1,7 +1,8 @@
 -- The readings of the second bench (document 02, Ten): a reading is a grey value, a ceiling, or one of three faults, and a list of readings is a list of grey values or is
 -- refused.
-use Prim.Native.Nat.{ℕ, zero, suc, _*_, _/_}
-use mathlib.Core.Bool.{true, false, cond}
+use Prim.Native.Nat.{ℕ, zero, suc, _*_, _/_, _<_}
+use mathlib.Core.Path.{_≡_}
+use mathlib.Core.Bool.{Bool, true, false, cond}
 use mathlib.Core.List.{List, [], _∷_, map}
 use lib.Dec.{leb}
 use lib.IntN.{ℤ}
@@ -54,3 +55,15 @@ badRow xs = inOrder (below (λ (i : ℕ). badAt i (readingOf (getD xs i nan)) �
 -- 01's number and values of each case: a single reading has the index 0
 abbrev pub saidReading : Reading → Answer ℕ
 saidReading r = judged (badAt 0 r) (greyOf r)
+
+-- a reading is at fault
+abbrev pub faulty : Reading → Bool
+faulty (Grey g) = false
+faulty Ceiling = false
+faulty NoNumber = true
+faulty Infinite = true
+faulty BelowZero = true
+
+-- no reading of the list is
+abbrev pub Sound : List Float → Type 0
+Sound xs = (i : ℕ) → i < length xs → faulty (readingOf (getD xs i nan)) ≡ false

@@ -1,28 +1,14 @@
--- What the steps of the code say of readings: whether one is at fault, that none of a list is, and what the whole part of one is.
+-- What the steps of the code say of readings: that none of the first is at fault, and what the whole part of one is.
 -- Assumes nothing.
 use Prim.Native.Nat.{ℕ, _*_, _/_, _≤_, _<_}
 use mathlib.Core.Path.{_≡_}
-use mathlib.Core.Bool.{Bool, true, false}
+use mathlib.Core.Bool.{true, false}
 use mathlib.Core.List.{List}
 use lib.ListN.{length, getD}
 use lib.Ieee.{Float, nan, inf, fin, up, down}
 use lib.Ieee.Exact.{HasValue}
 use lib.Ieee.Positive.{num, den}
-use Rattle.readings.specs.declared.Reading.{Reading}
-use Rattle.readings.specs.declared.Reading.the-variants.{Grey, Ceiling, NoNumber, Infinite, BelowZero}
-use Rattle.readings.specs.Reading.{readingOf, greyOf}
-
--- a reading is at fault
-abbrev pub faulty : Reading → Bool
-faulty (Grey g) = false
-faulty Ceiling = false
-faulty NoNumber = true
-faulty Infinite = true
-faulty BelowZero = true
-
--- no reading of the list is
-abbrev pub Sound : List Float → Type 0
-Sound xs = (i : ℕ) → i < length xs → faulty (readingOf (getD xs i nan)) ≡ false
+use Rattle.readings.specs.Reading.{readingOf, greyOf, faulty}
 
 -- no reading before the index is, and the index is in the list or at its end
 pub record SoundTo (xs : List Float) (n : ℕ) : Type 0 where

@@ -8,8 +8,8 @@ ghost use lib.Ieee.{fits, binary32};
 ghost use lib.ListN.{length};
 ghost use Rattle.laws.specs.Below.{over};
 ghost use Rattle.laws.specs.Bits.{bit};
-ghost use Rattle.readings.specs.Reading.{readingOf, greyOf, greysOf, badAt, badRow};
-ghost use Rattle.readings.specs.Steps.{faulty, Sound, SoundTo, InRange, WholeOf, Capped};
+ghost use Rattle.readings.specs.Reading.{readingOf, greyOf, greysOf, badAt, badRow, faulty, Sound};
+ghost use Rattle.readings.specs.Steps.{SoundTo, InRange, WholeOf, Capped};
 
 // What a reading is.
 pub enum Reading {

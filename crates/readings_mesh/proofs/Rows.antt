@@ -16,8 +16,7 @@ use Rattle.block.specs.Steps.{Sampled}
 use Rattle.block.proofs.Blocks.{count-passed}
 use Rattle.block.proofs.Order.{order-refuses, order-passes, order-last, order-first, order-rest}
 use Rattle.mesh.specs.Steps.{Meshable}
-use Rattle.readings.specs.Reading.{greysOf, badRow}
-use Rattle.readings.specs.Steps.{Sound}
+use Rattle.readings.specs.Reading.{greysOf, badRow, Sound}
 use Rattle.readings.proofs.Readings.{greys-length, fault-none}
 use Rattle.readings_mesh.specs.Answer.{readingRows}
 

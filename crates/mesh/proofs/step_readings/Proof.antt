@@ -9,8 +9,7 @@ use lib.Ieee.{Float}
 use lib.ListN.{length, take, drop}
 use Rattle.vertices.proofs.CubeCorners.{Windows}
 use Rattle.vertices.proofs.Layers.{row-bounds, low-fits, high-fits, lent-windows}
-use Rattle.readings.specs.Reading.{greysOf}
-use Rattle.readings.specs.Steps.{Sound}
+use Rattle.readings.specs.Reading.{greysOf, Sound}
 use Rattle.readings.proofs.Readings.{greys-length, sound-part}
 use Rattle.mesh.proofs.Sources.{reading-windows}
 use Rattle.mesh.proofs.RowSteps.{step-ready, row-more, underway-number, underway-roomy}
