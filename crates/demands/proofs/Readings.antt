@@ -15,14 +15,14 @@ use Rattle.block.specs.declared.Cut.{Cut}
 use Rattle.block.specs.declared.Refusal.{Refusal}
 use Rattle.block.specs.declared.Checked.{Checked}
 use Rattle.block.specs.declared.Checked.the-variants.{Passes, Refuses}
-use Rattle.block.specs.Answer.{Answer, accepted, refused, inOrder, First, judged, written}
+use Rattle.block.specs.Answer.{accepted, refused, inOrder, First, judged, written}
 use Rattle.block.specs.Block.{blockRows}
 use Rattle.block.specs.Ceilings.{AtCeiling}
 use Rattle.block.specs.Grey.{cutOf}
-use Rattle.block.specs.Numbering.{sampleCount, sampleIndex}
+use Rattle.block.specs.Numbering.{sampleIndex}
 use Rattle.block.specs.Rows.{axisRow, countRow, thresholdRow}
 use Rattle.block.specs.Size.{sizeOf}
-use Rattle.block.proofs.Order.{order-first, order-rest, order-last, orders-pass, first-has, refused-exactly, accepted-exactly, written-refused}
+use Rattle.block.proofs.Order.{order-first, order-rest, first-has, refused-exactly, accepted-exactly, written-refused}
 use Rattle.cube_rule.specs.Decider.{loopsOf}
 use Rattle.place.specs.Unit.{InUnit}
 use Rattle.mesh_rule.specs.Buffers.{meshWords, meshOffsets, meshQuads}
@@ -36,7 +36,7 @@ use Rattle.readings.specs.declared.Reading.the-variants.{Grey, Ceiling, NoNumbe
 use Rattle.readings.specs.Reading.{readingOf, greyOf, greysOf, badAt, badRow, saidReading, Sound}
 use Rattle.readings.proofs.Readings.{greys-length, greys-at, greys-sixteen, reading-sign, fault-none, fault-lowest}
 use Rattle.readings_mesh.specs.Answer.{readingRows, readingsAnswer, ReadingsCounted, readingsVerdict, ReadingsMeshed}
-use Rattle.parsniprow_c.specs.Told.{tellOver, ReadingTold, ReadingsCountsTold, ReadingsMeshTold, CountsTold, MeshTold}
+use Rattle.parsniprow_c.specs.Told.{tellOver, ReadingTold, ReadingsCountsTold, ReadingsMeshTold, MeshTold}
 use Rattle.told.specs.Numbers.{toldNumber}
 use Rattle.demands.specs.Answers.{NotRefused, MeshCall, ReadingsCall, SameMesh}
 use Rattle.demands.specs.Given.{MeshGiven}

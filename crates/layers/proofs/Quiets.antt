@@ -1,12 +1,10 @@
 -- A row without an active cube starts no quad and has no vertex, so nothing is written and no mark is moved. Assumes nothing.
-use Prim.Native.Nat.{ℕ, zero, suc, _+_, _*_, _-_, _/_, _%_, _^_, _≤_, _<_}
-use mathlib.Core.Path.{_≡_, refl, ap, sym, _∙_, subst}
-use mathlib.Core.Logic.{_⊎_, inl, inr}
+use Prim.Native.Nat.{ℕ, _+_, _*_, _-_, _/_, _%_, _^_, _<_}
+use mathlib.Core.Path.{_≡_, refl, ap, sym, _∙_}
 use mathlib.Core.Bool.{Bool, true, false, cond}
-use mathlib.Core.List.{List, [], _∷_, map}
-use native.Mathlib.Nat.{eq-zero-or-pos, zero-add}
+use mathlib.Core.List.{List, []}
+use native.Mathlib.Nat.{zero-add}
 use native.Mathlib.Omega.{arith}
-use borrow.Author.Tests.{eq-eqb}
 use lib.Bits.{bitAnd, and-zero-l}
 use lib.ListN.{length, getD}
 use lib.Seq.{sets}
@@ -26,7 +24,7 @@ use Rattle.rows.proofs.Quiets.{quiet-bit, quiet-loops, quiet-all}
 use Rattle.rows.proofs.Visits.{bitsOf, picked-unset}
 use Rattle.quads.specs.declared.Along.{Along}
 use Rattle.quads.specs.declared.Along.the-variants.{AxisX, AxisY, AxisZ}
-use Rattle.quads.specs.Edges.{edgesOf, wordsIn}
+use Rattle.quads.specs.Edges.{edgesOf}
 use Rattle.quads.specs.Writing.{edgeOf, backOf, orderSign, wordBy, rowBy}
 use Rattle.quads.proofs.RowQuads.{edge-in}
 use Rattle.cube_vertices.specs.Cubes.{namesAt, wordsAt, offsetsAt}

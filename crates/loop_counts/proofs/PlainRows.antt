@@ -1,7 +1,7 @@
 -- A row whose active cubes are all plain has as many loops as active cubes. Assumes nothing.
 use Prim.Native.Nat.{ℕ, zero, suc, _+_, _*_, _-_, _^_, _≤_, _<_}
 use mathlib.Core.Path.{_≡_, refl, ap, sym, _∙_}
-use mathlib.Core.Bool.{Bool, true, false, cond, false≢true}
+use mathlib.Core.Bool.{Bool, true, false, cond}
 use mathlib.Core.List.{List}
 use native.Mathlib.Nat.{add-comm}
 use native.Mathlib.Numerals.{add-one}
@@ -25,8 +25,7 @@ use Rattle.rows.specs.Quiet.{activeIn, wordsInRow}
 use Rattle.rows.specs.Rows.{rowMasks, RowReady}
 use Rattle.rows.proofs.Quiets.{every-at}
 use Rattle.rows.proofs.Words.{word-ready}
-use Rattle.rows.proofs.WordSteps.{masksTo, WordTold, counted-word, count-end}
-use Rattle.loop_counts.specs.declared.RowLoops.{RowLoops}
+use Rattle.rows.proofs.WordSteps.{masksTo, counted-word, count-end}
 use Rattle.loop_counts.specs.declared.RowLoops.the-variants.{Plain, Doubtful}
 use Rattle.loop_counts.specs.PlainRow.{plainWord, allPlain, activeTo, plainRow}
 use Rattle.loop_counts.proofs.CountedWords.{plain-counted}

@@ -1,15 +1,15 @@
 -- The two sources of a block: what the block is where samples are lent and where readings are, and the windows of readings as they are lent.
 -- Assumes nothing.
-use Prim.Native.Nat.{ℕ, _≤_}
-use mathlib.Core.Path.{_≡_, refl, sym, ap, _∙_, subst}
+use Prim.Native.Nat.{ℕ}
+use mathlib.Core.Path.{_≡_, sym, subst}
 use mathlib.Core.List.{List}
 use native.Mathlib.Omega.{arith}
 use lib.Ieee.{Float}
-use lib.ListN.{length, take, drop}
+use lib.ListN.{take, drop}
 use Rattle.block.specs.declared.Size.{Size}
 use Rattle.vertices.proofs.CubeCorners.{Windows}
 use Rattle.readings.specs.Reading.{greysOf}
-use Rattle.readings.proofs.Readings.{greys-length, greys-part}
+use Rattle.readings.proofs.Readings.{greys-part}
 use Rattle.mesh.specs.declared.Source.{Source}
 use Rattle.mesh.specs.declared.Source.the-variants.{Samples, Readings}
 use Rattle.mesh.specs.Source.{blockOf}

@@ -1,7 +1,7 @@
 -- Windows of readings: what is filled and lent is the readings' grey values, and what holds of those holds of it. Assumes nothing.
 use Prim.Native.Nat.{ℕ, _+_, _*_, _-_, _≤_, _<_}
-use mathlib.Core.Path.{_≡_, refl, sym, ap, _∙_, subst}
-use mathlib.Core.List.{List, _++_}
+use mathlib.Core.Path.{_≡_, sym, ap, _∙_, subst}
+use mathlib.Core.List.{List}
 use native.Mathlib.Nat.{sub-zero}
 use native.Mathlib.Omega.{arith}
 use lib.Dec.{leb}
@@ -14,7 +14,7 @@ use Rattle.laws.specs.Bits.{bit}
 use Rattle.block.specs.declared.Cut.{Cut}
 use Rattle.cube_rule.specs.Decider.{joined, loopsOf}
 use Rattle.cube_rule.proofs.Laws.{cube-laws}
-use Rattle.readings.specs.Reading.{readingOf, greyOf, greysOf, faulty, Sound}
+use Rattle.readings.specs.Reading.{greysOf, Sound}
 use Rattle.readings.proofs.Readings.{reading-sign, greys-length, greys-at, greys-part}
 use Rattle.signs.specs.Steps.{SignBytes, planeFrom, fiveWords}
 use Rattle.signs.proofs.RowSigns.{row-short, row-stored}
@@ -22,7 +22,6 @@ use Rattle.laws.proofs.Over.{each}
 use lib.Seq.{sets}
 use Rattle.rows.specs.Rows.{rowMasks, RowReady}
 use Rattle.rows.proofs.WordSteps.{row-count-le}
-use Rattle.loop_counts.specs.declared.RowLoops.{RowLoops}
 use Rattle.loop_counts.specs.declared.RowLoops.the-variants.{Plain}
 use Rattle.loop_counts.specs.PlainRow.{plainRow}
 use Rattle.loop_counts.proofs.PlainRows.{plain-says}

@@ -1,7 +1,6 @@
 -- The rows of a block of readings, by cases, and what follows where they pass. Assumes nothing.
-use Prim.Native.Nat.{ℕ}
 use mathlib.Core.Path.{_≡_, sym, _∙_}
-use mathlib.Core.List.{List, [], _∷_}
+use mathlib.Core.List.{List}
 use lib.ListN.{length}
 use lib.Ieee.{Float}
 use Rattle.block.specs.declared.Cut.{Cut}

@@ -1,27 +1,24 @@
 -- A row without an active cube: no word of it has one, and no cube of it has a loop, whatever the loops of a cube are. Assumes nothing.
 use Prim.Native.Nat.{ℕ, zero, suc, _+_, _*_, _-_, _/_, _%_, _^_, _≤_, _<_}
-use mathlib.Core.Path.{_≡_, refl, ap, sym, _∙_, subst}
+use mathlib.Core.Path.{_≡_, refl, ap, sym, _∙_}
 use mathlib.Core.Logic.{⊎-elim}
-use mathlib.Core.Bool.{Bool, true, false, cond, _&&_}
+use mathlib.Core.Bool.{Bool, true, false, _&&_}
 use mathlib.Core.List.{List, []}
 use native.Mathlib.Nat.{eq-or-lt-of-le, zero-div, zero-add}
 use native.Mathlib.Numerals.{add-one}
 use native.Mathlib.Omega.{arith}
-use borrow.Author.Tests.{eqb-true, eq-eqb, ne-eqb}
-use lib.Bits.{bitAnd}
+use borrow.Author.Tests.{eqb-true}
 use lib.Dec.{eqb}
 use Rattle.laws.specs.Below.{below}
-use Rattle.laws.proofs.Below.{below-same}
 use Rattle.laws.proofs.Tests.{and-both}
 use Rattle.laws.proofs.Visit.{below-skip, below-none}
 use Rattle.block.specs.declared.Cut.{Cut}
 use Rattle.cube_rule.specs.Laws.{CubeLaws}
 use Rattle.cube_rule.specs.Links.{Decider}
-use Rattle.planes.specs.Planes.{eightOf, activeOf, limitOf}
+use Rattle.planes.specs.Planes.{eightOf, activeOf}
 use Rattle.planes.proofs.Masks.{limit-keeps}
 use Rattle.rows.specs.Quiet.{activeIn, wordsInRow, every, quietRow}
-use Rattle.rows.specs.Rows.{loopsAt, rowMasks, RowReady}
-use Rattle.rows.proofs.WordSteps.{WordTold}
+use Rattle.rows.specs.Rows.{loopsAt, RowReady}
 use Rattle.rows.proofs.Words.{quiet}
 
 -- a word of zero has no bit

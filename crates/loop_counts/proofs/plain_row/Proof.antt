@@ -2,15 +2,13 @@
 -- of four words. Assumes nothing.
 use Prim.Native.Nat.{ℕ, _+_, _-_, _*_, _≤_, _<_}
 use mathlib.Core.Path.{_≡_, sym, ap, ap₂, _∙_, subst}
-use mathlib.Core.Bool.{Bool, true, false}
+use mathlib.Core.Bool.{Bool, true}
 use mathlib.Core.List.{List}
 use denote.Ref.{now}
 use lib.Bits.{bitAnd}
-use lib.Dec.{eqb}
 use native.Mathlib.Omega.{arith}
 use borrow.Author.Needs.{needs}
 use borrow.Author.Tests.{not-true, not-false}
-use Rattle.laws.specs.Counting.{total}
 use Rattle.planes.specs.Planes.{eightOf, activeOf}
 use Rattle.rows.specs.Quiet.{activeIn, wordsInRow, every}
 use Rattle.rows.proofs.Quiets.{every-start, every-more, every-not}

@@ -6,8 +6,6 @@ use Prim.Native.Nat.{ℕ, _-_, _≤_, _<_}
 use native.Mathlib.Omega.{arith}
 use borrow.Author.Needs.{needs}
 use denote.Ref.{now}
-use lib.IntN.{pos}
-use lib.Ieee.{binary32, ofInt}
 use lib.ListN.{length, length-set}
 use Rattle.signs.specs.Steps.{SignBytes}
 use Rattle.signs.proofs.Rows.{bytes-none, bytes-more}

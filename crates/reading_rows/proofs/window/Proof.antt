@@ -1,6 +1,5 @@
 -- `window` meets its contract.
 -- Assumes nothing.
-use mathlib.Core.Path.{refl, _∙_}
 use borrow.Author.Needs.{needs}
 use denote.Ref.{now}
 use Rattle.reading_rows.proofs.Windows.{window-filled}

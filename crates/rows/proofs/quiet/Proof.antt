@@ -1,6 +1,6 @@
 -- `quiet` meets its contract. The loop's invariant: no cube of the words before w is active. The measure is what is left of four words.
 -- Assumes nothing.
-use Prim.Native.Nat.{ℕ, _-_, _*_, _≤_, _<_}
+use Prim.Native.Nat.{ℕ, _-_, _≤_, _<_}
 use mathlib.Core.Path.{_≡_, sym, ap, ap₂, _∙_, subst}
 use mathlib.Core.Bool.{Bool, true}
 use mathlib.Core.List.{List}
@@ -10,7 +10,7 @@ use denote.Ref.{now}
 use lib.Bits.{bitAnd}
 use native.Mathlib.Omega.{arith}
 use borrow.Author.Needs.{needs}
-use Rattle.planes.specs.Planes.{eightOf, activeOf, limitOf}
+use Rattle.planes.specs.Planes.{activeOf}
 use Rattle.rows.specs.Quiet.{activeIn, wordsInRow, every}
 use Rattle.rows.proofs.Quiets.{every-start, every-more, every-not}
 use Rattle.rows.proofs.quiet.Statement.{statement}
