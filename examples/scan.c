@@ -347,7 +347,8 @@ static void help(void)
          "              them from the scanner's record\n"
          "  THRESHOLD   1 to 65534. A value of at least THRESHOLD is metal, any other is hollow\n"
          "  BYTE-ORDER  little if the low byte of each value comes first, big if the high byte does. The wrong one\n"
-         "              cannot be noticed, but the line \"values\" then shows values that the part does not have\n"
+         "              cannot be noticed, but the line \"values\" then shows values that the part does not have.\n"
+         "              With --float many scans are then refused\n"
          "  --mesh OUT  also writes the vertices and quads to the file OUT, as plain text\n"
          "  --ply OUT --spacing X Y Z\n"
          "              also writes them to the file OUT as PLY, which viewers read, in millimetres. X, Y and Z are\n"
@@ -837,8 +838,12 @@ static void wrong_length(const struct request *request, const char *has, uint64_
 {
     const uint32_t *length = request->length;
     const char *values = request->is_float ? "32-bit floats" : "16-bit values", *other = "";
-    if (!request->is_float && bytes == 2 * wanted)
+    if (!request->is_float && bytes == 2 * wanted && !request->is_by_planes && !request->is_for_room
+        && request->listed_count == 0)
         other = " If it has 32-bit floats, as a scan of the second bench has, add --float.";
+    else if (!request->is_float && bytes == 2 * wanted)
+        other = " If it has 32-bit floats, as a scan of the second bench has, leave out --thresholds, --by-planes and "
+                "--room, and add --float.";
     else if (request->is_float && 2 * bytes == wanted)
         other = " If it has 16-bit values, leave out --float.";
     fail(STATUS_FAILED, "%s %s %" PRIu64 " bytes, and axes %" PRIu32 ", %" PRIu32 " and %" PRIu32 " want %" PRIu64
@@ -906,7 +911,7 @@ static void read_samples(const struct request *request, const unsigned char *byt
     }
 }
 
-/* The readings from their bytes, each in the place of its four. What is no reading is left to the library. */
+/* The readings from their bytes, each in the place of its four. Whether one is at fault is left to the library. */
 static void read_readings(const struct request *request, struct block *block)
 {
     int is_big = strcmp(request->byte_order, "big") == 0;

@@ -10,7 +10,7 @@
    - Nothing is kept from one call to the next and nothing is allocated, so any number of threads may call at once,
      where none writes what another's call reads or writes. What a mesh that is made plane by plane must remember stands
      in two buffers that the caller lends to each plane, the state and the work. A call takes less than 64 KiB of the
-     stack. The library has no tables: its constants are less than 512 bytes. Of a C library it needs memcpy and memset.
+     stack. The library has no tables: its constants are less than 1 KiB. Of a C library it needs memcpy and memset.
      The processor rounds to nearest, traps at no float and takes the smallest floats as they are, as a C program
      starts. (Linked with -ffast-math a program may start otherwise: readings just below zero then pass as zeros.)
    - C cuts an argument that is too large for its type before the call: 65636 as t arrives as 100. Check wider numbers

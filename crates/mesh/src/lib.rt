@@ -1,5 +1,5 @@
 // Counting a mesh, and the mesh in lent buffers (document 01, "The mesh" and "Numbers of refusal"). The passes take a block of samples or a block of readings
-// (document 02, Ten): they differ in how the signs of a plane and the windows of a row are made.
+// (document 02, Ten): they differ in how the signs of a plane are made, and in how a row is counted or written.
 use block::Checked;
 use block::Cut;
 use block::Refusal;

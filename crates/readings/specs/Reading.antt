@@ -20,7 +20,8 @@ use Rattle.readings.specs.declared.Reading.the-variants.{Grey, Ceiling, 
 abbrev pub wholePart : ℕ → ℤ → ℕ
 wholePart m e = m * up e / down e
 
--- "A finite reading of 65,535 or more is the ceiling; any other from zero up becomes the greatest whole number not above it"; "Minus zero is zero"
+-- "A finite reading of 65,535 or more is the ceiling", which it is exactly if its whole part is; "any other from zero up becomes the greatest whole number not above it";
+-- "Minus zero is zero"
 unfoldable pub readingOf : Float → Reading
 readingOf nan = NoNumber
 readingOf (inf s) = Infinite
@@ -52,7 +53,7 @@ badAt i BelowZero = refuses 21 i
 unfoldable pub badRow : List Float → Checked
 badRow xs = inOrder (below (λ (i : ℕ). badAt i (readingOf (getD xs i nan)) ∷ []) (length xs))
 
--- 01's number and values of each case: a single reading has the index 0
+-- the paper's number and values of each case: a single reading has the index 0
 abbrev pub saidReading : Reading → Answer ℕ
 saidReading r = judged (badAt 0 r) (greyOf r)
 
@@ -64,6 +65,6 @@ faulty NoNumber = true
 faulty Infinite = true
 faulty BelowZero = true
 
--- no reading of the list is
+-- no reading of the list is at fault
 abbrev pub Sound : List Float → Type 0
 Sound xs = (i : ℕ) → i < length xs → faulty (readingOf (getD xs i nan)) ≡ false

@@ -57,7 +57,7 @@ fn capped(x: f32) -> f32
     if x < 65535.0 { x } else { 65535.0 }
 }
 
-// The grey value of a reading without a fault: no branch, so that a loop over it is compiled to eight readings at once.
+// The grey value of a reading without a fault: no branch, so that a loop over it is compiled to instructions for several readings at once.
 fn grey(x: f32) -> u16
     requires { ⌜ faulty (readingOf x) ≡ false ⌝ }
     ensures { λ r. ⌜ r ≡ greyOf (readingOf x) ⌝ }

@@ -27,6 +27,7 @@ readingsAnswer nx ny nz xs cut = judged (inOrder (axisRow nx ny nz ∷ readingRo
 abbrev pub ReadingsCounted : ℕ → ℕ → ℕ → List Float → Cut → Counted → Type 0
 ReadingsCounted nx ny nz xs cut r = saidCounts r ≡ readingsAnswer nx ny nz xs cut
 
+-- rows 1, 2 and 3, then 19 to 21, then 5 and 6: the first that refuses decides
 abbrev pub readingsVerdict : ℕ → ℕ → ℕ → List Float → Cut → ℕ → ℕ → ℕ → Checked
 readingsVerdict nx ny nz xs cut words offsets room =
     inOrder (axisRow nx ny nz ∷ readingRows (sizeOf nx ny nz) xs cut ++ bufferRows (countsOf (sizeOf nx ny nz) (greysOf xs) cut) words offsets room)
