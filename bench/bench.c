@@ -93,6 +93,8 @@
 #define parsniprow_ply plain_ply
 #endif
 
+/* The noise figure of every call, which is none. */
+enum { NOISE = 0 };
 enum { MOST_RUNS = 15, LEAST_RUNS = 2, ANSWER = 3, CLOSED_ANSWER = 4, SHORT_FILE = 15 };
 /* The links of the longest search of the worst list, which has 2 to this power vertices and as many quads. With 24 it
    takes a second and 450 MB in all; noise of 128 samples an axis takes 620 MB. Each link more would double both. */
@@ -101,9 +103,11 @@ enum { WORST_LINKS = 24 };
 enum { ROW = 12, ROW_STEP = 1000, ROW_BELOW = 5500, CACHE_LINE = 64 };
 static const double long_enough = 0.5, spacing = 0.1;
 
-typedef void counts_function(uint32_t, uint32_t, uint32_t, const uint16_t *, size_t, uint16_t, uint32_t *, size_t);
-typedef void mesh_function(uint32_t, uint32_t, uint32_t, const uint16_t *, size_t, uint16_t, uint32_t *, size_t,
-                           double *, size_t, uint32_t *, size_t, uint32_t *, size_t);
+typedef void crossed_function(uint32_t, uint32_t, uint32_t, const uint16_t *, size_t, uint16_t, uint32_t *, size_t);
+typedef void counts_function(uint32_t, uint32_t, uint32_t, const uint16_t *, size_t, uint16_t, uint32_t, uint32_t *,
+                             size_t);
+typedef void mesh_function(uint32_t, uint32_t, uint32_t, const uint16_t *, size_t, uint16_t, uint32_t, uint32_t *,
+                           size_t, double *, size_t, uint32_t *, size_t, uint32_t *, size_t);
 typedef void ply_function(uint32_t, uint32_t, uint32_t, const uint32_t *, size_t, const double *, size_t,
                           const uint32_t *, size_t, double, double, double, uint8_t *, size_t, uint64_t *, size_t,
                           uint32_t *, size_t);
@@ -211,7 +215,8 @@ static void seal(void)
 
 static void ask_counts(counts_function *function, uint32_t *answer)
 {
-    function(block.length[0], block.length[1], block.length[2], block.samples, block.sample_count, block.t, answer, ANSWER);
+    function(block.length[0], block.length[1], block.length[2], block.samples, block.sample_count, block.t, NOISE,
+             answer, ANSWER);
     if (answer[0] != 0)
         stop("a count was refused");
 }
@@ -219,8 +224,9 @@ static void ask_counts(counts_function *function, uint32_t *answer)
 static void ask_mesh(mesh_function *function, const struct mesh *mesh)
 {
     uint32_t answer[ANSWER];
-    function(block.length[0], block.length[1], block.length[2], block.samples, block.sample_count, block.t, mesh->words,
-             2 * mesh->vertex_count, mesh->offsets, 3 * mesh->vertex_count, mesh->quads, 4 * mesh->quad_count, answer, ANSWER);
+    function(block.length[0], block.length[1], block.length[2], block.samples, block.sample_count, block.t, NOISE,
+             mesh->words, 2 * mesh->vertex_count, mesh->offsets, 3 * mesh->vertex_count, mesh->quads,
+             4 * mesh->quad_count, answer, ANSWER);
     if (answer[0] != 0)
         stop("the mesh was refused");
 }
@@ -476,9 +482,19 @@ static uint32_t print_pieces_time(const struct mesh *mesh, const char *word)
     return pieces.answer[2];
 }
 
+static double crossed_seconds(crossed_function *function, uint32_t *answer)
+{
+    double from = now();
+    function(block.length[0], block.length[1], block.length[2], block.samples, block.sample_count, block.t, answer,
+             ANSWER);
+    if (answer[0] != 0)
+        stop("the crossed edges were refused");
+    return now() - from;
+}
+
 static double plain_crossed_seconds(void *answer)
 {
-    return asked_seconds(plain_crossed, answer);
+    return crossed_seconds(plain_crossed, answer);
 }
 
 /* The best times of two ways to ask, and the ratio of each run. */
@@ -517,7 +533,7 @@ struct room_answers {
 static double room_crossed_seconds(void *with)
 {
     struct room_answers *answers = with;
-    return asked_seconds(parsniprow_crossed, answers->edges);
+    return crossed_seconds(parsniprow_crossed, answers->edges);
 }
 
 static double room_counts_seconds(void *with)
@@ -587,7 +603,7 @@ static double at_once_seconds(void *with)
         flush_block();
     from = now();
     parsniprow_thresholds(block.length[0], block.length[1], block.length[2], block.samples, block.sample_count,
-                          row->thresholds, ROW, row->at_once, ANSWER * ROW, answer, ANSWER);
+                          row->thresholds, ROW, NOISE, row->at_once, ANSWER * ROW, answer, ANSWER);
     took = now() - from;
     if (answer[0] != 0)
         stop("the thresholds were refused");
@@ -605,7 +621,7 @@ static double one_by_one_seconds(void *with)
             flush_block();
         from = now();
         parsniprow_counts(block.length[0], block.length[1], block.length[2], block.samples, block.sample_count,
-                          row->thresholds[i], row->one_by_one + ANSWER * i, ANSWER);
+                          row->thresholds[i], NOISE, row->one_by_one + ANSWER * i, ANSWER);
         spent += now() - from;
     }
     if (memcmp(row->at_once, row->one_by_one, sizeof row->at_once) != 0)
@@ -662,8 +678,8 @@ static struct planes room_for_planes(void)
 static void start_planes(const struct planes *planes, uint32_t *state)
 {
     uint32_t answer[ANSWER];
-    parsniprow_start(block.length[0], block.length[1], block.length[2], block.t, planes->work, planes->work_size, state,
-                     PARSNIPROW_STATE, answer, ANSWER);
+    parsniprow_start(block.length[0], block.length[1], block.length[2], block.t, NOISE, planes->work, planes->work_size,
+                     state, PARSNIPROW_STATE, answer, ANSWER);
     if (answer[0] != 0)
         stop("the start of the planes was refused");
 }
@@ -747,7 +763,7 @@ static struct mesh parts_of(const struct planes *planes)
     parts = room_for(answer);
     start_planes(planes, state);
     for (uint32_t k = 0; k < block.length[2]; k++) {
-        size_t vertex = state[4], quad = state[5];
+        size_t vertex = state[5], quad = state[6];
         ask_plane(planes, state, k, answer);
         if (vertex + answer[1] > parts.vertex_count || quad + answer[2] > parts.quad_count)
             stop("the planes give more than the mesh has");
@@ -828,7 +844,7 @@ struct readings {
 static void ask_readings_counts(const struct readings *readings, uint32_t *answer)
 {
     parsniprow_readings_counts(block.length[0], block.length[1], block.length[2], readings->values, block.sample_count,
-                               block.t, answer, ANSWER);
+                               block.t, NOISE, answer, ANSWER);
     if (answer[0] != 0)
         stop("a count of readings was refused");
 }
@@ -837,7 +853,7 @@ static void ask_readings_mesh(const struct readings *readings, const struct mesh
 {
     uint32_t answer[ANSWER];
     parsniprow_readings_mesh(block.length[0], block.length[1], block.length[2], readings->values, block.sample_count,
-                             block.t, mesh->words, 2 * mesh->vertex_count, mesh->offsets, 3 * mesh->vertex_count,
+                             block.t, NOISE, mesh->words, 2 * mesh->vertex_count, mesh->offsets, 3 * mesh->vertex_count,
                              mesh->quads, 4 * mesh->quad_count, answer, ANSWER);
     if (answer[0] != 0)
         stop("the mesh of readings was refused");

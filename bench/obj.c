@@ -49,14 +49,15 @@ int main(int argc, char **argv)
     if (argc != 7)
         stop("usage: obj file nx ny nz t out.obj");
     block = read_block(argv + 1);
-    parsniprow_counts(block.length[0], block.length[1], block.length[2], block.samples, block.sample_count, block.t, counted,
-                      ANSWER);
+    parsniprow_counts(block.length[0], block.length[1], block.length[2], block.samples, block.sample_count, block.t, 0,
+                      counted, ANSWER);
     look_at(counted);
     words = taken(2 * (size_t)counted[1] * sizeof *words);
     offsets = taken(3 * (size_t)counted[1] * sizeof *offsets);
     quads = taken(4 * (size_t)counted[2] * sizeof *quads);
-    parsniprow_mesh(block.length[0], block.length[1], block.length[2], block.samples, block.sample_count, block.t, words,
-                    2 * (size_t)counted[1], offsets, 3 * (size_t)counted[1], quads, 4 * (size_t)counted[2], answer, ANSWER);
+    parsniprow_mesh(block.length[0], block.length[1], block.length[2], block.samples, block.sample_count, block.t, 0,
+                    words, 2 * (size_t)counted[1], offsets, 3 * (size_t)counted[1], quads, 4 * (size_t)counted[2],
+                    answer, ANSWER);
     look_at(answer);
     piece = taken(counted[1] * sizeof *piece);
     size = taken(counted[1] * sizeof *size);

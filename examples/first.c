@@ -26,7 +26,7 @@ static void *room(size_t items, size_t size) {
 
 int main(void) {
     uint16_t samples[27] = {0}, t = 100;
-    uint32_t answer[4];
+    uint32_t noise = 0, answer[4];
     samples[13] = 400; /* the sample (1, 1, 1): index 1 + 3 * (1 + 3 * 1) */
 
     parsniprow_crossed(3, 3, 3, samples, 27, t, answer, 4);
@@ -35,7 +35,7 @@ int main(void) {
     uint32_t *words = room(2 * most, sizeof *words), *quads = room(4 * edges, sizeof *quads);
     double *offsets = room(3 * most, sizeof *offsets);
 
-    parsniprow_mesh(3, 3, 3, samples, 27, t, words, 2 * most, offsets, 3 * most, quads, 4 * edges, answer, 4);
+    parsniprow_mesh(3, 3, 3, samples, 27, t, noise, words, 2 * most, offsets, 3 * most, quads, 4 * edges, answer, 4);
     check(answer);
     size_t vertices = answer[1], made = answer[2];
     printf("%zu crossed edges, %zu vertices, %zu quads\n", edges, vertices, made);

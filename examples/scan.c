@@ -3,13 +3,14 @@
    it comes; on request also the vertices and quads themselves, as plain text or as a PLY file for a viewer, a table of
    the pieces, and how many vertices and quads there are at other thresholds. Or it reads the block plane by plane, so
    that it never holds more than a layer of the mesh. Or it makes no mesh, and writes how much room one takes at most.
-   Usage: scan FILE NX NY NZ THRESHOLD BYTE-ORDER [--mesh OUT] [--ply OUT --spacing X Y Z [--piece NUMBER]]
-   [--pieces OUT] [--thresholds LIST | --float], or scan FILE NX NY NZ THRESHOLD BYTE-ORDER --by-planes [--ply OUT
-   --spacing X Y Z], or scan FILE NX NY NZ THRESHOLD BYTE-ORDER --room; "scan --help" says what each of them is.
+   Usage: scan FILE NX NY NZ THRESHOLD BYTE-ORDER [--noise N] [--mesh OUT] [--ply OUT --spacing X Y Z [--piece NUMBER]]
+   [--pieces OUT] [--thresholds LIST | --float], or scan FILE NX NY NZ THRESHOLD BYTE-ORDER --by-planes [--noise N]
+   [--ply OUT --spacing X Y Z], or scan FILE NX NY NZ THRESHOLD BYTE-ORDER --room; "scan --help" says what each is.
    Assumes a POSIX system, a float that is an IEEE 754 single, and the library linked in (include/parsniprow.h).
 
    Standard output is the record, in lines of a word and what it says: what was asked, and the library's answer.
      file, axes, threshold, byte-order    what was asked, as it was read
+     noise N                              with --noise: the noise figure. It stands right behind the threshold
      readings HOW                         with --float: that FILE has float readings, and how they were read
      spacing X Y Z                        what was asked too, where a PLY file is asked for
      piece NUMBER                         the same, where the PLY file is to have one piece alone
@@ -28,6 +29,9 @@
      at T vertices COUNT quads COUNT      the mesh at T
      at T refused NUMBER value VALUE      there is no mesh at T, and the other lines hold all the same
    LIST is 1 to 16 numbers with a comma between each two. Where THRESHOLD is refused, no threshold of LIST is told.
+   With --noise the library gets N as its noise figure wherever it counts or meshes: at each threshold of LIST too, plane
+   by plane, and of readings. Without it the library gets 0. So a run with --noise 0 has the record and the files of one
+   without, but for the line noise, which the file of --mesh has too.
    With --by-planes FILE is read plane by plane, and the mesh is never held as a whole. So the lines closed and pieces
    are missing, and so is the note on an open mesh. The note on marked vertices says that --mesh needs another run, and
    notes at the end say what is missing. All other lines are as without it. A PLY file has the same vertices, byte for
@@ -87,7 +91,7 @@
 enum { ANSWER = 3, CLOSED_ANSWER = 4, AXES = 3 };
 enum { BYTES_A_SAMPLE = 2, BYTES_A_READING = 4, WORDS_A_VERTEX = 2, OFFSETS_A_VERTEX = 3, VERTICES_A_QUAD = 4 };
 enum { LEAST_EDGES_A_VERTEX = 3, MOST_CUBES_AN_EDGE = 4, MOST_VERTICES_A_CUBE = 4, WORK_PLANES = 6 };
-enum { PLY_BYTES_A_VERTEX = 24, PLY_BYTES_A_QUAD = 17, MOST_PLY_HEAD = 256, VERTICES_SO_FAR = 4, QUADS_SO_FAR = 5 };
+enum { PLY_BYTES_A_VERTEX = 24, PLY_BYTES_A_QUAD = 17, MOST_PLY_HEAD = 256, VERTICES_SO_FAR = 5, QUADS_SO_FAR = 6 };
 enum { NO_REFUSAL, BAD_AXIS, BAD_COUNT, BAD_THRESHOLD, BAD_SPACING = 13, NO_ROOM = 15 };
 enum { NO_NUMBER = 19, INFINITE = 20, BELOW_ZERO = 21 }; /* refusals of readings */
 enum { STATUS_MESH, STATUS_FAILED, STATUS_ARGUMENTS, STATUS_REFUSED };
@@ -96,15 +100,16 @@ enum { CEILING = 65535, MARK = 1 << 12 }; /* a grey value, and a bit in the word
 
 /* What was asked. Names as shown are one line, whatever the file is called. The spacing is that of the PLY file, if one
    is asked for, and the piece is the one that it is to have; as text they are null where they are not given. The mesh
-   is at the threshold. The list has the thresholds of --thresholds. Where it is for room, no mesh is made. Where it is
-   by planes, the block and its mesh are never held as a whole. Where it is float, the file has readings. */
+   is at the threshold, with the noise figure, which is 0 where it is not given. The list has the thresholds of
+   --thresholds. Where it is for room, no mesh is made. Where it is by planes, the block and its mesh are never held as
+   a whole. Where it is float, the file has readings. */
 struct request {
     const char *file, *file_shown, *byte_order, *spacing_text[AXES], *piece_text;
-    uint32_t length[AXES], piece;
+    uint32_t length[AXES], piece, noise;
     uint16_t threshold, listed[MOST_THRESHOLDS];
     size_t listed_count;
     double spacing[AXES];
-    int is_for_room, is_by_planes, is_float;
+    int is_for_room, is_by_planes, is_float, is_noise_given;
 };
 
 /* A block has samples, or else readings, which then stand where their bytes were read. The least and the greatest are
@@ -333,9 +338,9 @@ static const char *shown(const char *text)
 
 static void help(void)
 {
-    puts("target/scan FILE NX NY NZ THRESHOLD BYTE-ORDER [--mesh OUT] [--ply OUT --spacing X Y Z [--piece NUMBER]]\n"
-         "            [--pieces OUT] [--thresholds LIST | --float]\n"
-         "target/scan FILE NX NY NZ THRESHOLD BYTE-ORDER --by-planes [--ply OUT --spacing X Y Z]\n"
+    puts("target/scan FILE NX NY NZ THRESHOLD BYTE-ORDER [--noise N] [--mesh OUT]\n"
+         "            [--ply OUT --spacing X Y Z [--piece NUMBER]] [--pieces OUT] [--thresholds LIST | --float]\n"
+         "target/scan FILE NX NY NZ THRESHOLD BYTE-ORDER [--noise N] --by-planes [--ply OUT --spacing X Y Z]\n"
          "target/scan FILE NX NY NZ THRESHOLD BYTE-ORDER --room\n"
          "\n"
          "Draws the surface between metal and hollow in a scan as a mesh of quads, and writes how many vertices and\n"
@@ -349,6 +354,8 @@ static void help(void)
          "  BYTE-ORDER  little if the low byte of each value comes first, big if the high byte does. The wrong one\n"
          "              cannot be noticed, but the line \"values\" then shows values that the part does not have.\n"
          "              With --float many scans are then refused\n"
+         "  --noise N   the noise figure, 0 to 4294967295, for scans of a noisy tube. The larger it is, the more\n"
+         "              hollows join across doubtful faces. It is in squares of grey values, and 0 is none\n"
          "  --mesh OUT  also writes the vertices and quads to the file OUT, as plain text\n"
          "  --ply OUT --spacing X Y Z\n"
          "              also writes them to the file OUT as PLY, which viewers read, in millimetres. X, Y and Z are\n"
@@ -364,7 +371,7 @@ static void help(void)
          "              go with --thresholds, --by-planes and --room\n"
          "  --by-planes\n"
          "              reads the scan plane by plane and holds one layer of the mesh at a time, for scans that are\n"
-         "              too large otherwise. Goes with --ply and with no other option\n"
+         "              too large otherwise. Goes with --ply and --noise, and with no other option\n"
          "  --room      makes no mesh, and says how much room it takes at most. Goes with no other option\n"
          "\n"
          "OUT must not be there yet. More than one file can be asked for, each under a name of its own.");
@@ -375,6 +382,7 @@ static void help(void)
          "  target/scan housing.raw 256 256 200 23000 little --ply housing.ply --spacing 0.125 0.125 0.2\n"
          "  target/scan housing.raw 256 256 200 23000 little --pieces housing-pieces.csv\n"
          "  target/scan housing.raw 256 256 200 23000 little --thresholds 21000,22000,23000,24000,25000\n"
+         "  target/scan housing.raw 256 256 200 23000 little --noise 2500 --pieces housing-pieces.csv\n"
          "  target/scan housing.raw 256 256 200 23000 little --float --pieces housing-pieces.csv\n"
          "  target/scan housing.raw 256 256 200 23000 little --by-planes --ply housing.ply --spacing 0.1 0.1 0.1\n"
          "  target/scan housing.raw 256 256 200 23000 little --room\n"
@@ -413,6 +421,14 @@ static void help(void)
          "all files are at THRESHOLD.\n"
          "The lines that begin with \"at\" are for choosing a threshold. Run the tool with the one that you choose,\n"
          "and enter that record beside the claim. Compare two housings only at the same threshold.");
+    puts("\n"
+         "With --noise a noise figure N goes with THRESHOLD. A face of a cube is doubtful if two corners that lie\n"
+         "across from each other are metal and the other two are hollow. The metal corners are joined if the product\n"
+         "of their differences from THRESHOLD is at least that of the hollow ones and N together. Else they are\n"
+         "parted, and the hollow ones join. So a larger N joins hollows, and never metal. N is in squares of grey\n"
+         "values: 2500 is what two differences of 50 make. 0 is none, as without --noise. Above 4294705155 every\n"
+         "doubtful face is parted. The lines of --thresholds are with the same N. The line \"noise\" behind the line\n"
+         "\"threshold\" says N, and without --noise it is missing. Compare two housings only with the same N.");
     puts("\n"
          "With --float each value in FILE is an IEEE 754 single, a reading of the second bench. A reading below 65535\n"
          "counts as the greatest whole number not above it: 22999.9 counts as 22999. Minus zero is 0. A reading of\n"
@@ -547,14 +563,20 @@ static int read_option(struct request *request, char **words, int left)
         request->piece_text = words[1];
         return 1;
     }
+    if (strcmp(words[0], "--noise") == 0) {
+        check_option(words[0], request->is_noise_given, left >= 1, "the noise figure N");
+        request->noise = number("N of --noise", words[1], UINT32_MAX, "0 to 4294967295");
+        request->is_noise_given = 1;
+        return 1;
+    }
     if (strcmp(words[0], "--thresholds") == 0) {
         check_option(words[0], request->listed_count > 0, left >= 1, "the LIST of thresholds");
         read_thresholds(request, words[1]);
         return 1;
     }
     if (strcmp(words[0], "--spacing") != 0)
-        fail(STATUS_ARGUMENTS, "\"%s\" stands where only --mesh, --ply, --pieces, --spacing, --piece, --thresholds, "
-             "--float, --by-planes and --room can.", shown(words[0]));
+        fail(STATUS_ARGUMENTS, "\"%s\" stands where only --noise, --mesh, --ply, --pieces, --spacing, --piece, "
+             "--thresholds, --float, --by-planes and --room can.", shown(words[0]));
     check_option(words[0], request->spacing_text[0] != NULL, left >= AXES, "X, Y and Z");
     read_spacing(request, words + 1);
     return AXES;
@@ -643,6 +665,8 @@ static void put_request(FILE *to, const struct request *request)
     fprintf(to, "file %s\n", request->file_shown);
     fprintf(to, "axes %" PRIu32 " %" PRIu32 " %" PRIu32 "\n", length[0], length[1], length[2]);
     fprintf(to, "threshold %" PRIu16 "\n", request->threshold);
+    if (request->is_noise_given)
+        fprintf(to, "noise %" PRIu32 "\n", request->noise);
     fprintf(to, "byte-order %s\n", request->byte_order);
     if (request->is_float)
         fprintf(to, "readings 32-bit floats of the second bench; below 65535 each counts as the greatest whole number "
@@ -949,12 +973,13 @@ static void ask_size(const struct request *request, const struct block *block, u
     const uint32_t *length = request->length;
     size_t count = block->count;
     if (request->is_float)
-        parsniprow_readings_counts(length[0], length[1], length[2], block->readings, count, request->threshold, answer,
-                                   ANSWER);
+        parsniprow_readings_counts(length[0], length[1], length[2], block->readings, count, request->threshold,
+                                   request->noise, answer, ANSWER);
     else if (request->is_for_room)
         parsniprow_crossed(length[0], length[1], length[2], block->samples, count, request->threshold, answer, ANSWER);
     else
-        parsniprow_counts(length[0], length[1], length[2], block->samples, count, request->threshold, answer, ANSWER);
+        parsniprow_counts(length[0], length[1], length[2], block->samples, count, request->threshold, request->noise,
+                          answer, ANSWER);
 }
 
 /* How many values the axes want. The library, asked without one, refuses an axis or else says how many it wants. */
@@ -1048,7 +1073,7 @@ static void count_row(const struct request *request, const struct block *block, 
     const uint32_t *length = request->length;
     uint32_t answer[ANSWER];
     parsniprow_thresholds(length[0], length[1], length[2], block->samples, block->count, request->listed,
-                          request->listed_count, row, ANSWER * request->listed_count, answer, ANSWER);
+                          request->listed_count, request->noise, row, ANSWER * request->listed_count, answer, ANSWER);
     if (answer[0] != NO_REFUSAL)
         refuse(request, answer);
 }
@@ -1088,11 +1113,12 @@ static void make_mesh(const struct request *request, const struct block *block, 
     mesh->quads = room(quads, needed, "The mesh");
     if (request->is_float)
         parsniprow_readings_mesh(length[0], length[1], length[2], block->readings, block->count, request->threshold,
-                                 mesh->words, words_len, mesh->offsets, offsets_len, mesh->quads, quads_len, answer,
-                                 ANSWER);
+                                 request->noise, mesh->words, words_len, mesh->offsets, offsets_len, mesh->quads,
+                                 quads_len, answer, ANSWER);
     else
-        parsniprow_mesh(length[0], length[1], length[2], block->samples, block->count, request->threshold, mesh->words,
-                        words_len, mesh->offsets, offsets_len, mesh->quads, quads_len, answer, ANSWER);
+        parsniprow_mesh(length[0], length[1], length[2], block->samples, block->count, request->threshold,
+                        request->noise, mesh->words, words_len, mesh->offsets, offsets_len, mesh->quads, quads_len,
+                        answer, ANSWER);
     if (answer[0] != NO_REFUSAL)
         refuse(request, answer);
     if (answer[1] != mesh->vertex_count || answer[2] != mesh->quad_count)
@@ -1477,8 +1503,8 @@ static void start_run(const struct request *request, struct run *run)
 {
     const uint32_t *length = request->length;
     uint32_t answer[ANSWER];
-    parsniprow_start(length[0], length[1], length[2], request->threshold, run->work, run->work_len, run->state,
-                     PARSNIPROW_STATE, answer, ANSWER);
+    parsniprow_start(length[0], length[1], length[2], request->threshold, request->noise, run->work, run->work_len,
+                     run->state, PARSNIPROW_STATE, answer, ANSWER);
     if (answer[0] != NO_REFUSAL)
         refuse(request, answer);
     run->read_count = 0;

@@ -13,8 +13,9 @@
      stack. The library has no tables: its constants are less than 1 KiB. Of a C library it needs memcpy and memset.
      The processor rounds to nearest, traps at no float and takes the smallest floats as they are, as a C program
      starts. (Linked with -ffast-math a program may start otherwise: readings just below zero then pass as zeros.)
-   - C cuts an argument that is too large for its type before the call: 65636 as t arrives as 100. Check wider numbers
-     first. It also rounds a double that is given as a float: 65534.999 as a reading arrives as 65535.
+   - C cuts an argument that is too large for its type before the call: 65636 as t arrives as 100, 4294967296 as noise
+     as 0, and -1 as noise as 4294967295. Check wider numbers first. It also rounds a double that is given as a float:
+     65534.999 as a reading arrives as 65535.
    - Nothing outside the lent buffers is touched, and what is lent as const is not written to.
    - An answer place is always written, with zeros where the answer does not use it. It takes the number of items that
      the function says. If the place is shorter, as many are written as it has room for. What lies behind is kept.
@@ -23,7 +24,8 @@
    To try several thresholds on one scan, ask parsniprow_thresholds. It says how many vertices and quads there are by
    each of up to 16. For the one that you choose, parsniprow_counts says how long the buffers of a mesh must be. Or ask
    parsniprow_crossed, which takes less time on a scan: the lengths that are reserved by its answer are enough for the
-   same block and threshold. parsniprow_mesh fills the buffers. Then parsniprow_closed_with, parsniprow_pieces and
+   same block and threshold, with any noise figure. parsniprow_mesh fills the buffers; give it the threshold and the
+   noise figure that the counts were asked with. Then parsniprow_closed_with, parsniprow_pieces and
    parsniprow_ply may be asked about the mesh. The other questions stand by themselves: parsniprow_ceilings,
    parsniprow_edge, parsniprow_cube and parsniprow_closed.
    A block of readings goes the same way: parsniprow_readings_counts says how long the buffers must be, and
@@ -104,14 +106,24 @@
    allocated. The mesh is that of the block of grey values, with its marks. So fractions do not count: a crossing lies
    where the grey values put it.
 
+   NOISE
+   With a noisy tube the two products that decide a doubtful face, of which THE MESH speaks, are close to each other. A
+   noise figure n goes with the threshold: the metal corners are joined only if their product is at least that of the
+   hollow ones and n together. So a larger n parts metal, and the hollows of such a face join; no n does the reverse. n
+   may be any 32-bit number. With 0 the rule is the plain one, and every answer is that of a library without noise
+   figures. Above 4294705155 every such face is parted. n is compared with products of two grey values, so it is in
+   squares of grey values: 2500 is what two differences of 50 make. Which edges are crossed and where does not depend on
+   it, nor does the number of quads, nor any refusal but 5. A block without such a face has one mesh, whatever n is.
+
    THE MESH
    An edge joins two samples that are neighbours along x, y or z; its lower end has the smaller coordinate. It is
-   crossed if one end is metal and the other hollow. On each face of a cube crossed edges are linked in pairs; where all
-   four are crossed, the metal corners are joined if the product of their differences from t is at least that of the
-   hollow ones (asymptotic decider). The links close into loops of 3 to 12 edges, at most 4 in a cube. Each loop is a
-   vertex, at the mean of its crossings. Vertices stand by rising cube number, in a cube by the loop's lowest edge. Each
-   crossed edge that lies on no face of the box gives one quad of the vertices around it: edges along x, then y, then z,
-   each by index of the lower sample. So a vertex at the box's faces may be in no quad. */
+   crossed if one end is metal and the other hollow. On each face of a cube crossed edges are linked in pairs; where
+   all four are crossed the face is doubtful, and the metal corners are joined if the product of their differences
+   from t is at least that of the hollow ones and the noise figure together (asymptotic decider). The links close
+   into loops of 3 to 12 edges, at most 4 in a cube. Each loop is a vertex, at the mean of its crossings. Vertices
+   stand by rising cube number, in a cube by the loop's lowest edge. Each crossed edge that lies on no face of the
+   box gives one quad of the vertices around it: edges along x, then y, then z, each by index of the lower sample. So
+   a vertex at the box's faces may be in no quad. */
 #ifndef PARSNIPROW_H
 #define PARSNIPROW_H
 
@@ -134,6 +146,7 @@ void parsniprow_edge(uint16_t p, uint16_t q, uint16_t t, double *fraction, size_
 /* The loops of crossed edges in a cube, each of which is a vertex.
      c0 to c7  the samples at the corners; corner x + 2 * y + 4 * z is at (x, y, z)
      t         the threshold
+     noise     the noise figure, any number
      words     answer place, 4 items: a word for each loop, in the order of their lowest edges: bits 0 to 11 are its
                mask, bit e for edge e; bit 12 is the mark, set if a corner is 65535. 0 where there is no loop, on
                refusal too
@@ -143,13 +156,13 @@ void parsniprow_edge(uint16_t p, uint16_t q, uint16_t t, double *fraction, size_
    Edges by number, each with its two corners, the lower first: 0: 0-1, 1: 2-3, 2: 4-5, 3: 6-7, 4: 0-2, 5: 1-3, 6: 4-6,
    7: 5-7, 8: 0-4, 9: 1-5, 10: 2-6, 11: 3-7. */
 void parsniprow_cube(uint16_t c0, uint16_t c1, uint16_t c2, uint16_t c3, uint16_t c4, uint16_t c5, uint16_t c6,
-                     uint16_t c7, uint16_t t, uint32_t *words, size_t words_len, double *offsets, size_t offsets_len,
-                     uint32_t *answer, size_t answer_len);
+                     uint16_t c7, uint16_t t, uint32_t noise, uint32_t *words, size_t words_len, double *offsets,
+                     size_t offsets_len, uint32_t *answer, size_t answer_len);
 
 /* How many edges of a block are crossed, those on the faces of the box too. There are at most 50135040. On a scan the
    answer takes less time than the counts, for 256 samples an axis about half of it. Let E be this number, and let v be
-   4 * E / 3, rounded down. The mesh of the same block and threshold has at most v vertices and at most E quads. So
-   parsniprow_mesh never refuses buffers of these lengths with 5 or 6:
+   4 * E / 3, rounded down. The mesh of the same block and threshold, with any noise figure, has at most v vertices and
+   at most E quads. So parsniprow_mesh never refuses buffers of these lengths with 5 or 6:
      words        2 * v items
      offsets      3 * v items
      quads        4 * E items
@@ -169,15 +182,17 @@ void parsniprow_crossed(uint32_t nx, uint32_t ny, uint32_t nz, const uint16_t *s
      nx, ny, nz  axis lengths in samples, each 2 to 256
      samples     nx * ny * nz grey values
      t           the threshold, 1 to 65534
+     noise       the noise figure, any number; 0 for none
      answer      answer place, 3 items: 0, vertices, quads; or refusal (1, 2 or 3, tried in this order), its value, 0 */
 void parsniprow_counts(uint32_t nx, uint32_t ny, uint32_t nz, const uint16_t *samples, size_t samples_len, uint16_t t,
-                       uint32_t *answer, size_t answer_len);
+                       uint32_t noise, uint32_t *answer, size_t answer_len);
 
 /* How many vertices and quads the mesh of a block has by each of several thresholds, for trying thresholds on one scan.
-   For each threshold the numbers are those that parsniprow_counts answers for it alone. The call takes about the time
-   of as many calls of parsniprow_counts, and less on a large scan.
+   For each threshold the numbers are those that parsniprow_counts answers for it alone, with the same noise figure. The
+   call takes about the time of as many calls of parsniprow_counts, and less on a large scan.
      nx, ny, nz, samples  as of parsniprow_counts
      thresholds  0 to 16 thresholds, any numbers in any order; one may stand there twice
+     noise       one noise figure for all of them, any number; 0 for none
      answers     room for 3 items a threshold. At 3 * i stand those of thresholds[i]: 0, vertices, quads; or, where it
                  is 0 or 65535, refusal 3, its value, 0. More room is allowed
      answer      answer place, 3 items: 0, 0, 0; or refusal of the whole call (16, 15, 1 or 2, tried in this order), its
@@ -187,13 +202,13 @@ void parsniprow_counts(uint32_t nx, uint32_t ny, uint32_t nz, const uint16_t *sa
    Without a threshold a good block is accepted, and nothing is written to answers. The buffer keeps its contents on
    refusal, and always behind 3 * thresholds_len items. */
 void parsniprow_thresholds(uint32_t nx, uint32_t ny, uint32_t nz, const uint16_t *samples, size_t samples_len,
-                           const uint16_t *thresholds, size_t thresholds_len, uint32_t *answers, size_t answers_len,
-                           uint32_t *answer, size_t answer_len);
+                           const uint16_t *thresholds, size_t thresholds_len, uint32_t noise, uint32_t *answers,
+                           size_t answers_len, uint32_t *answer, size_t answer_len);
 
 /* The mesh of a block. Its time grows with the number of samples and with the size of the mesh. Ask parsniprow_counts
    first, which says the exact lengths: words takes 2 * vertices items, offsets 3 * vertices, quads 4 * quads. More room
    is allowed. Or ask parsniprow_crossed first, and reserve by its answer.
-     nx, ny, nz, samples, t  as of parsniprow_counts
+     nx, ny, nz, samples, t, noise  as of parsniprow_counts
      words    room for 2 items a vertex: the number of its cube, then its word: bits 0 to 11 are the mask of its loop,
               bit 12 is the mark, set if a corner of its cube is 65535. Cube (i, j, k) has number
               i + (nx - 1) * (j + (ny - 1) * k)
@@ -207,8 +222,8 @@ void parsniprow_thresholds(uint32_t nx, uint32_t ny, uint32_t nz, const uint16_t
    parsniprow_closed_with, parsniprow_pieces or parsniprow_ply, gives the lengths of the mesh, 2 * vertices,
    3 * vertices and 4 * quads by this answer, and not the lengths that were reserved. */
 void parsniprow_mesh(uint32_t nx, uint32_t ny, uint32_t nz, const uint16_t *samples, size_t samples_len, uint16_t t,
-                     uint32_t *words, size_t words_len, double *offsets, size_t offsets_len, uint32_t *quads,
-                     size_t quads_len, uint32_t *answer, size_t answer_len);
+                     uint32_t noise, uint32_t *words, size_t words_len, double *offsets, size_t offsets_len,
+                     uint32_t *quads, size_t quads_len, uint32_t *answer, size_t answer_len);
 
 /* What a reading is.
      x       the reading, any float
@@ -221,23 +236,25 @@ void parsniprow_reading(float x, uint32_t *answer, size_t answer_len);
      nx, ny, nz  axis lengths in samples, each 2 to 256
      readings    nx * ny * nz readings
      t           the threshold, 1 to 65534
+     noise       the noise figure, any number; 0 for none
      answer      answer place, 3 items: 0, vertices, quads; or refusal (1, 2 or 3, tried in this order, then 19, 20 or
                  21, whichever the lowest reading at fault has), its value, 0 */
 void parsniprow_readings_counts(uint32_t nx, uint32_t ny, uint32_t nz, const float *readings, size_t readings_len,
-                                uint16_t t, uint32_t *answer, size_t answer_len);
+                                uint16_t t, uint32_t noise, uint32_t *answer, size_t answer_len);
 
 /* The mesh of a block of readings: what parsniprow_mesh writes for the block of their grey values, to the last bit. Ask
    parsniprow_readings_counts first, which says the exact lengths. More room is allowed.
-     nx, ny, nz, readings, t  as of parsniprow_readings_counts
-     words, offsets, quads    as of parsniprow_mesh. The mark, bit 12 of a word, is set if the reading at a corner of
-                              the cube is at the ceiling
+     nx, ny, nz, readings, t, noise  as of parsniprow_readings_counts
+     words, offsets, quads           as of parsniprow_mesh. The mark, bit 12 of a word, is set if the reading at a
+                                     corner of the cube is at the ceiling
      answer  answer place, 3 items: 0, vertices, quads; or refusal (1, 2 or 3, tried in this order, then 19, 20 or 21,
              whichever the lowest reading at fault has, then 5, then 6), its value, 0
    The three buffers keep their contents on refusal, and always behind the mesh. They are handed on as of
    parsniprow_mesh. */
 void parsniprow_readings_mesh(uint32_t nx, uint32_t ny, uint32_t nz, const float *readings, size_t readings_len,
-                              uint16_t t, uint32_t *words, size_t words_len, double *offsets, size_t offsets_len,
-                              uint32_t *quads, size_t quads_len, uint32_t *answer, size_t answer_len);
+                              uint16_t t, uint32_t noise, uint32_t *words, size_t words_len, double *offsets,
+                              size_t offsets_len, uint32_t *quads, size_t quads_len, uint32_t *answer,
+                              size_t answer_len);
 
 /* The mesh of a block, plane by plane. The block need not be held in memory: its planes are handed over by rising z,
    plane k the nx * ny samples from index nx * ny * k on. The calls for one block are a run:
@@ -254,22 +271,23 @@ void parsniprow_readings_mesh(uint32_t nx, uint32_t ny, uint32_t nz, const float
    side. With a state or a work that is not as a call left it, the mesh is not promised. Such a call still ends, touches
    nothing but the lent buffers, and writes at most as much as its answer says. */
 
-/* How many items the state of a run has: nx, ny, nz, t, vertices so far, quads so far, planes taken. */
-#define PARSNIPROW_STATE 7
+/* How many items the state of a run has: nx, ny, nz, t, noise, vertices so far, quads so far, planes taken. */
+#define PARSNIPROW_STATE 8
 
 /* Starts a run.
      nx, ny, nz  axis lengths in samples, each 2 to 256
      t           the threshold, 1 to 65534
+     noise       the noise figure of the whole run, any number; 0 for none
      work        the buffer that is to be lent to the planes, 6 * nx * ny items or more. Only its length is looked at,
                  and nothing is written to it. It is not const here, since a compiler may warn where a buffer that is
                  not initialised is lent as const
-     state       room for PARSNIPROW_STATE items: nx, ny, nz, t, 0, 0, 0
+     state       room for PARSNIPROW_STATE items: nx, ny, nz, t, noise, 0, 0, 0
      answer      answer place, 3 items: 0, 0, 0; or refusal (1, 3 or 15, tried in this order), its value, 0
    The state keeps its contents on refusal, and always behind its items. If it is shorter, as many are written as it has
    room for. Such a state has no place for the planes taken. If it has 4 items or more, every plane is taken as the
    first. If it has fewer, every plane is refused with 1 or 3. */
-void parsniprow_start(uint32_t nx, uint32_t ny, uint32_t nz, uint16_t t, uint32_t *work, size_t work_len,
-                      uint32_t *state, size_t state_len, uint32_t *answer, size_t answer_len);
+void parsniprow_start(uint32_t nx, uint32_t ny, uint32_t nz, uint16_t t, uint32_t noise, uint32_t *work,
+                      size_t work_len, uint32_t *state, size_t state_len, uint32_t *answer, size_t answer_len);
 
 /* Takes the next plane of a run. Let k be the planes that were taken before. If k is 0, no vertex and no quad is
    written. Else the call writes the vertices of the layer of cubes between plane k - 1 and plane k; then the quads of

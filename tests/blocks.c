@@ -1,4 +1,5 @@
-/* Random numbers, sizes, thresholds, grey values and blocks of samples: those that the rules of the paper turn on.
+/* Random numbers, sizes, thresholds, grey values, blocks of samples and noise figures: those that the rules of the
+   paper turn on.
    Assumes nothing. */
 #include "blocks.h"
 
@@ -409,4 +410,112 @@ void add_ceilings(struct chance *chance, const uint32_t length[3], uint16_t t, u
         deep_ceilings(chance, length, t, samples);
     if (!has_ceiling(count, samples))
         few_ceilings(chance, count, samples);
+}
+
+/* ---- noise figures ---- */
+
+int is_doubtful(const uint16_t corner[CUBE_CORNERS], uint16_t t, unsigned face, struct doubtful *doubtful)
+{
+    unsigned across = 1u << face / 2, first = face % 2 ? across : 0;
+    unsigned u = 1u << (face / 2 + 1) % 3, v = 1u << (face / 2 + 2) % 3;
+    int64_t a = (int64_t)corner[first] - t, b = (int64_t)corner[first + u] - t;
+    int64_t c = (int64_t)corner[first + u + v] - t, d = (int64_t)corner[first + v] - t;
+    if ((a >= 0) == (b >= 0) || (a >= 0) != (c >= 0) || (b >= 0) != (d >= 0))
+        return 0;
+    doubtful->is_first_metal = a >= 0;
+    doubtful->of_metal = a >= 0 ? a * c : b * d;
+    doubtful->of_hollow = a >= 0 ? b * d : a * c;
+    doubtful->limit = doubtful->of_metal - doubtful->of_hollow;
+    return 1;
+}
+
+void corners_of(const uint32_t length[3], const uint16_t *samples, size_t number, uint16_t corner[CUBE_CORNERS])
+{
+    size_t nx = length[0], ny = length[1], across = nx - 1, down = ny - 1;
+    size_t i = number % across, j = number / across % down, k = number / across / down;
+    for (size_t n = 0; n < CUBE_CORNERS; n++)
+        corner[n] = samples[i + (n & 1) + nx * (j + (n >> 1 & 1) + ny * (k + (n >> 2 & 1)))];
+}
+
+static size_t cube_count(const uint32_t length[3])
+{
+    return (size_t)(length[0] - 1) * (length[1] - 1) * (length[2] - 1);
+}
+
+struct noise_effect effect_of(const uint32_t length[3], uint16_t t, uint32_t noise, const uint16_t *samples)
+{
+    struct noise_effect effect = {0, 0, 0, 0};
+    size_t end = cube_count(length);
+    for (size_t number = 0; number < end; number++) {
+        uint16_t corner[CUBE_CORNERS];
+        corners_of(length, samples, number, corner);
+        for (unsigned face = 0; face < CUBE_FACES; face++) {
+            struct doubtful doubtful;
+            if (!is_doubtful(corner, t, face, &doubtful))
+                continue;
+            effect.has_doubtful = 1;
+            effect.at_limit += noise > 0 && doubtful.limit == (int64_t)noise;
+            effect.one_above += noise > 0 && doubtful.limit + 1 == (int64_t)noise;
+            effect.parted += doubtful.limit >= 0 && doubtful.limit < (int64_t)noise;
+        }
+    }
+    return effect;
+}
+
+/* Looks for a doubtful face from some cube on, and in that from some face on; mostly for one that is joined with noise
+   0. In a long block it looks at some cubes only. Gives whether there is one. */
+static int find_doubtful(struct chance *chance, const uint32_t length[3], uint16_t t, const uint16_t *samples,
+                         struct doubtful *doubtful)
+{
+    enum { MOST_CUBES = 2000 };
+    size_t end = cube_count(length), from = (size_t)chance_below(chance, end);
+    unsigned first = (unsigned)chance_below(chance, CUBE_FACES);
+    int is_any = chance_in_100(chance, 25);
+    for (size_t i = 0; i < end && i < MOST_CUBES; i++) {
+        uint16_t corner[CUBE_CORNERS];
+        corners_of(length, samples, (from + i) % end, corner);
+        for (unsigned face = 0; face < CUBE_FACES; face++)
+            if (is_doubtful(corner, t, (first + face) % CUBE_FACES, doubtful) && (is_any || doubtful->limit >= 0))
+                return 1;
+    }
+    return 0;
+}
+
+/* The limit of a face, one more or one less. Where the limit is below 0, as far above 0. */
+static uint32_t noise_at_limit(struct chance *chance, int64_t limit)
+{
+    int64_t at = limit < 0 ? -limit : limit, beside = (int64_t)chance_below(chance, 3) - 1;
+    return (uint32_t)(at + beside < 0 ? 0 : at + beside);
+}
+
+/* Numbers of each length in bits are as frequent. */
+static uint32_t noise_of_some_bits(struct chance *chance)
+{
+    unsigned bits = (unsigned)chance_below(chance, 33);
+    return (uint32_t)chance_below(chance, (uint64_t)1 << bits);
+}
+
+uint32_t choose_noise(struct chance *chance, const uint32_t length[3], uint16_t t, const uint16_t *samples)
+{
+    static const uint32_t some[] = {37500,      37501,      UINT32_C(4294705155), UINT32_C(4294705156),
+                                    UINT32_MAX, UINT32_MAX, UINT32_C(1) << 31};
+    uint64_t how = chance_below(chance, 100);
+    struct doubtful doubtful;
+    if (how < 25)
+        return 0;
+    if (how < 35)
+        return 1 + (uint32_t)chance_below(chance, 3);
+    if (how < 70 && find_doubtful(chance, length, t, samples, &doubtful))
+        return noise_at_limit(chance, doubtful.limit);
+    if (how < 80)
+        return some[chance_below(chance, sizeof some / sizeof *some)];
+    if (how < 90)
+        return noise_of_some_bits(chance);
+    return (uint32_t)chance_below(chance, (uint64_t)UINT32_MAX + 1);
+}
+
+uint32_t choose_cube_noise(struct chance *chance, const uint16_t corner[CUBE_CORNERS], uint16_t t)
+{
+    static const uint32_t two[3] = {2, 2, 2};
+    return choose_noise(chance, two, t, corner);
 }

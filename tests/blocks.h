@@ -1,4 +1,4 @@
-/* Random numbers, sizes, thresholds, grey values and blocks of samples for the comparison with the plain
+/* Random numbers, sizes, thresholds, grey values, blocks of samples and noise figures for the comparison with the plain
    implementation.
    Assumes nothing; the same seed gives the same numbers on every machine. */
 #ifndef PARSNIPROW_BLOCKS_H
@@ -74,5 +74,40 @@ void fill_block(struct chance *chance, enum kind kind, const uint32_t length[3],
    bush does; all that are bright; or some with nothing but metal round them. Where the block has no such sample, a
    few. */
 void add_ceilings(struct chance *chance, const uint32_t length[3], uint16_t t, uint16_t *samples);
+
+/* ---- noise figures ---- */
+
+enum { CUBE_CORNERS = 8, CUBE_FACES = 6 };
+
+/* A face of a cube with four crossed edges. With a noise figure up to the limit its metal is joined, and with a larger
+   one it is parted. The limit is below 0 where no noise figure joins it. */
+struct doubtful {
+    int64_t of_metal, of_hollow; /* the products of the differences */
+    int64_t limit;
+    int is_first_metal; /* whether the lowest of its four corners is metal */
+};
+
+/* Whether a face of a cube is doubtful, and if so what it is. Faces x=0, x=1, y=0, y=1, z=0, z=1 are 0 to 5. */
+int is_doubtful(const uint16_t corner[CUBE_CORNERS], uint16_t t, unsigned face, struct doubtful *doubtful);
+
+/* The corners of the cube with this number in a block. */
+void corners_of(const uint32_t length[3], const uint16_t *samples, size_t number, uint16_t corner[CUBE_CORNERS]);
+
+/* How many faces a noise figure decides otherwise than 0 does, and whether there is a doubtful one at all. A face
+   between two cubes counts for each of them. */
+struct noise_effect {
+    int has_doubtful;
+    uint64_t at_limit, one_above, parted; /* of noise figures above 0 */
+};
+
+struct noise_effect effect_of(const uint32_t length[3], uint16_t t, uint32_t noise, const uint16_t *samples);
+
+/* A noise figure for a block: often 0, often at the limit of a doubtful face of the block or one beside it, else small,
+   one of those that the rules turn on, or any. For a cube the block is 2 by 2 by 2. The threshold must be one from 1 to
+   65534. */
+uint32_t choose_noise(struct chance *chance, const uint32_t length[3], uint16_t t, const uint16_t *samples);
+
+/* The same for a single cube. */
+uint32_t choose_cube_noise(struct chance *chance, const uint16_t corner[CUBE_CORNERS], uint16_t t);
 
 #endif

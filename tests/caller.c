@@ -51,13 +51,60 @@ static void ask_cube(void)
 {
     uint32_t words[4] = {9, 9, 9, 9}, answer[3] = {9, 9, 9};
     double offsets[12] = {9, 9, 9, 9, 9, 9, 9, 9, 9, 9, 9, 9};
-    parsniprow_cube(110, 0, 0, 110, 0, 110, 110, 0, 100, words, 4, offsets, 12, answer, 3);
+    parsniprow_cube(110, 0, 0, 110, 0, 110, 110, 0, 100, 0, words, 4, offsets, 12, answer, 3);
     expect("a cube of four loops", answers(answer, 0, 4, 0) && words[0] == 0x111 && words[1] == 0x822 &&
                                        words[2] == 0x284 && words[3] == 0x448);
-    parsniprow_cube(65535, 0, 0, 0, 0, 0, 0, 0, 100, words, 4, offsets, 12, answer, 3);
+    parsniprow_cube(65535, 0, 0, 0, 0, 0, 0, 0, 100, 0, words, 4, offsets, 12, answer, 3);
     expect("a cube with a ceiling", answers(answer, 0, 1, 0) && words[0] == MARK + 0x111 && words[1] == 0);
-    parsniprow_cube(110, 0, 0, 110, 0, 0, 0, 0, 65535, words, 4, offsets, 12, answer, 3);
+    parsniprow_cube(110, 0, 0, 110, 0, 0, 0, 0, 65535, 1, words, 4, offsets, 12, answer, 3);
     expect("a cube at a threshold that is none", answers(answer, 3, 65535, 0) && words[0] == 0 && offsets[11] == 0);
+}
+
+/* Cubes with a noise figure that just joins them, and one more. */
+static void ask_noise(void)
+{
+    uint32_t words[4] = {9, 9, 9, 9}, answer[3] = {9, 9, 9};
+    double offsets[12];
+    parsniprow_cube(200, 0, 0, 200, 0, 0, 0, 0, 100, 0, words, 4, offsets, 12, answer, 3);
+    expect("a tied cube", answers(answer, 0, 1, 0) && words[0] == 0x933 && words[1] == 0);
+    parsniprow_cube(200, 0, 0, 200, 0, 0, 0, 0, 100, 1, words, 4, offsets, 12, answer, 3);
+    expect("a tied cube with noise 1", answers(answer, 0, 2, 0) && words[0] == 0x111 && words[1] == 0x822);
+    parsniprow_cube(50, 300, 300, 50, 0, 0, 0, 0, 100, 37500, words, 4, offsets, 12, answer, 3);
+    expect("a cube with noise 37500", answers(answer, 0, 1, 0) && words[0] == 0x633 && words[1] == 0);
+    parsniprow_cube(50, 300, 300, 50, 0, 0, 0, 0, 100, 37501, words, 4, offsets, 12, answer, 3);
+    expect("a cube with noise 37501", answers(answer, 0, 2, 0) && words[0] == 0x221 && words[1] == 0x412);
+    parsniprow_cube(65535, 0, 0, 65535, 0, 0, 0, 0, 1, 4294705155u, words, 4, offsets, 12, answer, 3);
+    expect("the most that can be joined", answers(answer, 0, 1, 0) && words[0] == MARK + 0x933 && words[1] == 0);
+    parsniprow_cube(65535, 0, 0, 65535, 0, 0, 0, 0, 1, 4294705156u, words, 4, offsets, 12, answer, 3);
+    expect("one more", answers(answer, 0, 2, 0) && words[0] == MARK + 0x111 && words[1] == MARK + 0x822);
+}
+
+/* The tied cube as a block, in each way there is to ask for it: one vertex with noise 0, and two with noise 1. At
+   t = 50 it is no tie, and has one vertex with both. */
+static void ask_noisy_block(uint32_t noise)
+{
+    static const uint16_t samples[8] = {200, 0, 0, 200, 0, 0, 0, 0}, thresholds[2] = {100, 50};
+    static const float readings[8] = {200.5f, 0, 0, 200.5f, 0, 0, 0, 0};
+    uint32_t state[PARSNIPROW_STATE], work[24], words[4], quads[1], row[6], answer[3] = {9, 9, 9};
+    uint32_t vertices = noise == 0 ? 1 : 2;
+    double offsets[6];
+    parsniprow_counts(2, 2, 2, samples, 8, 100, noise, answer, 3);
+    expect("counts with a noise figure", answers(answer, 0, vertices, 0));
+    parsniprow_mesh(2, 2, 2, samples, 8, 100, noise, words, 4, offsets, 6, quads, 0, answer, 3);
+    expect("a mesh with a noise figure", answers(answer, 0, vertices, 0) && words[1] == (noise == 0 ? 0x933u : 0x111u));
+    parsniprow_thresholds(2, 2, 2, samples, 8, thresholds, 2, noise, row, 6, answer, 3);
+    expect("thresholds with a noise figure",
+           answers(answer, 0, 0, 0) && answers(row, 0, vertices, 0) && answers(row + 3, 0, 1, 0));
+    parsniprow_readings_counts(2, 2, 2, readings, 8, 100, noise, answer, 3);
+    expect("counts of readings with a noise figure", answers(answer, 0, vertices, 0));
+    parsniprow_readings_mesh(2, 2, 2, readings, 8, 100, noise, words, 4, offsets, 6, quads, 0, answer, 3);
+    expect("a mesh of readings with a noise figure", answers(answer, 0, vertices, 0));
+    parsniprow_start(2, 2, 2, 100, noise, work, 24, state, PARSNIPROW_STATE, answer, 3);
+    expect("a start with a noise figure", answers(answer, 0, 0, 0) && state[3] == 100 && state[4] == noise);
+    for (size_t k = 0; k < 2; k++)
+        parsniprow_plane(state, PARSNIPROW_STATE, samples + 4 * k, 4, work, 24, words, 4, offsets, 6, quads, 0, answer,
+                         3);
+    expect("planes with a noise figure", answers(answer, 0, vertices, 0) && state[4] == noise);
 }
 
 static void ask_block(uint32_t *quads)
@@ -66,18 +113,18 @@ static void ask_block(uint32_t *quads)
     uint32_t words[2 * MARKED_VERTICES], answer[3] = {9, 9, 9};
     double offsets[3 * MARKED_VERTICES];
     samples[13] = 400;
-    parsniprow_counts(3, 3, 3, samples, SAMPLES, 100, answer, 3);
+    parsniprow_counts(3, 3, 3, samples, SAMPLES, 100, 0, answer, 3);
     expect("counts", answers(answer, 0, VERTICES, QUADS));
     parsniprow_ceilings(samples, SAMPLES, answer, 3);
     expect("no ceilings", answers(answer, 0, 0, SAMPLES));
-    parsniprow_mesh(3, 3, 3, samples, SAMPLES, 100, words, 2 * VERTICES, offsets, 3 * VERTICES, quads, 4 * QUADS,
+    parsniprow_mesh(3, 3, 3, samples, SAMPLES, 100, 0, words, 2 * VERTICES, offsets, 3 * VERTICES, quads, 4 * QUADS,
                     answer, 3);
     expect("mesh", answers(answer, 0, VERTICES, QUADS) && words[1] == 0x888 && offsets[0] == 0.75 && quads[1] == 4);
     samples[26] = 65535;
-    parsniprow_mesh(3, 3, 3, samples, SAMPLES, 100, words, 2 * VERTICES, offsets, 3 * VERTICES, quads, 4 * QUADS,
+    parsniprow_mesh(3, 3, 3, samples, SAMPLES, 100, 0, words, 2 * VERTICES, offsets, 3 * VERTICES, quads, 4 * QUADS,
                     answer, 3);
     expect("a ceiling, and no room for its vertex", answers(answer, 5, MARKED_VERTICES, 0));
-    parsniprow_mesh(3, 3, 3, samples, SAMPLES, 100, words, 2 * MARKED_VERTICES, offsets, 3 * MARKED_VERTICES, quads,
+    parsniprow_mesh(3, 3, 3, samples, SAMPLES, 100, 0, words, 2 * MARKED_VERTICES, offsets, 3 * MARKED_VERTICES, quads,
                     4 * QUADS, answer, 3);
     expect("a sample at the ceiling", answers(answer, 0, MARKED_VERTICES, QUADS) && words[1] == 0x888 &&
                                           words[15] == MARK + 0x111 && words[17] == MARK + 0x888);
@@ -100,8 +147,8 @@ static void ask_crossed(void)
     samples[26] = 65535;
     parsniprow_crossed(3, 3, 3, samples, SAMPLES, 100, answer, 3);
     expect("crossed edges with a ceiling", answers(answer, 0, MARKED_EDGES, 0));
-    parsniprow_mesh(3, 3, 3, samples, SAMPLES, 100, words, 2 * RESERVED, offsets, 3 * RESERVED, quads, 4 * MARKED_EDGES,
-                    answer, 3);
+    parsniprow_mesh(3, 3, 3, samples, SAMPLES, 100, 0, words, 2 * RESERVED, offsets, 3 * RESERVED, quads,
+                    4 * MARKED_EDGES, answer, 3);
     expect("a mesh in reserved rooms", answers(answer, 0, MARKED_VERTICES, QUADS));
     parsniprow_crossed(3, 1, 257, samples, 3, 0, answer, 3);
     expect("crossed edges of an axis that is none", answers(answer, 1, 1, 0));
@@ -121,19 +168,19 @@ static void ask_thresholds(void)
     for (size_t at = 0; at <= 3 * THRESHOLDS; at++)
         row[at] = 99;
     samples[13] = 400;
-    parsniprow_thresholds(3, 1, 3, samples, SAMPLES, thresholds, MOST_THRESHOLDS + 1, row, 0, answer, 3);
+    parsniprow_thresholds(3, 1, 3, samples, SAMPLES, thresholds, MOST_THRESHOLDS + 1, 0, row, 0, answer, 3);
     expect("more than 16 thresholds", answers(answer, 16, MOST_THRESHOLDS + 1, 0));
-    parsniprow_thresholds(3, 1, 3, samples, SAMPLES, thresholds, THRESHOLDS, row, 3 * THRESHOLDS - 1, answer, 3);
+    parsniprow_thresholds(3, 1, 3, samples, SAMPLES, thresholds, THRESHOLDS, 0, row, 3 * THRESHOLDS - 1, answer, 3);
     expect("too little room for seven thresholds", answers(answer, 15, THRESHOLDS, 0));
-    parsniprow_thresholds(3, 1, 3, samples, SAMPLES, thresholds, THRESHOLDS, row, 3 * THRESHOLDS, answer, 3);
+    parsniprow_thresholds(3, 1, 3, samples, SAMPLES, thresholds, THRESHOLDS, 0, row, 3 * THRESHOLDS, answer, 3);
     expect("thresholds with an axis that is none", answers(answer, 1, 1, 0));
-    parsniprow_thresholds(3, 3, 3, samples, SAMPLES - 1, thresholds, 0, row, 0, answer, 3);
+    parsniprow_thresholds(3, 3, 3, samples, SAMPLES - 1, thresholds, 0, 0, row, 0, answer, 3);
     expect("no threshold and a sample less", answers(answer, 2, SAMPLES, 0));
-    parsniprow_thresholds(3, 3, 3, samples, SAMPLES, thresholds, 0, row, 3 * THRESHOLDS, answer, 3);
+    parsniprow_thresholds(3, 3, 3, samples, SAMPLES, thresholds, 0, 0, row, 3 * THRESHOLDS, answer, 3);
     expect("no threshold", answers(answer, 0, 0, 0));
     for (size_t at = 0; at <= 3 * THRESHOLDS; at++)
         expect("a row that is kept", row[at] == 99);
-    parsniprow_thresholds(3, 3, 3, samples, SAMPLES, thresholds, THRESHOLDS, row, 3 * THRESHOLDS + 1, answer, 3);
+    parsniprow_thresholds(3, 3, 3, samples, SAMPLES, thresholds, THRESHOLDS, 0, row, 3 * THRESHOLDS + 1, answer, 3);
     expect("thresholds", answers(answer, 0, 0, 0) && row[3 * THRESHOLDS] == 99);
     expect("thresholds that are none", answers(row + 3, 3, 0, 0) && answers(row + 6, 3, 65535, 0));
     expect("their counts", answers(row, 0, VERTICES, QUADS) && answers(row + 9, 0, VERTICES, QUADS) &&
@@ -168,26 +215,26 @@ static void ask_refused_readings(float *readings, uint32_t *words, double *offse
     uint32_t answer[3] = {9, 9, 9};
     readings[5] = -1;
     readings[7] = NAN;
-    parsniprow_readings_counts(3, 1, 257, readings, 3, 0, answer, 3);
+    parsniprow_readings_counts(3, 1, 257, readings, 3, 0, 0, answer, 3);
     expect("counts of readings with an axis that is none", answers(answer, 1, 1, 0));
-    parsniprow_readings_counts(3, 3, 3, readings, SAMPLES - 1, 0, answer, 3);
+    parsniprow_readings_counts(3, 3, 3, readings, SAMPLES - 1, 0, 0, answer, 3);
     expect("counts with a reading less", answers(answer, 2, SAMPLES, 0));
-    parsniprow_readings_counts(3, 3, 3, readings, SAMPLES, 65535, answer, 3);
+    parsniprow_readings_counts(3, 3, 3, readings, SAMPLES, 65535, 0, answer, 3);
     expect("counts of readings at a threshold that is none", answers(answer, 3, 65535, 0));
-    parsniprow_readings_counts(3, 3, 3, readings, SAMPLES, 100, answer, 3);
+    parsniprow_readings_counts(3, 3, 3, readings, SAMPLES, 100, 0, answer, 3);
     expect("counts of readings, two of them at fault", answers(answer, 21, 5, 0));
     readings[5] = 0.25f;
-    parsniprow_readings_mesh(3, 3, 3, readings, SAMPLES, 100, words, 0, offsets, 0, quads, 0, answer, 3);
+    parsniprow_readings_mesh(3, 3, 3, readings, SAMPLES, 100, 0, words, 0, offsets, 0, quads, 0, answer, 3);
     expect("a mesh of readings, one of them no number, without room", answers(answer, 19, 7, 0));
     readings[7] = INFINITY;
-    parsniprow_readings_mesh(3, 3, 3, readings, SAMPLES, 100, words, 2 * VERTICES, offsets, 3 * VERTICES, quads,
+    parsniprow_readings_mesh(3, 3, 3, readings, SAMPLES, 100, 0, words, 2 * VERTICES, offsets, 3 * VERTICES, quads,
                              4 * QUADS, answer, 3);
     expect("a mesh of readings, one of them infinite", answers(answer, 20, 7, 0));
     readings[7] = 0.25f;
-    parsniprow_readings_mesh(3, 3, 3, readings, SAMPLES, 100, words, 2 * VERTICES, offsets, 3 * VERTICES - 1, quads, 0,
-                             answer, 3);
+    parsniprow_readings_mesh(3, 3, 3, readings, SAMPLES, 100, 0, words, 2 * VERTICES, offsets, 3 * VERTICES - 1, quads,
+                             0, answer, 3);
     expect("no room for the vertices of readings", answers(answer, 5, VERTICES, 0));
-    parsniprow_readings_mesh(3, 3, 3, readings, SAMPLES, 100, words, 2 * VERTICES, offsets, 3 * VERTICES, quads,
+    parsniprow_readings_mesh(3, 3, 3, readings, SAMPLES, 100, 0, words, 2 * VERTICES, offsets, 3 * VERTICES, quads,
                              4 * QUADS - 1, answer, 3);
     expect("no room for the quads of readings", answers(answer, 6, QUADS, 0));
     expect("buffers that are kept", words[0] == 99 && offsets[0] == 99 && quads[0] == 99);
@@ -204,15 +251,15 @@ static void ask_readings(void)
     words[0] = quads[0] = 99;
     offsets[0] = 99;
     ask_refused_readings(readings, words, offsets, quads);
-    parsniprow_readings_counts(3, 3, 3, readings, SAMPLES, 100, answer, 3);
+    parsniprow_readings_counts(3, 3, 3, readings, SAMPLES, 100, 0, answer, 3);
     expect("counts of readings", answers(answer, 0, VERTICES, QUADS));
-    parsniprow_readings_mesh(3, 3, 3, readings, SAMPLES, 100, words, 2 * VERTICES, offsets, 3 * VERTICES, quads,
+    parsniprow_readings_mesh(3, 3, 3, readings, SAMPLES, 100, 0, words, 2 * VERTICES, offsets, 3 * VERTICES, quads,
                              4 * QUADS, answer, 3);
     expect("a mesh of readings", answers(answer, 0, VERTICES, QUADS) && words[1] == 0x888 && offsets[0] == 0.75 &&
                                      quads[1] == 4);
     readings[26] = 1e9f;
-    parsniprow_readings_mesh(3, 3, 3, readings, SAMPLES, 100, words, 2 * MARKED_VERTICES, offsets, 3 * MARKED_VERTICES,
-                             quads, 4 * QUADS, answer, 3);
+    parsniprow_readings_mesh(3, 3, 3, readings, SAMPLES, 100, 0, words, 2 * MARKED_VERTICES, offsets,
+                             3 * MARKED_VERTICES, quads, 4 * QUADS, answer, 3);
     expect("a reading above the ceiling in a mesh", answers(answer, 0, MARKED_VERTICES, QUADS) && words[1] == 0x888 &&
                                                         words[15] == MARK + 0x111 && words[17] == MARK + 0x888);
 }
@@ -223,15 +270,15 @@ static void ask_start(uint32_t *state, uint32_t *work)
     uint32_t answer[3] = {9, 9, 9};
     for (size_t at = 0; at <= PARSNIPROW_STATE; at++)
         state[at] = 99;
-    parsniprow_start(3, 3, 257, 0, work, 0, state, PARSNIPROW_STATE, answer, 3);
+    parsniprow_start(3, 3, 257, 0, 1, work, 0, state, PARSNIPROW_STATE, answer, 3);
     expect("a start with an axis that is none", answers(answer, 1, 2, 0) && state[0] == 99);
-    parsniprow_start(3, 3, 3, 65535, work, 0, state, PARSNIPROW_STATE, answer, 3);
+    parsniprow_start(3, 3, 3, 65535, 1, work, 0, state, PARSNIPROW_STATE, answer, 3);
     expect("a start at a threshold that is none", answers(answer, 3, 65535, 0) && state[0] == 99);
-    parsniprow_start(3, 3, 3, 100, work, PLANE_WORK - 1, state, PARSNIPROW_STATE, answer, 3);
+    parsniprow_start(3, 3, 3, 100, 1, work, PLANE_WORK - 1, state, PARSNIPROW_STATE, answer, 3);
     expect("a start with too little work", answers(answer, 15, PLANE_WORK, 0) && state[0] == 99);
-    parsniprow_start(3, 3, 3, 100, work, PLANE_WORK, state, PARSNIPROW_STATE + 1, answer, 3);
-    expect("a start", answers(answer, 0, 0, 0) && state[0] == 3 && state[3] == 100 && state[PLANES_TAKEN] == 0 &&
-                          state[PARSNIPROW_STATE] == 99);
+    parsniprow_start(3, 3, 3, 100, 2500, work, PLANE_WORK, state, PARSNIPROW_STATE + 1, answer, 3);
+    expect("a start", answers(answer, 0, 0, 0) && state[0] == 3 && state[3] == 100 && state[4] == 2500 &&
+                          state[PLANES_TAKEN] == 0 && state[PARSNIPROW_STATE] == 99);
 }
 
 /* A plane that needs room for four vertices and so many quads, or for nothing, where something else is missing. */
@@ -343,7 +390,7 @@ static void ask_ply(void)
     uint64_t length[1] = {9};
     samples[13] = 400;
     file[FILE_BYTES] = 9;
-    parsniprow_mesh(3, 3, 3, samples, SAMPLES, 100, words, 2 * VERTICES, offsets, 3 * VERTICES, quads, 4 * QUADS,
+    parsniprow_mesh(3, 3, 3, samples, SAMPLES, 100, 0, words, 2 * VERTICES, offsets, 3 * VERTICES, quads, 4 * QUADS,
                     answer, 3);
     parsniprow_ply(3, 3, 3, words, 2 * VERTICES, offsets, 3 * VERTICES, quads, 4 * QUADS, 0.1, 0.2, 0.5, file, 0,
                    length, 1, answer, 3);
@@ -371,12 +418,12 @@ static void ask_large(void)
     size_t count = sizeof samples / sizeof *samples;
     memset(samples, 0, sizeof samples);
     samples[1 + 256 * (1 + 256)] = 400;
-    parsniprow_mesh(256, 256, 256, samples, count, 100, none, 0, nothing, 0, none, 0, answer, 3);
+    parsniprow_mesh(256, 256, 256, samples, count, 100, 4294967295u, none, 0, nothing, 0, none, 0, answer, 3);
     expect("a large block without room", answers(answer, 5, 8, 0));
     parsniprow_crossed(256, 256, 256, samples, count, 100, answer, 3);
     expect("crossed edges of a large block", answers(answer, 0, EDGES, 0));
-    parsniprow_thresholds(256, 256, 256, samples, count, thresholds, MOST_THRESHOLDS, row, 3 * MOST_THRESHOLDS, answer,
-                          3);
+    parsniprow_thresholds(256, 256, 256, samples, count, thresholds, MOST_THRESHOLDS, 0, row, 3 * MOST_THRESHOLDS,
+                          answer, 3);
     expect("16 thresholds of a large block", answers(answer, 0, 0, 0) && answers(row, 0, VERTICES, QUADS) &&
                                                  answers(row + 3, 0, 0, 0) && answers(row + 45, 3, 0, 0));
 }
@@ -390,7 +437,7 @@ static void ask_large_planes(void)
     double offsets[3 * 4];
     size_t count = sizeof plane / sizeof *plane, work_len = sizeof work / sizeof *work;
     memset(plane, 0, sizeof plane);
-    parsniprow_start(256, 256, 3, 100, work, work_len, state, PARSNIPROW_STATE, answer, 3);
+    parsniprow_start(256, 256, 3, 100, 4294967295u, work, work_len, state, PARSNIPROW_STATE, answer, 3);
     expect("the start of a large block", answers(answer, 0, 0, 0));
     for (uint32_t k = 0; k < PLANES; k++) {
         plane[1 + 256] = k == 1 ? 400 : 0;
@@ -412,13 +459,14 @@ static void ask_large_readings(void)
     for (size_t at = 0; at < count; at++)
         readings[at] = 0.25f;
     readings[1 + 256 * (1 + 256)] = 400.75f;
-    parsniprow_readings_counts(256, 256, LARGE_PLANES, readings, count, 100, answer, 3);
+    parsniprow_readings_counts(256, 256, LARGE_PLANES, readings, count, 100, 0, answer, 3);
     expect("counts of many readings", answers(answer, 0, VERTICES, QUADS));
-    parsniprow_readings_mesh(256, 256, LARGE_PLANES, readings, count, 100, words, 2 * VERTICES, offsets, 3 * VERTICES,
-                             quads, 4 * QUADS, answer, 3);
+    parsniprow_readings_mesh(256, 256, LARGE_PLANES, readings, count, 100, 0, words, 2 * VERTICES, offsets,
+                             3 * VERTICES, quads, 4 * QUADS, answer, 3);
     expect("a mesh of many readings", answers(answer, 0, VERTICES, QUADS) && words[1] == 0x888 && offsets[0] == 0.75);
     readings[count - 1] = -1;
-    parsniprow_readings_mesh(256, 256, LARGE_PLANES, readings, count, 100, words, 0, offsets, 0, quads, 0, answer, 3);
+    parsniprow_readings_mesh(256, 256, LARGE_PLANES, readings, count, 100, 0, words, 0, offsets, 0, quads, 0, answer,
+                             3);
     expect("many readings, the last below zero", answers(answer, 21, (uint32_t)count - 1, 0));
 }
 
@@ -427,6 +475,9 @@ static void *ask(void *unused)
     uint32_t quads[4 * QUADS];
     ask_edge();
     ask_cube();
+    ask_noise();
+    ask_noisy_block(0);
+    ask_noisy_block(1);
     ask_block(quads);
     ask_crossed();
     ask_thresholds();

@@ -1,7 +1,8 @@
 /* Compares the library with the plain implementation on many random blocks, their crossed edges and rows of thresholds,
    on blocks that are handed over plane by plane, on readings and blocks of them, on edges, cubes, lists of quads and
    their pieces, lists of samples and meshes that become files: the answers, and every byte of every lent buffer, with
-   what is beside it. Of blocks that have a margin of one sign the mesh must be closed.
+   what is beside it. With a threshold goes a random noise figure, often one at which a face of the block is just joined
+   or just parted. Of blocks that have a margin of one sign the mesh must be closed.
    Usage: compare [blocks [seed [first block]]], or compare all.
    From 20,000 blocks on it also tries what takes seconds, and fails if something that it should try never occurred.
    With the word all it asks each of the 2^32 readings there are and nothing else, which takes a minute or more. The

@@ -1,6 +1,6 @@
 /* Blocks with a margin: all samples on the six faces of the box are metal, or all are hollow, and within they are of
-   any kind. The library meshes them, and the mesh must be closed, whether it is asked without work or with it. A copy
-   of it in which one quad is damaged is asked too.
+   any kind. The library meshes them with some noise figure, and the mesh must be closed, whether it is asked without
+   work or with it. A copy of it in which one quad is damaged is asked too.
    Assumes nothing more than compare.h. */
 #include "compare.h"
 
@@ -19,13 +19,14 @@ static const char *const sign_names[2] = {"hollow", "metal"};
 struct margin {
     uint32_t length[3];
     uint16_t t;
+    uint32_t noise;
     int is_metal;
     uint16_t samples[MOST_SAMPLES];
 };
 
 /* Each for either sign. */
 static struct {
-    uint64_t blocks[2], kinds[KINDS], ceilings[2], no_quad[2], quads[2], walked_again[2];
+    uint64_t blocks[2], kinds[KINDS], ceilings[2], no_quad[2], quads[2], walked_again[2], noise[2], parted[2];
 } tally;
 
 static size_t sample_count(const struct margin *margin)
@@ -37,9 +38,10 @@ static size_t sample_count(const struct margin *margin)
 
 static void print_margin(const struct margin *margin, const uint32_t answer[ANSWER])
 {
-    printf("  a margin of %s; axes %lu, %lu, %lu; t %u; mesh %lu, %lu, %lu; samples:", sign_names[margin->is_metal],
-           (unsigned long)margin->length[0], (unsigned long)margin->length[1], (unsigned long)margin->length[2],
-           (unsigned)margin->t, (unsigned long)answer[0], (unsigned long)answer[1], (unsigned long)answer[2]);
+    printf("  a margin of %s; axes %lu, %lu, %lu; t %u; noise %lu; mesh %lu, %lu, %lu; samples:",
+           sign_names[margin->is_metal], (unsigned long)margin->length[0], (unsigned long)margin->length[1],
+           (unsigned long)margin->length[2], (unsigned)margin->t, (unsigned long)margin->noise,
+           (unsigned long)answer[0], (unsigned long)answer[1], (unsigned long)answer[2]);
     for (size_t index = 0; index < sample_count(margin); index++)
         printf(" %u", (unsigned)margin->samples[index]);
     printf("\n");
@@ -53,8 +55,8 @@ static void try_closed(struct chance *chance, const struct margin *margin, uint3
     const uint32_t *length = margin->length;
     struct closure closure = {0, 0};
     asking("parsniprow_mesh");
-    parsniprow_mesh(length[0], length[1], length[2], margin->samples, sample_count(margin), margin->t, words,
-                    2 * MOST_VERTICES, offsets, 3 * MOST_VERTICES, quads, 4 * MOST_QUADS, answer, ANSWER);
+    parsniprow_mesh(length[0], length[1], length[2], margin->samples, sample_count(margin), margin->t, margin->noise,
+                    words, 2 * MOST_VERTICES, offsets, 3 * MOST_VERTICES, quads, 4 * MOST_QUADS, answer, ANSWER);
     if (answer[0] == 0)
         closure = try_list_of_mesh(chance, quads, answer[2], answer[1]);
     if (!closure.is_closed && first_to_fail("a block with a margin is not meshed, or its mesh is open"))
@@ -102,6 +104,9 @@ void try_margin(struct trial *trial)
     if (chance_below(chance, 3) == 0)
         add_ceilings(chance, margin.length, margin.t, margin.samples);
     put_margin(chance, &margin);
+    margin.noise = choose_noise(chance, margin.length, margin.t, margin.samples);
+    tally.noise[margin.is_metal] += margin.noise > 0;
+    tally.parted[margin.is_metal] += effect_of(margin.length, margin.t, margin.noise, margin.samples).parted > 0;
     try_closed(chance, &margin, answer);
     plain_ceilings(margin.samples, sample_count(&margin), answer, ANSWER);
     tally.ceilings[margin.is_metal] += answer[1] > 0;
@@ -111,28 +116,38 @@ void try_margin(struct trial *trial)
 
 /* ---- what is asked once ---- */
 
-/* Two samples across a face of two cubes among samples of the other sign. The products on that face join them, so each
-   of the two cubes has one vertex for both, and four quads join these vertices. */
-static void try_pore_of_two(uint16_t two, uint16_t others)
+/* Two samples across a face of two cubes among samples of the other sign. Where they are joined on that face, each of
+   the two cubes has one vertex for both, and four quads join these vertices; else each has a vertex for each. */
+static void try_pore_of_two(uint16_t two, uint16_t others, uint32_t noise, uint32_t vertices)
 {
-    enum { VERTICES = 14, QUADS = 12, NX = 4, NY = 4, NZ = 3 };
-    static struct margin margin = {{NX, NY, NZ}, 100, 0, {0}};
+    enum { QUADS = 12, NX = 4, NY = 4, NZ = 3 };
+    static struct margin margin = {{NX, NY, NZ}, 100, 0, 0, {0}};
     struct chance chance = chance_of(0, two);
     uint32_t answer[ANSWER];
+    margin.noise = noise;
     margin.is_metal = others >= margin.t;
     for (size_t index = 0; index < NX * NY * NZ; index++)
         margin.samples[index] = others;
     margin.samples[1 + NX * (1 + NY)] = margin.samples[2 + NX * (2 + NY)] = two;
     try_closed(&chance, &margin, answer);
-    if ((answer[1] != VERTICES || answer[2] != QUADS) && first_to_fail("a pair of samples has another mesh"))
+    if ((answer[1] != vertices || answer[2] != QUADS) && first_to_fail("a pair of samples has another mesh"))
         print_margin(&margin, answer);
 }
 
+/* With noise 0, and where noise parts the metal with the last noise figure that does not and the first that does. In
+   the last two the pair is hollow, and parted metal joins it. */
 void try_fixed_margins(void)
 {
-    try_pore_of_two(300, 0);
-    try_pore_of_two(0, 150);
-    try_pore_of_two(CEILING, 0);
+    try_pore_of_two(300, 0, 0, 14);
+    try_pore_of_two(0, 150, 0, 14);
+    try_pore_of_two(CEILING, 0, 0, 14);
+    try_pore_of_two(300, 0, 30000, 14);
+    try_pore_of_two(300, 0, 30001, 16);
+    try_pore_of_two(0, 150, UINT32_MAX, 14);
+    try_pore_of_two(CEILING, 0, UINT32_C(4281729225), 14);
+    try_pore_of_two(CEILING, 0, UINT32_C(4281729226), 16);
+    try_pore_of_two(90, 200, 9900, 16);
+    try_pore_of_two(90, 200, 9901, 14);
 }
 
 /* ---- printing ---- */
@@ -148,6 +163,8 @@ uint64_t tally_margins(void)
         tally_case("no quads", tally.no_quad[sign]);
         tally_case("quads", tally.quads[sign]);
         tally_case("a side walked more than once one way", tally.walked_again[sign]);
+        tally_case("with a noise figure", tally.noise[sign]);
+        tally_case("a face parted by noise alone", tally.parted[sign]);
     }
     tally_title("within a margin");
     for (unsigned kind = 0; kind < KINDS; kind++)

@@ -1,7 +1,9 @@
 /* Compares the counts and the mesh of random blocks with the plain implementation: good blocks, and blocks about which
    one thing or several are wrong, so that every refusal and every order of two refusals occurs. A third of the blocks
-   have samples at the ceiling. Some small blocks are asked once, and rows of cubes in which every sign pattern stands
-   at every place of a word.
+   have samples at the ceiling, and three quarters have a noise figure. Of the short ones that are accepted the library
+   is also asked with noise 0: the mesh must be that of the old rule, and where no face is doubtful that with the noise
+   figure too. Some small blocks are asked once, and rows of cubes in which every sign pattern stands at every place of
+   a word.
    Assumes nothing more than compare.h. */
 #include "compare.h"
 
@@ -24,6 +26,7 @@ struct call {
     enum kind kind;
     uint32_t length[3];
     uint16_t t;
+    uint32_t noise;
     size_t samples_len, words_len, offsets_len, quads_len, answer_len, counted_len;
     struct lying lying;
     unsigned faults; /* bit n: refusal n is due, were it not for lower ones */
@@ -38,6 +41,10 @@ static struct lent counted_place = LENT("answer of the counts", sizeof(uint32_t)
 static struct lent plain_words = LENT("words of plain", sizeof(uint32_t), 0, byte_pattern);
 static struct lent plain_offsets = LENT("offsets of plain", sizeof(double), 0, offset_pattern);
 static struct lent plain_quads = LENT("quads of plain", sizeof(uint32_t), 0, byte_pattern);
+static struct lent old_words = LENT("words with noise 0", sizeof(uint32_t), 0, byte_pattern);
+static struct lent old_offsets = LENT("offsets with noise 0", sizeof(double), 0, offset_pattern);
+static struct lent old_quads = LENT("quads with noise 0", sizeof(uint32_t), 0, byte_pattern);
+static struct lent old_answer_place = LENT("answer with noise 0", sizeof(uint32_t), ANSWER, byte_pattern);
 
 /* What plain answers; of the samples as they are lent, how many are at the ceiling and which is the first. */
 static uint32_t answer[ANSWER], counted[ANSWER], ceilings[ANSWER];
@@ -140,6 +147,7 @@ static void choose_good(struct chance *chance, struct call *call)
     fill_block(chance, call->kind, call->length, call->t, good);
     if (chance_below(chance, 3) == 0)
         add_ceilings(chance, call->length, call->t, good);
+    call->noise = choose_noise(chance, call->length, call->t, good);
 }
 
 /* A good block first, whose mesh says which rooms are short; then the faults. */
@@ -155,7 +163,8 @@ static struct call choose_call(struct trial *trial)
     trial->t = call.t;
     trial->samples = good;
     good_count = (size_t)sample_product(call.length);
-    plain_counts(call.length[0], call.length[1], call.length[2], good, good_count, call.t, good_counted, ANSWER);
+    plain_counts(call.length[0], call.length[1], call.length[2], good, good_count, call.t, call.noise, good_counted,
+                 ANSWER);
     if (good_counted[1] == 0)
         call.faults &= ~(1u << 5);
     if (good_counted[2] == 0)
@@ -183,6 +192,8 @@ static struct {
     uint64_t words_alone, offsets_alone, both_short, rooms_exact, rooms_longer;
     uint64_t bench_alone[BENCH_CUBES], bench_within[BENCH_CUBES];
     uint64_t patterns[SIGN_PATTERNS][WORD_SAMPLES];
+    uint64_t no_noise, noise, refused_noise[LAST_REFUSAL + 1], old_rule, old_doubtful, not_doubtful;
+    uint64_t at_limit, one_above, parted, changed, more_vertices, fewer_vertices, as_many, not_changed;
 } tally;
 
 static size_t index_of(const uint32_t length[3], size_t i, size_t j, size_t k)
@@ -256,6 +267,8 @@ static void count_accepted(const struct call *call)
         tally.longest[axis] += quads > 0 && call->length[axis] == LONGEST_AXIS;
     tally.lowest += call->t == 1;
     tally.highest += call->t == HIGHEST;
+    tally.no_noise += call->noise == 0;
+    tally.noise += call->noise > 0;
     tally.rooms_exact += quads > 0 && call->words_len == 2 * vertices && call->offsets_len == 3 * vertices &&
                          call->quads_len == 4 * quads;
     tally.rooms_longer += quads > 0 && call->words_len > 2 * vertices && call->offsets_len > 3 * vertices &&
@@ -276,6 +289,7 @@ static void count_refused(const struct call *call)
     if (answer[0] == 1)
         tally.bad_axis[answer[1]]++;
     tally.ceiling_refused[answer[0]] += ceilings[1] > 0;
+    tally.refused_noise[answer[0]] += call->noise > 0;
     tally.zero += answer[0] == 3 && answer[1] == 0;
     tally.top += answer[0] == 3 && answer[1] == CEILING;
     tally.words_alone += answer[0] == 5 && words_short && !offsets_short;
@@ -303,8 +317,9 @@ static void count_call(const struct call *call)
 static void print_call(const struct call *call)
 {
     const uint16_t *samples = start(&samples_place);
-    printf("  %s; axes %lu, %lu, %lu; t %u\n", call->name, (unsigned long)call->length[0],
-           (unsigned long)call->length[1], (unsigned long)call->length[2], (unsigned)call->t);
+    printf("  %s; axes %lu, %lu, %lu; t %u; noise %lu\n", call->name, (unsigned long)call->length[0],
+           (unsigned long)call->length[1], (unsigned long)call->length[2], (unsigned)call->t,
+           (unsigned long)call->noise);
     printf("  lengths: samples %zu, words %zu, offsets %zu, quads %zu, answers %zu and %zu\n", call->samples_len,
            call->words_len, call->offsets_len, call->quads_len, call->counted_len, call->answer_len);
     printf("  plain: counts %lu, %lu, %lu, mesh %lu, %lu, %lu\n", (unsigned long)counted[0], (unsigned long)counted[1],
@@ -332,9 +347,9 @@ static void run_plain(const struct call *c)
     plain_ceilings(start(&samples_place), c->samples_len, ceilings, ANSWER);
     memcpy(counted, good_counted, sizeof counted);
     if (spoilt)
-        plain_counts(c->length[0], c->length[1], c->length[2], start(&samples_place), c->samples_len, c->t, counted,
-                     ANSWER);
-    plain_mesh(c->length[0], c->length[1], c->length[2], start(&samples_place), c->samples_len, c->t,
+        plain_counts(c->length[0], c->length[1], c->length[2], start(&samples_place), c->samples_len, c->t, c->noise,
+                     counted, ANSWER);
+    plain_mesh(c->length[0], c->length[1], c->length[2], start(&samples_place), c->samples_len, c->t, c->noise,
                start(&plain_words), c->words_len, start(&plain_offsets), c->offsets_len, start(&plain_quads),
                c->quads_len, answer, ANSWER);
 }
@@ -345,7 +360,7 @@ static void run_counts(const struct call *c)
     lend(&counted_place, c->counted_len, c->lying);
     hand_out_to_read(&samples_place);
     hand_out_all(COUNTS, c->lying, wanted, 1);
-    parsniprow_counts(c->length[0], c->length[1], c->length[2], start(&samples_place), c->samples_len, c->t,
+    parsniprow_counts(c->length[0], c->length[1], c->length[2], start(&samples_place), c->samples_len, c->t, c->noise,
                       start(&counted_place), c->counted_len);
     take_back_read(&samples_place);
     if (first_to_differ(COUNTS, wanted, 1))
@@ -364,7 +379,7 @@ static void run_mesh(const struct call *c, size_t vertices, size_t quads)
     lend(&answer_place, c->answer_len, c->lying);
     hand_out_to_read(&samples_place);
     hand_out_all(MESH, c->lying, wanted, 4);
-    parsniprow_mesh(c->length[0], c->length[1], c->length[2], start(&samples_place), c->samples_len, c->t,
+    parsniprow_mesh(c->length[0], c->length[1], c->length[2], start(&samples_place), c->samples_len, c->t, c->noise,
                     start(&words_place), c->words_len, start(&offsets_place), c->offsets_len, start(&quads_place),
                     c->quads_len, start(&answer_place), c->answer_len);
     take_back_read(&samples_place);
@@ -387,6 +402,78 @@ static void run_call(const struct call *call)
     run_mesh(call, vertices, quads);
 }
 
+/* ---- the old rule ---- */
+
+/* Whether the mesh with noise 0 is that of the noise figure, as plain made it. */
+static int is_as_with_noise(size_t vertices, size_t quads)
+{
+    return vertices == answer[1] && quads == answer[2] &&
+           memcmp(start(&old_words), start(&plain_words), 2 * vertices * sizeof(uint32_t)) == 0 &&
+           memcmp(start(&old_offsets), start(&plain_offsets), 3 * vertices * sizeof(double)) == 0 &&
+           memcmp(start(&old_quads), start(&plain_quads), 4 * quads * sizeof(uint32_t)) == 0;
+}
+
+static void count_effect(const struct noise_effect *effect, uint32_t noise, size_t vertices, int is_same)
+{
+    tally.old_rule++;
+    tally.old_doubtful += effect->has_doubtful;
+    tally.at_limit += effect->at_limit > 0;
+    tally.one_above += effect->one_above > 0;
+    tally.parted += effect->parted > 0;
+    tally.not_doubtful += noise > 0 && !effect->has_doubtful && vertices > 0;
+    tally.not_changed += noise > 0 && effect->has_doubtful && is_same;
+    tally.changed += !is_same;
+    tally.more_vertices += answer[1] > vertices;
+    tally.fewer_vertices += answer[1] < vertices;
+    tally.as_many += !is_same && answer[1] == vertices;
+}
+
+/* The mesh of an accepted block with noise 0, beside the old rule's; and beside the mesh with the noise figure, which
+   is the same where no face is doubtful. The rooms are exact by the old rule, which plain says first. */
+static void try_old_rule(const struct call *c)
+{
+    const uint32_t *n = c->length;
+    const uint16_t *samples = start(&samples_place);
+    struct noise_effect effect = effect_of(n, c->t, c->noise, samples);
+    uint32_t old_answer[ANSWER];
+    struct lying lying = {PATTERNS, 0};
+    size_t vertices, quads;
+    static uint32_t words_of_old[2 * 4 * SCANNED_SAMPLES], quads_of_old[4 * 3 * SCANNED_SAMPLES];
+    static double offsets_of_old[3 * 4 * SCANNED_SAMPLES];
+    struct wanted wanted[] = {{&old_answer_place, old_answer, ANSWER},
+                              {&old_words, words_of_old, 0},
+                              {&old_offsets, offsets_of_old, 0},
+                              {&old_quads, quads_of_old, 0}};
+    int is_same;
+    asking("plain_old_mesh");
+    plain_old_mesh(n, samples, c->t, words_of_old, sizeof words_of_old / sizeof *words_of_old, offsets_of_old,
+                   sizeof offsets_of_old / sizeof *offsets_of_old, quads_of_old,
+                   sizeof quads_of_old / sizeof *quads_of_old, old_answer);
+    vertices = old_answer[1];
+    quads = old_answer[2];
+    wanted[1].count = 2 * vertices;
+    wanted[2].count = 3 * vertices;
+    wanted[3].count = 4 * quads;
+    lend(&old_answer_place, ANSWER, lying);
+    lend(&old_words, 2 * vertices, lying);
+    lend(&old_offsets, 3 * vertices, lying);
+    lend(&old_quads, 4 * quads, lying);
+    hand_out_to_read(&samples_place);
+    hand_out_all(MESH, lying, wanted, 4);
+    parsniprow_mesh(n[0], n[1], n[2], samples, c->samples_len, c->t, 0, start(&old_words), 2 * vertices,
+                    start(&old_offsets), 3 * vertices, start(&old_quads), 4 * quads, start(&old_answer_place), ANSWER);
+    take_back_read(&samples_place);
+    if (first_to_differ(MESH, wanted, 4)) {
+        printf("  the mesh with noise 0, beside that of the old rule; else\n");
+        print_call(c);
+    }
+    is_same = is_as_with_noise(vertices, quads);
+    if ((!effect.has_doubtful || effect.parted == 0) && !is_same &&
+        first_to_fail("a noise figure changes a mesh whose faces it does not part"))
+        print_call(c);
+    count_effect(&effect, c->noise, vertices, is_same);
+}
+
 void try_block(struct trial *trial)
 {
     struct call call = choose_call(trial);
@@ -394,6 +481,8 @@ void try_block(struct trial *trial)
     count_call(&call);
     if (answer[0] != 0)
         return;
+    if (call.samples_len <= SCANNED_SAMPLES)
+        try_old_rule(&call);
     trial->words = start(&plain_words);
     trial->offsets = start(&plain_offsets);
     trial->quads = start(&plain_quads);
@@ -431,7 +520,7 @@ enum { FIXED_BLOCKS = sizeof fixed_blocks / sizeof *fixed_blocks, FIXED_AXIS = 3
 static void run_with_room(struct call *call, size_t less_vertices, size_t less_quads)
 {
     plain_counts(call->length[0], call->length[1], call->length[2], start(&samples_place), call->samples_len, call->t,
-                 good_counted, ANSWER);
+                 call->noise, good_counted, ANSWER);
     if (good_counted[0] == 0) {
         size_t vertices = good_counted[1], quads = good_counted[2];
         call->words_len = 2 * (vertices < less_vertices ? 0 : vertices - less_vertices);
@@ -441,7 +530,7 @@ static void run_with_room(struct call *call, size_t less_vertices, size_t less_q
     run_call(call);
 }
 
-/* With exact rooms, with one vertex less, with one quad less. */
+/* With exact rooms, with one vertex less, with one quad less. No noise figure changes one of them. */
 static void try_fixed_block(const struct fixed *fixed, enum beside beside, size_t less_vertices, size_t less_quads)
 {
     struct call call;
@@ -451,6 +540,7 @@ static void try_fixed_block(const struct fixed *fixed, enum beside beside, size_
     for (unsigned axis = 0; axis < 3; axis++)
         call.length[axis] = FIXED_AXIS;
     call.t = fixed->t;
+    call.noise = beside == PATTERNS ? 0 : beside == PAGE_BEHIND ? 1 : UINT32_MAX;
     call.samples_len = FIXED_SAMPLES;
     call.answer_len = call.counted_len = ANSWER;
     call.lying.beside = beside;
@@ -488,7 +578,7 @@ static void count_patterns(const uint16_t *samples, uint16_t t)
 }
 
 /* One row of cubes with these columns of samples, begun at any of them. The samples differ, so that doubtful faces are
-   decided either way. */
+   decided either way, and the noise figure rises from 0 by steps. */
 static void try_columns(const unsigned columns[COLUMNS], size_t first)
 {
     struct call call;
@@ -498,6 +588,7 @@ static void try_columns(const unsigned columns[COLUMNS], size_t first)
     call.length[0] = COLUMNS;
     call.length[1] = call.length[2] = 2;
     call.t = 100;
+    call.noise = (uint32_t)(first / 4 * 100);
     call.samples_len = COLUMNS * COLUMN_SAMPLES;
     call.answer_len = call.counted_len = ANSWER;
     lend(&samples_place, call.samples_len, call.lying);
@@ -628,6 +719,26 @@ static void tally_accepted(void)
         tally_case(bench_cubes[cube].name, tally.bench_within[cube]);
 }
 
+/* The last figures are of the blocks that were asked with noise 0 too. */
+static void tally_noise(void)
+{
+    tally_title("blocks with a noise figure");
+    tally_case("0", tally.no_noise);
+    tally_case("above", tally.noise);
+    tally_given(tally.refused_noise, REFUSALS);
+    tally_case("held against the old rule", tally.old_rule);
+    tally_case("and doubtful", tally.old_doubtful);
+    tally_case("noise at the limit of a face", tally.at_limit);
+    tally_case("one above", tally.one_above);
+    tally_case("a face parted by noise alone", tally.parted);
+    tally_case("mesh changed against noise 0", tally.changed);
+    tally_case("more vertices", tally.more_vertices);
+    tally_case("fewer", tally.fewer_vertices);
+    tally_case("as many others", tally.as_many);
+    tally_case("doubtful and not changed", tally.not_changed);
+    tally_case("vertices and no doubtful face", tally.not_doubtful);
+}
+
 void tally_blocks(void)
 {
     tally_title("blocks");
@@ -636,6 +747,7 @@ void tally_blocks(void)
     tally_refusals();
     tally_with_ceilings();
     tally_accepted();
+    tally_noise();
     tally_reaches(&counted_place);
     tally_reaches(&answer_place);
     tally_title("compared of meshes");

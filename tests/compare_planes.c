@@ -3,8 +3,9 @@
    the call before left in the state and in the work. With every second block: one to three runs, which take turns;
    among their planes calls that are refused, for one reason or for several, after which the run goes on; calls with
    states and works that are not the run's own; starts, and ends too early and at the end. When a run is whole, all that
-   the library wrote must be the mesh that it makes of the whole block. Once: the paper's block, whose calls were worked
-   out by hand; states that are too short; and lengths that no memory has.
+   the library wrote must be the mesh that it makes of the whole block, with the noise figure of the run. Two runs often
+   have one block and two noise figures. Once: the paper's block, whose calls were worked out by hand; states that are
+   too short; and lengths that no memory has.
    With a state or a work that no call left, the mesh is not known. Then the call must end, keep to what it answers, and
    change nothing where it refuses.
    Assumes nothing more than compare.h. */
@@ -20,7 +21,7 @@
 enum { STATE = PARSNIPROW_STATE, WORK_PLANES = 6, MOST_RUNS = 3, PRINTED_SAMPLES = 128, SHORT_PLANE = 2000 };
 
 /* The items of a state. */
-enum { AT_NX, AT_NY, AT_NZ, AT_T, AT_VERTICES, AT_QUADS, AT_PLANES };
+enum { AT_NX, AT_NY, AT_NZ, AT_T, AT_NOISE, AT_VERTICES, AT_QUADS, AT_PLANES };
 
 /* The refusals of a plane in their order; what a start can be refused for is among them. */
 enum row { AXIS, THRESHOLD, PAST, COUNT, WORK, VERTICES, QUADS, ROWS };
@@ -39,7 +40,8 @@ static struct lent answer_place = LENT("answer of the plane", sizeof(uint32_t), 
 
 static struct {
     uint64_t by_hand, fixed, large, largest, no_memory;
-    uint64_t alone, two, three, same_block, turns;
+    uint64_t alone, two, three, same_block, same_threshold, other_mesh, turns;
+    uint64_t no_noise, noise, at_limit, one_above, parted, changed, changed_first, changed_later;
     uint64_t first, further, with_vertices, with_quads, only_vertices, nothing, marked, along[3], many_in_cube, last;
     uint64_t exact, longer, longer_work, longer_state;
     uint64_t answers[ROWS + 1], orders[ROWS][ROWS], gone_on[ROWS], refused_first[ROWS];
@@ -50,7 +52,7 @@ static struct {
     uint64_t end_early, end_at_none, end_whole, end_again, end_past, end_short;
     uint64_t short_state[STATE];
     uint64_t foreign_states, foreign_works, foreign_first, foreign_accepted, foreign_refused[2];
-    uint64_t wide_threshold, wrapped;
+    uint64_t wide_threshold, wrapped, foreign_noise;
     uint64_t whole_meshes;
 } tally;
 
@@ -65,6 +67,7 @@ struct run {
     uint32_t *words, *quads, *work, *got_words, *got_quads;
     double *offsets, *got_offsets;
     uint16_t *samples, t;
+    uint32_t noise;
     enum row refused; /* the last refusal since a plane was taken, or ROWS */
 };
 
@@ -95,7 +98,7 @@ static void ask_plain(struct run *run)
     size_t count = (size_t)sample_product(n);
     uint32_t answer[ANSWER], *quads;
     asking("plain_counts");
-    plain_counts(n[0], n[1], n[2], run->samples, count, run->t, answer, ANSWER);
+    plain_counts(n[0], n[1], n[2], run->samples, count, run->t, run->noise, answer, ANSWER);
     run->vertex_count = answer[1];
     run->quad_count = answer[2];
     run->words = room_for(2 * (size_t)answer[1], sizeof *run->words);
@@ -103,15 +106,16 @@ static void ask_plain(struct run *run)
     run->quads = room_for(4 * (size_t)answer[2], sizeof *run->quads);
     quads = room_for(4 * (size_t)answer[2], sizeof *quads);
     asking("plain_mesh");
-    plain_mesh(n[0], n[1], n[2], run->samples, count, run->t, run->words, 2 * (size_t)answer[1], run->offsets,
-               3 * (size_t)answer[1], quads, 4 * (size_t)answer[2], answer, ANSWER);
+    plain_mesh(n[0], n[1], n[2], run->samples, count, run->t, run->noise, run->words, 2 * (size_t)answer[1],
+               run->offsets, 3 * (size_t)answer[1], quads, 4 * (size_t)answer[2], answer, ANSWER);
     plain_cut(n[0], n[1], n[2], run->words, answer[1], quads, answer[2], run->vertices_of, run->quads_of, run->quads);
     free(quads);
     asking("the comparison");
 }
 
 /* Of a block whose samples are copied. Nothing has been asked of the library yet. */
-static struct run new_run(const char *name, const uint32_t length[3], uint16_t t, const uint16_t *samples)
+static struct run new_run(const char *name, const uint32_t length[3], uint16_t t, uint32_t noise,
+                          const uint16_t *samples)
 {
     struct run run;
     size_t count = (size_t)sample_product(length);
@@ -119,6 +123,7 @@ static struct run new_run(const char *name, const uint32_t length[3], uint16_t t
     run.name = name;
     memcpy(run.length, length, sizeof run.length);
     run.t = t;
+    run.noise = noise;
     run.refused = ROWS;
     run.samples = room_for(count, sizeof *run.samples);
     memcpy(run.samples, samples, count * sizeof *samples);
@@ -567,6 +572,7 @@ struct start_call {
     const char *name;
     uint32_t length[3];
     uint16_t t;
+    uint32_t noise;
     uint32_t *work; /* where it is given no memory is lent for it */
     size_t work_len, state_len, answer_len;
     struct lying lying;
@@ -574,16 +580,16 @@ struct start_call {
 
 static void print_start(const struct start_call *call)
 {
-    printf("  start, %s; axes %lu, %lu, %lu; t = %u; lengths: work %zu, state %zu, answer %zu\n", call->name,
+    printf("  start, %s; axes %lu, %lu, %lu; t = %u; noise %lu; lengths: work %zu, state %zu, answer %zu\n", call->name,
            (unsigned long)call->length[0], (unsigned long)call->length[1], (unsigned long)call->length[2],
-           (unsigned)call->t, call->work_len, call->state_len, call->answer_len);
+           (unsigned)call->t, (unsigned long)call->noise, call->work_len, call->state_len, call->answer_len);
 }
 
 /* The work may be read at most, and what is written to it crashes. Gives which refusal was due, or ROWS. */
 static enum row try_start(const struct start_call *call)
 {
     const uint32_t *n = call->length;
-    uint32_t state[STATE] = {n[0], n[1], n[2], call->t, 0, 0, 0}, answer[ANSWER] = {0, 0, 0}, lowest = 0;
+    uint32_t state[STATE] = {n[0], n[1], n[2], call->t, call->noise, 0, 0, 0}, answer[ANSWER] = {0, 0, 0}, lowest = 0;
     unsigned due = 0;
     enum row first = AXIS;
     struct wanted wanted[] = {{&answer_place, answer, ANSWER}, {&state_place, state, STATE}};
@@ -602,8 +608,8 @@ static enum row try_start(const struct start_call *call)
     lend(&answer_place, call->answer_len, call->lying);
     hand_out_to_read(&work_place);
     hand_out_all(START, call->lying, wanted, 2);
-    parsniprow_start(n[0], n[1], n[2], call->t, call->work ? call->work : start(&work_place), call->work_len,
-                     start(&state_place), call->state_len, start(&answer_place), call->answer_len);
+    parsniprow_start(n[0], n[1], n[2], call->t, call->noise, call->work ? call->work : start(&work_place),
+                     call->work_len, start(&state_place), call->state_len, start(&answer_place), call->answer_len);
     take_back_read(&work_place);
     if (first_to_differ(START, wanted, 2))
         print_start(call);
@@ -618,13 +624,14 @@ static enum row try_start(const struct start_call *call)
     return first;
 }
 
-static struct start_call start_of(const char *name, const uint32_t length[3], uint16_t t)
+static struct start_call start_of(const char *name, const uint32_t length[3], uint16_t t, uint32_t noise)
 {
     struct start_call call;
     memset(&call, 0, sizeof call);
     call.name = name;
     memcpy(call.length, length, sizeof call.length);
     call.t = t;
+    call.noise = noise;
     call.work_len = WORK_PLANES * (size_t)size_of(length);
     call.state_len = STATE;
     call.answer_len = ANSWER;
@@ -672,8 +679,8 @@ static void compare_with_mesh(const struct run *run)
     uint32_t *put_back = room_for(quads, sizeof *put_back), answer[ANSWER];
     double *mesh_offsets = room_for(offsets, sizeof *mesh_offsets);
     asking("parsniprow_mesh");
-    parsniprow_mesh(n[0], n[1], n[2], run->samples, (size_t)sample_product(n), run->t, mesh_words, words, mesh_offsets,
-                    offsets, mesh_quads, quads, answer, ANSWER);
+    parsniprow_mesh(n[0], n[1], n[2], run->samples, (size_t)sample_product(n), run->t, run->noise, mesh_words, words,
+                    mesh_offsets, offsets, mesh_quads, quads, answer, ANSWER);
     asking("the comparison");
     for (unsigned axis = 0; axis < 3; axis++)
         for (size_t at = 0; at < quads; at += 4)
@@ -685,13 +692,49 @@ static void compare_with_mesh(const struct run *run)
         memcmp(run->got_offsets, mesh_offsets, offsets * sizeof *mesh_offsets) != 0 ||
         memcmp(put_back, mesh_quads, quads * sizeof *mesh_quads) != 0)
         if (first_to_fail("the planes of a run are not the mesh of the block"))
-            printf("  %s; axes %lu, %lu, %lu; t = %u\n", run->name, (unsigned long)n[0], (unsigned long)n[1],
-                   (unsigned long)n[2], (unsigned)run->t);
+            printf("  %s; axes %lu, %lu, %lu; t = %u; noise %lu\n", run->name, (unsigned long)n[0], (unsigned long)n[1],
+                   (unsigned long)n[2], (unsigned)run->t, (unsigned long)run->noise);
     tally.whole_meshes++;
     free(mesh_words);
     free(mesh_offsets);
     free(mesh_quads);
     free(put_back);
+}
+
+/* Whether two runs of one block have the same vertices, in the layers from this call on. */
+static int have_same_words(const struct run *a, const struct run *b, uint32_t from)
+{
+    size_t before_a = 0, before_b = 0;
+    for (uint32_t k = 0; k < from; k++) {
+        before_a += a->vertices_of[k];
+        before_b += b->vertices_of[k];
+    }
+    return a->vertex_count - before_a == b->vertex_count - before_b &&
+           memcmp(a->words + 2 * before_a, b->words + 2 * before_b,
+                  2 * (a->vertex_count - before_a) * sizeof *a->words) == 0;
+}
+
+/* What the noise figure of a short run does, beside a run of the same block with noise 0. A noise figure that got lost
+   on the way would be noticed in the layers behind the first. */
+static void count_noise(const struct run *run)
+{
+    struct noise_effect effect;
+    struct run plainly;
+    tally.no_noise += run->noise == 0;
+    tally.noise += run->noise > 0;
+    if (run->noise == 0 || sample_product(run->length) > SHORT_PLANE)
+        return;
+    effect = effect_of(run->length, run->t, run->noise, run->samples);
+    tally.at_limit += effect.at_limit > 0;
+    tally.one_above += effect.one_above > 0;
+    tally.parted += effect.parted > 0;
+    if (effect.parted == 0)
+        return;
+    plainly = new_run(run->name, run->length, run->t, 0, run->samples);
+    tally.changed += !have_same_words(run, &plainly, 0);
+    tally.changed_first += run->vertices_of[1] != plainly.vertices_of[1];
+    tally.changed_later += !have_same_words(run, &plainly, 2);
+    end_run(&plainly);
 }
 
 /* Patterns and pages beside the buffers take turns. */
@@ -705,8 +748,8 @@ static struct lying next_lying(void)
 
 static void start_run(struct run *run, struct lying lying)
 {
-    struct start_call call = start_of(run->name, run->length, run->t);
-    uint32_t state[STATE] = {run->length[0], run->length[1], run->length[2], run->t, 0, 0, 0};
+    struct start_call call = start_of(run->name, run->length, run->t, run->noise);
+    uint32_t state[STATE] = {run->length[0], run->length[1], run->length[2], run->t, run->noise, 0, 0, 0};
     call.lying = lying;
     try_start(&call);
     memcpy(run->state, state, sizeof state);
@@ -740,7 +783,7 @@ static void try_example(void)
     uint16_t samples[27] = {0};
     struct run run;
     samples[13] = 400;
-    run = new_run("the paper's block", length, 100, samples);
+    run = new_run("the paper's block", length, 100, 0, samples);
     if (memcmp(run.vertices_of, vertices, sizeof vertices) != 0 || memcmp(run.quads_of, quads, sizeof quads) != 0 ||
         memcmp(run.quads, known, sizeof known) != 0)
         first_to_fail("plain does not cut the paper's block as it was by hand");
@@ -754,16 +797,17 @@ static void try_example(void)
 }
 
 /* So many items of a state after no, one or two planes, and what a plane and an end make of them: without nx, ny and nz
-   no axis is right, without t no threshold; and without the planes taken each plane is the first. */
-static void try_short_state(size_t state_len)
+   no axis is right, without t no threshold; and without the planes taken each plane is the first. So four items are
+   enough for that, and the noise figure, which is read as 0 where it is missing, does nothing there. */
+static void try_short_state(size_t state_len, uint32_t noise)
 {
     static const uint32_t length[3] = {3, 4, 3};
     uint16_t samples[36] = {0};
     struct run run;
-    samples[4 + 12] = 400;
-    run = new_run("a state that is too short", length, 100, samples);
+    samples[4 + 12] = samples[6 + 12] = 200;
+    run = new_run("a state that is too short", length, 100, noise, samples);
     for (uint32_t again = 0; again < 2 * BESIDES; again++) {
-        struct start_call first = start_of(run.name, length, 100);
+        struct start_call first = start_of(run.name, length, 100, noise);
         struct call call;
         first.state_len = state_len;
         first.lying = next_lying();
@@ -785,8 +829,8 @@ static void try_short_state(size_t state_len)
 static void try_long_plane(size_t more)
 {
     static const uint32_t wanted[ANSWER] = {2, 9, 0};
-    uint32_t work[WORK_PLANES * 9] = {0}, words[1] = {0}, quads[1] = {0}, state[STATE] = {3, 3, 3, 100, 0, 0, 0};
-    uint32_t answer[ANSWER];
+    uint32_t work[WORK_PLANES * 9] = {0}, words[1] = {0}, quads[1] = {0}, answer[ANSWER];
+    uint32_t state[STATE] = {3, 3, 3, 100, 1, 0, 0, 0};
     double offsets[1] = {0};
     size_t plane_len = 9 + more, bytes = plane_len * sizeof(uint16_t);
     void *plane = space(bytes, 0);
@@ -805,7 +849,7 @@ static void try_long_work(size_t work_len)
 {
     static const uint32_t length[3] = {256, 256, 2};
     size_t bytes = work_len * sizeof(uint32_t);
-    struct start_call call = start_of("a work that nobody may touch", length, 65534);
+    struct start_call call = start_of("a work that nobody may touch", length, 65534, UINT32_MAX);
     call.work_len = work_len;
     call.work = space(bytes, 0);
     call.lying = next_lying();
@@ -824,7 +868,7 @@ static void try_hand_runs(void)
         if (block->answer[0] != 0)
             continue;
         fill_hand_block(block, samples);
-        run = new_run(block->name, block->length, block->t, samples);
+        run = new_run(block->name, block->length, block->t, block->noise, samples);
         lead_whole_run(&run);
         if (run.state[AT_VERTICES] != block->vertices || run.state[AT_QUADS] != block->quads)
             first_to_fail(block->name);
@@ -833,14 +877,15 @@ static void try_hand_runs(void)
     }
 }
 
-/* A board of these axes, in which each call but the first two has as many vertices and quads as there can be. */
+/* A board of these axes, in which each call but the first two has as many vertices and quads as there can be, whatever
+   the noise figure is. */
 static void try_board(uint32_t nx, uint32_t ny, uint32_t nz)
 {
     uint32_t length[3] = {nx, ny, nz};
     uint16_t *samples = room_for((size_t)sample_product(length), sizeof *samples);
     struct run run;
     fill_board(length, 110, 0, samples);
-    run = new_run("a board", length, 100, samples);
+    run = new_run("a board", length, 100, nx % 2 * 9900, samples);
     for (uint32_t k = 0; k < nz; k++)
         if (run.vertices_of[k] != (k == 0 ? 0 : most_vertices(length)) ||
             run.quads_of[k] != (k == 0 ? 0 : k == 1 ? (size_t)(nx - 2) * (ny - 2) : most_quads(length)))
@@ -856,8 +901,11 @@ void try_fixed_planes(void)
     size_t cut = (size_t)UINT32_MAX + 1;
     try_example();
     try_hand_runs();
-    for (size_t state_len = 0; state_len < STATE; state_len++)
-        try_short_state(state_len);
+    for (size_t state_len = 0; state_len < STATE; state_len++) {
+        try_short_state(state_len, 0);
+        try_short_state(state_len, 1);
+        try_short_state(state_len, UINT32_MAX);
+    }
     for (uint32_t n = 2; n < 6; n++)
         try_board(n, 7 - n, n + 1);
     try_board(66, 3, 4);
@@ -880,7 +928,7 @@ static void try_large(uint32_t nx, uint32_t ny, uint32_t nz, enum kind kind, uin
     struct run run;
     fill_block(&chance, kind, length, t, samples);
     add_ceilings(&chance, length, t, samples);
-    run = new_run(kind_names[kind], length, t, samples);
+    run = new_run(kind_names[kind], length, t, choose_noise(&chance, length, t, samples), samples);
     lead_whole_run(&run);
     end_run(&run);
     free(samples);
@@ -900,7 +948,7 @@ static void try_largest_board(void)
     uint32_t *quad_room = room_for(4 * quads, sizeof *quad_room);
     double *offsets = room_for(3 * vertices, sizeof *offsets);
     fill_board(two, 110, 0, samples);
-    parsniprow_start(length[0], length[1], length[2], 100, work, WORK_PLANES * size, state, STATE, answer, ANSWER);
+    parsniprow_start(length[0], length[1], length[2], 100, 0, work, WORK_PLANES * size, state, STATE, answer, ANSWER);
     for (uint32_t k = 0; k < LONGEST_AXIS; k++) {
         uint32_t v = k == 0 ? 0 : (uint32_t)vertices, q = k == 0 ? 0 : k == 1 ? 254 * 254 : (uint32_t)quads;
         asking("parsniprow_plane");
@@ -946,17 +994,26 @@ static struct run choose_run(struct chance *chance)
     fill_block(chance, kind, length, t, samples);
     if (chance_below(chance, 3) == 0)
         add_ceilings(chance, length, t, samples);
-    run = new_run(kind_names[kind], length, t, samples);
+    run = new_run(kind_names[kind], length, t, choose_noise(chance, length, t, samples), samples);
+    count_noise(&run);
     free(samples);
     return run;
 }
 
-/* The same block by another threshold, often at one of its samples. */
-static struct run other_threshold(struct chance *chance, const struct run *run)
+/* The same block by another threshold, often at one of its samples; or by the same threshold with another noise
+   figure. */
+static struct run other_cut(struct chance *chance, const struct run *run)
 {
-    uint16_t sample = run->samples[chance_below(chance, sample_product(run->length))];
-    uint16_t t = is_bad_threshold(sample) ? choose_threshold(chance) : sample;
-    return new_run("the same block by another threshold", run->length, t, run->samples);
+    uint16_t sample = run->samples[chance_below(chance, sample_product(run->length))], t = run->t;
+    int is_same = chance_in_100(chance, 50);
+    struct run other;
+    if (!is_same)
+        t = is_bad_threshold(sample) ? choose_threshold(chance) : sample;
+    other = new_run(is_same ? "the same block with another noise figure" : "the same block by another threshold",
+                    run->length, t, choose_noise(chance, run->length, t, run->samples), run->samples);
+    tally.same_threshold += is_same && other.noise != run->noise;
+    tally.other_mesh += is_same && !have_same_words(run, &other, 0);
+    return other;
 }
 
 /* The next call of a run, with room that is enough, and all places where they happen to lie. */
@@ -1046,6 +1103,10 @@ static void choose_foreign_state(struct chance *chance, struct call *call)
         tally.wide_threshold++;
     }
     if (chance_in_100(chance, 50)) {
+        s[AT_NOISE] = any_word(chance, chance_below(chance, 10));
+        tally.foreign_noise++;
+    }
+    if (chance_in_100(chance, 50)) {
         s[AT_VERTICES] = any_word(chance, chance_below(chance, 10));
         s[AT_QUADS] = any_word(chance, chance_below(chance, 10));
     }
@@ -1113,7 +1174,7 @@ static void try_some_start(struct chance *chance)
     struct start_call call;
     size_t needed;
     choose_any_axes(chance, chance_in_100(chance, 40), length);
-    call = start_of("some axes", length, choose_threshold(chance));
+    call = start_of("some axes", length, choose_threshold(chance), any_word(chance, chance_below(chance, 10)));
     if (chance_in_100(chance, 30))
         call.t = chance_in_100(chance, 50) ? 0 : CEILING;
     needed = size_of(length) < MOST_ANY_SAMPLES ? call.work_len : 0;
@@ -1184,7 +1245,7 @@ void try_planes(struct trial *trial)
     size_t count = how < 5 ? 1 : how < 8 ? 2 : 3;
     for (size_t i = 0; i < count; i++) {
         int is_same = i > 0 && chance_in_100(chance, 50);
-        runs[i] = is_same ? other_threshold(chance, &runs[0]) : choose_run(chance);
+        runs[i] = is_same ? other_cut(chance, &runs[0]) : choose_run(chance);
         start_run(&runs[i], choose_lying(chance));
         tally.same_block += is_same;
     }
@@ -1212,9 +1273,20 @@ static void tally_runs(void)
     tally_case("one by itself", tally.alone);
     tally_case("two by turns", tally.two);
     tally_case("three by turns", tally.three);
-    tally_case("the same block by two thresholds", tally.same_block);
+    tally_case("the same block twice", tally.same_block);
+    tally_case("with two noise figures", tally.same_threshold);
+    tally_case("and two meshes", tally.other_mesh);
     tally_case("another run than before", tally.turns);
     tally_case("held against the mesh", tally.whole_meshes);
+    tally_title("runs with a noise figure");
+    tally_case("0", tally.no_noise);
+    tally_case("above", tally.noise);
+    tally_case("at the limit of a face", tally.at_limit);
+    tally_case("one above", tally.one_above);
+    tally_case("a face parted by noise alone", tally.parted);
+    tally_case("vertices changed against noise 0", tally.changed);
+    tally_case("in the first layer", tally.changed_first);
+    tally_case("in a further one", tally.changed_later);
     tally_title("planes taken");
     tally_case("the first", tally.first);
     tally_case("a further one", tally.further);
@@ -1312,6 +1384,7 @@ static void tally_foreign(void)
     tally_case("works", tally.foreign_works);
     tally_case("with no plane taken", tally.foreign_first);
     tally_case("a threshold above 65535", tally.wide_threshold);
+    tally_case("another noise figure", tally.foreign_noise);
     tally_case("vertices near the end of 32 bits", tally.wrapped);
     tally_case("accepted", tally.foreign_accepted);
     tally_case("refused with 5", tally.foreign_refused[0]);

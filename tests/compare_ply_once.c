@@ -29,7 +29,7 @@ static void make_paper(void)
     uint16_t samples[PAPER_SAMPLES] = {0};
     uint32_t made[ANSWER];
     samples[PAPER_SAMPLES / 2] = 400;
-    parsniprow_mesh(3, 3, 3, samples, PAPER_SAMPLES, 100, paper_words, 2 * PAPER_VERTICES, paper_offsets,
+    parsniprow_mesh(3, 3, 3, samples, PAPER_SAMPLES, 100, 0, paper_words, 2 * PAPER_VERTICES, paper_offsets,
                     3 * PAPER_VERTICES, paper_quads, 4 * PAPER_QUADS, made, ANSWER);
 }
 

@@ -6,7 +6,7 @@
    With every second block: some readings; then a block of readings about which one thing or several may be wrong, so
    that every refusal and every order of two refusals occurs. It is made of a block of grey values: each of them gets a
    reading that becomes it. So the grey values are known without plain. Where no reading is at fault, the library must
-   answer and write just what it does for the block of these grey values.
+   answer and write just what it does for the block of these grey values, with the same noise figure.
    Assumes nothing more than compare.h, and floats of 32 bits by IEEE 754. */
 #include "compare.h"
 
@@ -80,6 +80,7 @@ static struct {
     uint64_t minus_zero, subnormal, fraction, at_t, step_above_t, step_below_t, half_below_t;
     uint64_t at_ceiling, above_ceiling, greatest, step_below_ceiling, marked, some_marked, none_marked;
     uint64_t no_vertex, no_quad, quads, held, long_row, longest[3];
+    uint64_t noise, no_noise, noise_fault, noise_room[2], at_limit, one_above, parted, changed;
 } tally;
 
 /* ---- one reading ---- */
@@ -250,6 +251,7 @@ struct question {
     const char *name;
     uint32_t length[3];
     uint16_t t;
+    uint32_t noise;
     const float *readings;
     const uint16_t *greys; /* what they become, where none is at fault; else null */
     size_t readings_len, words_len, offsets_len, quads_len, counted_len, answer_len;
@@ -304,12 +306,12 @@ static unsigned due(const struct question *q)
 
 static void print_question(const struct question *q)
 {
-    printf("  %s; axes %lu, %lu, %lu; t %u; lengths: readings %zu, words %zu, offsets %zu, quads %zu, answers %zu and "
-           "%zu; plain: counts %lu, %lu, %lu, mesh %lu, %lu, %lu; readings",
+    printf("  %s; axes %lu, %lu, %lu; t %u; noise %lu; lengths: readings %zu, words %zu, offsets %zu, quads %zu, "
+           "answers %zu and %zu; plain: counts %lu, %lu, %lu, mesh %lu, %lu, %lu; readings",
            q->name, (unsigned long)q->length[0], (unsigned long)q->length[1], (unsigned long)q->length[2],
-           (unsigned)q->t, q->readings_len, q->words_len, q->offsets_len, q->quads_len, q->counted_len, q->answer_len,
-           (unsigned long)counted[0], (unsigned long)counted[1], (unsigned long)counted[2], (unsigned long)answer[0],
-           (unsigned long)answer[1], (unsigned long)answer[2]);
+           (unsigned)q->t, (unsigned long)q->noise, q->readings_len, q->words_len, q->offsets_len, q->quads_len,
+           q->counted_len, q->answer_len, (unsigned long)counted[0], (unsigned long)counted[1],
+           (unsigned long)counted[2], (unsigned long)answer[0], (unsigned long)answer[1], (unsigned long)answer[2]);
     for (size_t index = 0; index < q->readings_len && index < PRINTED_READINGS; index++)
         printf(" %.9g", (double)q->readings[index]);
     printf("%s\n", q->readings_len > PRINTED_READINGS ? " ..." : "");
@@ -336,9 +338,10 @@ static void ask_plain(const struct question *q)
     const uint32_t *n = q->length;
     lend_others(q);
     asking("plain_readings_counts and plain_readings_mesh");
-    plain_readings_counts(n[0], n[1], n[2], q->readings, q->readings_len, q->t, counted, ANSWER);
-    plain_readings_mesh(n[0], n[1], n[2], q->readings, q->readings_len, q->t, start(&other_words), q->words_len,
-                        start(&other_offsets), q->offsets_len, start(&other_quads), q->quads_len, answer, ANSWER);
+    plain_readings_counts(n[0], n[1], n[2], q->readings, q->readings_len, q->t, q->noise, counted, ANSWER);
+    plain_readings_mesh(n[0], n[1], n[2], q->readings, q->readings_len, q->t, q->noise, start(&other_words),
+                        q->words_len, start(&other_offsets), q->offsets_len, start(&other_quads), q->quads_len, answer,
+                        ANSWER);
     asking("the comparison");
 }
 
@@ -365,8 +368,8 @@ static void run_counts(const struct question *q)
     lend(&counted_place, q->counted_len, q->lying);
     hand_out_to_read(&readings_place);
     hand_out_all(READINGS_COUNTS, q->lying, wanted, 1);
-    parsniprow_readings_counts(n[0], n[1], n[2], start(&readings_place), q->readings_len, q->t, start(&counted_place),
-                               q->counted_len);
+    parsniprow_readings_counts(n[0], n[1], n[2], start(&readings_place), q->readings_len, q->t, q->noise,
+                               start(&counted_place), q->counted_len);
     take_back_read(&readings_place);
     if (first_to_differ(READINGS_COUNTS, wanted, 1))
         print_question(q);
@@ -389,9 +392,9 @@ static void run_mesh(const struct question *q)
     lend(&answer_place, q->answer_len, q->lying);
     hand_out_to_read(&readings_place);
     hand_out_all(READINGS_MESH, q->lying, wanted, 4);
-    parsniprow_readings_mesh(n[0], n[1], n[2], start(&readings_place), q->readings_len, q->t, start(&words_place),
-                             q->words_len, start(&offsets_place), q->offsets_len, start(&quads_place), q->quads_len,
-                             start(&answer_place), q->answer_len);
+    parsniprow_readings_mesh(n[0], n[1], n[2], start(&readings_place), q->readings_len, q->t, q->noise,
+                             start(&words_place), q->words_len, start(&offsets_place), q->offsets_len,
+                             start(&quads_place), q->quads_len, start(&answer_place), q->answer_len);
     take_back_read(&readings_place);
     if (first_to_differ(READINGS_MESH, wanted, 4))
         print_question(q);
@@ -410,8 +413,8 @@ static void compare_with_block(const struct question *q)
     uint32_t of_counts[ANSWER], of_mesh[ANSWER];
     lend_others(q);
     asking("parsniprow_counts and parsniprow_mesh");
-    parsniprow_counts(n[0], n[1], n[2], q->greys, q->readings_len, q->t, of_counts, ANSWER);
-    parsniprow_mesh(n[0], n[1], n[2], q->greys, q->readings_len, q->t, start(&other_words), q->words_len,
+    parsniprow_counts(n[0], n[1], n[2], q->greys, q->readings_len, q->t, q->noise, of_counts, ANSWER);
+    parsniprow_mesh(n[0], n[1], n[2], q->greys, q->readings_len, q->t, q->noise, start(&other_words), q->words_len,
                     start(&other_offsets), q->offsets_len, start(&other_quads), q->quads_len, of_mesh, ANSWER);
     asking("the comparison");
     if (!holds(&counted_place, of_counts, ANSWER) && first_to_fail("not the counts of the block of grey values"))
@@ -476,6 +479,9 @@ static void count_refused(const struct question *q, unsigned given)
     tally.one_less[0] += given == VERTICES && q->words_len + 1 == 2 * (size_t)q->vertices;
     tally.one_less[1] += given == VERTICES && q->offsets_len + 1 == 3 * (size_t)q->vertices;
     tally.one_less[2] += given == QUADS && q->quads_len + 1 == 4 * (size_t)q->quads;
+    tally.noise_fault += is_fault(given) && q->noise > 0;
+    tally.noise_room[0] += given == VERTICES && q->noise > 0;
+    tally.noise_room[1] += given == QUADS && q->noise > 0;
     if (is_fault(given))
         count_fault_place(q, answer[1]);
     count_block_fault(&tally.faults, answer, q->length, q->readings_len);
@@ -515,6 +521,29 @@ static void count_values(const struct question *q)
     tally.step_below_ceiling += below_ceiling > 0;
 }
 
+/* What a noise figure does to an accepted block of some length, beside noise 0. */
+static void count_noise(const struct question *q)
+{
+    uint32_t plainly[ANSWER];
+    struct noise_effect effect;
+    tally.no_noise += q->noise == 0;
+    tally.noise += q->noise > 0;
+    if (q->noise == 0 || !q->greys || q->readings_len > SHORT_BLOCK)
+        return;
+    effect = effect_of(q->length, q->t, q->noise, q->greys);
+    tally.at_limit += effect.at_limit > 0;
+    tally.one_above += effect.one_above > 0;
+    tally.parted += effect.parted > 0;
+    asking("parsniprow_readings_counts");
+    parsniprow_readings_counts(q->length[0], q->length[1], q->length[2], q->readings, q->readings_len, q->t, 0, plainly,
+                               ANSWER);
+    asking("the comparison");
+    tally.changed += plainly[1] != answer[1];
+    if ((plainly[0] != 0 || plainly[2] != answer[2] || (effect.parted == 0 && plainly[1] != answer[1])) &&
+        first_to_fail("a noise figure changes quads of readings, or vertices where it parts no face"))
+        print_question(q);
+}
+
 static void count_accepted(const struct question *q)
 {
     const uint32_t *words = start(&words_place);
@@ -537,6 +566,7 @@ static void count_accepted(const struct question *q)
     tally.longer += quads > 0 && q->words_len > 2 * vertices && q->offsets_len > 3 * vertices &&
                     q->quads_len > 4 * quads;
     count_values(q);
+    count_noise(q);
 }
 
 static unsigned row_of(const uint32_t *said)
@@ -589,8 +619,8 @@ static void try_question(const struct question *q)
 
 /* ---- what is asked once ---- */
 
-/* A block of readings, with answer places of the right length and no room for a mesh yet. Patterns and pages beside
-   them take turns. */
+/* A block of readings, with noise 0, answer places of the right length and no room for a mesh yet. Patterns and pages
+   beside them take turns. */
 static struct question next_question(const char *name, const uint32_t length[3], uint16_t t, const float *readings)
 {
     static unsigned turn;
@@ -733,6 +763,7 @@ static void try_hand_block(const struct hand_block *block, enum dress dress)
     fill_hand_block(block, greys);
     for (size_t index = 0; index < block->samples_len; index++)
         readings[index] = dressed(&chance, dress, greys[index]);
+    question.noise = block->noise;
     question.readings_len = block->samples_len;
     question.greys = greys;
     question.vertices = block->vertices;
@@ -758,6 +789,7 @@ static void try_each_place(void)
         float good[2] = {readings[at], readings[behind % count]};
         uint32_t known[ANSWER] = {numbers[at % 4], (uint32_t)at, 0};
         struct question question = next_question("a fault at each place", length, 100, readings);
+        question.noise = (uint32_t)at;
         if (behind < count)
             readings[behind] = faults[(at + 1) % 4];
         readings[at] = faults[at % 4];
@@ -778,9 +810,9 @@ static void try_no_memory(uint32_t ny, size_t more, uint32_t number, uint32_t va
     double offsets[3] = {9, 9, 9};
     void *readings = space(bytes, 0);
     asking("parsniprow_readings_counts");
-    parsniprow_readings_counts(3, ny, 3, readings, readings_len, 0, said[0], ANSWER);
+    parsniprow_readings_counts(3, ny, 3, readings, readings_len, 0, 1, said[0], ANSWER);
     asking("parsniprow_readings_mesh");
-    parsniprow_readings_mesh(3, ny, 3, readings, readings_len, 0, words, 2, offsets, 3, quads, 4, said[1], ANSWER);
+    parsniprow_readings_mesh(3, ny, 3, readings, readings_len, 0, 1, words, 2, offsets, 3, quads, 4, said[1], ANSWER);
     asking("the comparison");
     give_space_back(readings, bytes);
     for (unsigned i = 0; i < 2; i++)
@@ -819,7 +851,7 @@ static void *room_for(size_t count, size_t item)
     return room;
 }
 
-/* A block with long rows or many of them, and samples at the ceiling. */
+/* A block with long rows or many of them, samples at the ceiling and some noise figure. */
 static void try_large(uint32_t nx, uint32_t ny, uint32_t nz, enum kind kind, uint16_t t)
 {
     uint32_t length[3] = {nx, ny, nz}, known[ANSWER];
@@ -832,8 +864,9 @@ static void try_large(uint32_t nx, uint32_t ny, uint32_t nz, enum kind kind, uin
     add_ceilings(&chance, length, t, greys);
     for (size_t index = 0; index < count; index++)
         readings[index] = mixed(&chance, greys[index]);
+    question.noise = choose_noise(&chance, length, t, greys);
     asking("plain_counts");
-    plain_counts(nx, ny, nz, greys, count, t, known, ANSWER);
+    plain_counts(nx, ny, nz, greys, count, t, question.noise, known, ANSWER);
     question.greys = greys;
     question.vertices = known[1];
     question.quads = known[2];
@@ -873,8 +906,9 @@ static void try_largest_block(void)
                 greys[index] = grey_of_tube(i, j, k);
                 readings[index] = mixed(&chance, greys[index]);
             }
+    question.noise = 100000;
     asking("plain_counts");
-    plain_counts(length[0], length[1], length[2], greys, count, question.t, known, ANSWER);
+    plain_counts(length[0], length[1], length[2], greys, count, question.t, question.noise, known, ANSWER);
     question.greys = greys;
     question.vertices = known[1];
     question.quads = known[2];
@@ -1063,7 +1097,8 @@ static struct question choose_question(struct chance *chance)
     q = next_question("", length, choose_threshold(chance), readings_now);
     choose_good(chance, &q, is_short);
     good = q.readings_len;
-    plain_counts(length[0], length[1], length[2], greys_now, good, q.t, counts, ANSWER);
+    q.noise = choose_noise(chance, length, q.t, greys_now);
+    plain_counts(length[0], length[1], length[2], greys_now, good, q.t, q.noise, counts, ANSWER);
     q.vertices = counts[1];
     q.quads = counts[2];
     choose_rooms(chance, &q, wrongs);
@@ -1237,6 +1272,16 @@ static void tally_accepted(void)
     tally_case("all rooms exact", tally.exact);
     tally_case("all rooms longer", tally.longer);
     tally_case("held against their grey values", tally.held);
+    tally_title("blocks of readings with a noise figure");
+    tally_case("0", tally.no_noise);
+    tally_case("above", tally.noise);
+    tally_case("a reading at fault", tally.noise_fault);
+    tally_case("refusal 5", tally.noise_room[0]);
+    tally_case("refusal 6", tally.noise_room[1]);
+    tally_case("noise at the limit of a face", tally.at_limit);
+    tally_case("one above", tally.one_above);
+    tally_case("a face parted by noise alone", tally.parted);
+    tally_case("vertices changed against noise 0", tally.changed);
 }
 
 uint64_t tally_readings(void)

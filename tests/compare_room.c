@@ -3,7 +3,8 @@
    with one long axis; and one about which one thing or several may be wrong, so that every refusal and every order of
    two refusals occurs. Where the library counts the crossed edges, its vertices and quads must keep both bounds. For
    blocks of up to 300000 samples its mesh must be accepted in rooms that are reserved by the crossed edges alone, and
-   so must what is asked of a short mesh afterwards.
+   so must what is asked of a short mesh afterwards. Vertices, quads and mesh are those with some noise figure, of which
+   the crossed edges know nothing.
    Assumes nothing more than compare.h. */
 #include "compare.h"
 
@@ -27,6 +28,7 @@ struct question {
     const char *name;
     uint32_t length[3];
     uint16_t t;
+    uint32_t noise; /* of the mesh, and not of the crossed edges */
     const uint16_t *samples;
     size_t samples_len, answer_len;
     struct lying lying;
@@ -55,6 +57,7 @@ static struct {
     uint64_t last_sample[2], last_row[2], last_plane[2]; /* where ny is under 256, and where it is 256 */
     uint64_t none, all_on_faces, some_on_faces, no_multiple, ceilings, long_axes[3][LONG_AXES];
     uint64_t most_vertices, most_of_many, most_quads, fewer_vertices, fewer_quads, meshed, asked_after;
+    uint64_t noise, at_limit, one_above, more_by_noise, fewer_by_noise, most_by_noise;
     uint64_t answers[REFUSALS + 1], orders[REFUSALS + 1][REFUSALS + 1], all_three;
     uint64_t zero, top;
     struct block_faults faults;
@@ -124,10 +127,12 @@ static void count_question(const struct question *question)
 
 static void print_question(const struct question *question)
 {
-    printf("  %s; axes %lu, %lu, %lu; t %u; lengths: samples %zu, answer %zu; plain: %lu, %lu, %lu", question->name,
-           (unsigned long)question->length[0], (unsigned long)question->length[1], (unsigned long)question->length[2],
-           (unsigned)question->t, question->samples_len, question->answer_len, (unsigned long)answer[0],
-           (unsigned long)answer[1], (unsigned long)answer[2]);
+    printf("  %s; axes %lu, %lu, %lu; t %u; noise of the mesh %lu; lengths: samples %zu, answer %zu; "
+           "plain: %lu, %lu, %lu",
+           question->name, (unsigned long)question->length[0], (unsigned long)question->length[1],
+           (unsigned long)question->length[2], (unsigned)question->t, (unsigned long)question->noise,
+           question->samples_len, question->answer_len, (unsigned long)answer[0], (unsigned long)answer[1],
+           (unsigned long)answer[2]);
     if (counted[1] > 0)
         printf("; counts of the library: %lu, %lu", (unsigned long)counted[1], (unsigned long)counted[2]);
     printf("; samples");
@@ -160,11 +165,34 @@ static void check_bounds(const struct question *q)
 {
     uint64_t edges = answer[1];
     asking("parsniprow_counts");
-    parsniprow_counts(q->length[0], q->length[1], q->length[2], q->samples, q->samples_len, q->t, counted, ANSWER);
+    parsniprow_counts(q->length[0], q->length[1], q->length[2], q->samples, q->samples_len, q->t, q->noise, counted,
+                      ANSWER);
     asking("the comparison");
     if (counted[0] != 0 || 3 * (uint64_t)counted[1] > 4 * edges || counted[2] > edges)
         if (first_to_fail("more vertices or quads than the crossed edges allow"))
             print_question(q);
+}
+
+/* Of a block with a noise figure that has been counted: how it stands beside noise 0. */
+static void count_noise(const struct question *q)
+{
+    uint32_t plainly[ANSWER];
+    struct noise_effect effect;
+    if (q->noise == 0 || q->samples_len > SHORT_BLOCK)
+        return;
+    asking("parsniprow_counts");
+    parsniprow_counts(q->length[0], q->length[1], q->length[2], q->samples, q->samples_len, q->t, 0, plainly, ANSWER);
+    asking("the comparison");
+    effect = effect_of(q->length, q->t, q->noise, q->samples);
+    if ((plainly[0] != 0 || plainly[2] != counted[2] || (effect.parted == 0 && plainly[1] != counted[1])) &&
+        first_to_fail("a noise figure changes quads, or vertices where it parts no face"))
+        print_question(q);
+    tally.noise++;
+    tally.at_limit += effect.at_limit > 0;
+    tally.one_above += effect.one_above > 0;
+    tally.more_by_noise += counted[1] > plainly[1];
+    tally.fewer_by_noise += counted[1] < plainly[1];
+    tally.most_by_noise += counted[1] > plainly[1] && 3 * (uint64_t)counted[1] == 4 * (uint64_t)answer[1];
 }
 
 /* As a caller does who knows the crossed edges and nothing else of the mesh. */
@@ -186,7 +214,7 @@ static void run_mesh(const struct question *q)
                               {&quads_place, start(&quads_place), 4 * (size_t)counted[2]}};
     hand_out_to_read(&samples_place);
     hand_out_all(MESH, q->lying, wanted, 4);
-    parsniprow_mesh(q->length[0], q->length[1], q->length[2], start(&samples_place), q->samples_len, q->t,
+    parsniprow_mesh(q->length[0], q->length[1], q->length[2], start(&samples_place), q->samples_len, q->t, q->noise,
                     start(&words_place), words_place.inside / words_place.item, start(&offsets_place),
                     offsets_place.inside / offsets_place.item, start(&quads_place),
                     quads_place.inside / quads_place.item, start(&mesh_place), ANSWER);
@@ -234,6 +262,7 @@ static void try_question(const struct question *question)
     tally.blocks++;
     if (answer[0] == 0 && holds(&answer_place, answer, ANSWER)) {
         check_bounds(question);
+        count_noise(question);
         if (question->samples_len <= MESHED_SAMPLES) {
             reserve_rooms(question);
             run_mesh(question);
@@ -294,6 +323,7 @@ static void try_hand_block(const struct hand_block *block)
         for (unsigned beside = 0; beside < 2 * BESIDES; beside++) {
             struct question question = next_question(block->name, block->length, samples);
             question.t = block->t;
+            question.noise = block->noise;
             question.samples_len = block->samples_len;
             question.answer_len = answer_len;
             try_question(&question);
@@ -305,14 +335,15 @@ static void try_hand_block(const struct hand_block *block)
         }
 }
 
-/* All edges are crossed. At 110 and 0 no metal is joined across a face, so each cube has four vertices. Either value
-   stands first. */
+/* All edges are crossed. At 110 and 0 no metal is joined across a face, whatever the noise figure is, so each cube has
+   four vertices. Either value stands first. */
 static void try_board(uint32_t nx, uint32_t ny, uint32_t nz)
 {
     uint32_t length[3] = {nx, ny, nz};
     for (unsigned is_metal_first = 0; is_metal_first < 2; is_metal_first++) {
         struct question question = next_question("a board", length, fixed_samples);
         fill_board(length, is_metal_first ? 110 : 0, is_metal_first ? 0 : 110, fixed_samples);
+        question.noise = nx % 2 ? 0 : 9900;
         try_known(&question, all_edges(length));
         expect_mesh(&question, 4 * (nx - 1) * (ny - 1) * (nz - 1), inner_edges(length));
         tally.boards++;
@@ -382,14 +413,17 @@ static void try_all_boxes(void)
 }
 
 /* Each grain has six crossed edges, eight vertices and six quads: both bounds are reached. Close grains of metal at 110
-   in hollow at 0 are not joined across a face, nor are close pores at 90 in metal at 200. */
+   in hollow at 0 are not joined across a face, nor are close pores at 90 in metal at 200, up to a noise figure of 9900.
+   Close grains of metal at 200 in hollow at 0 are tied, so with a noise figure of 1 they are not joined. */
 static void try_grains(uint32_t nx, uint32_t ny, uint32_t nz)
 {
     uint32_t length[3] = {nx, ny, nz};
-    for (unsigned which = 0; which < 4; which++) {
-        int is_metal = which % 2 == 0, is_close = which / 2;
+    for (unsigned which = 0; which < 5; which++) {
+        int is_metal = which % 2 == 0, is_close = which >= 2, is_tied = which == 4;
         struct question question = next_question("grains that are not joined", length, fixed_samples);
-        uint32_t grains = fill_grains(length, is_close, is_metal ? 110 : 90, is_metal ? 0 : 200, fixed_samples);
+        uint16_t grain = is_tied ? 200 : is_metal ? 110 : 90;
+        uint32_t grains = fill_grains(length, is_close, grain, is_metal ? 0 : 200, fixed_samples);
+        question.noise = is_tied ? 1 : is_close ? 9900 : UINT32_MAX;
         try_known(&question, 6 * grains);
         expect_mesh(&question, 8 * grains, 6 * grains);
         tally.grains++;
@@ -450,8 +484,17 @@ void try_largest_blocks(void)
 
 /* ---- blocks with a block ---- */
 
+/* The noise figure, where the block and its threshold are good ones; else any. */
+static uint32_t noise_for(struct chance *chance, const struct question *question)
+{
+    if (due(question) == 0)
+        return choose_noise(chance, question->length, question->t, question->samples);
+    return (uint32_t)chance_below(chance, (uint64_t)UINT32_MAX + 1);
+}
+
 static void choose_places(struct chance *chance, struct question *question)
 {
+    question->noise = noise_for(chance, question);
     question->answer_len = choose_reach(chance, ANSWER);
     question->lying = choose_lying(chance);
     question->ceilings_beside = chance_in_100(chance, 50);
@@ -459,7 +502,7 @@ static void choose_places(struct chance *chance, struct question *question)
 
 static void try_own_block(const struct trial *trial, struct chance *chance)
 {
-    struct question question = {"the block", {0, 0, 0}, trial->t, trial->samples, 0, 0, {PATTERNS, 0}, 0};
+    struct question question = {"the block", {0, 0, 0}, trial->t, 0, trial->samples, 0, 0, {PATTERNS, 0}, 0};
     memcpy(question.length, trial->length, sizeof question.length);
     question.samples_len = (size_t)sample_product(trial->length);
     choose_places(chance, &question);
@@ -473,7 +516,8 @@ static void try_long_block(struct chance *chance)
 {
     static uint16_t samples[LONGEST_AXIS * 3 * 3];
     enum kind kind = (enum kind)chance_below(chance, KINDS);
-    struct question question = {kind_names[kind], {0, 0, 0}, choose_threshold(chance), samples, 0, 0, {PATTERNS, 0}, 0};
+    uint16_t t = choose_threshold(chance);
+    struct question question = {kind_names[kind], {0, 0, 0}, t, 0, samples, 0, 0, {PATTERNS, 0}, 0};
     for (unsigned axis = 0; axis < 3; axis++)
         question.length[axis] = SHORTEST_AXIS + (uint32_t)chance_below(chance, 2);
     question.length[chance_below(chance, 3)] = long_axes[chance_below(chance, LONG_AXES)];
@@ -490,7 +534,8 @@ static void try_long_block(struct chance *chance)
 static void try_bad_block(struct chance *chance)
 {
     static uint16_t samples[MOST_ANY_SAMPLES];
-    struct question question = {"some block", {0, 0, 0}, choose_threshold(chance), samples, 0, 0, {PATTERNS, 0}, 0};
+    uint16_t t = choose_threshold(chance);
+    struct question question = {"some block", {0, 0, 0}, t, 0, samples, 0, 0, {PATTERNS, 0}, 0};
     choose_any_axes(chance, chance_in_100(chance, 40), question.length);
     question.samples_len = choose_any_count(chance, chance_in_100(chance, 40), sample_product(question.length));
     for (size_t index = 0; index < question.samples_len; index++)
@@ -563,6 +608,13 @@ static void tally_answered(void)
     tally_case("fewer quads", tally.fewer_quads);
     tally_case("meshes in reserved rooms", tally.meshed);
     tally_case("and asked about", tally.asked_after);
+    tally_title("vertices with a noise figure");
+    tally_case("blocks", tally.noise);
+    tally_case("noise at the limit of a face", tally.at_limit);
+    tally_case("one above", tally.one_above);
+    tally_case("more than with noise 0", tally.more_by_noise);
+    tally_case("as many as there can be", tally.most_by_noise);
+    tally_case("fewer than with noise 0", tally.fewer_by_noise);
 }
 
 static void tally_refused(void)

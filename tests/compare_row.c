@@ -2,8 +2,9 @@
    hand; columns, bars and boards of many layers, whose counts a formula gives; and more thresholds than any memory has.
    With each block: a row for its own samples; now and then a row for a block of many layers, since the library may take
    16 layers at a time; and a row for a block about which one thing or several may be wrong, so that every refusal and
-   every order of two refusals occurs. Where the row is accepted, what stands there for each threshold must also be what
-   the library's counts answer for this threshold alone.
+   every order of two refusals occurs. A row has one noise figure for all its thresholds. Where the row is accepted,
+   what stands there for each threshold must also be what the library's counts answer for this threshold alone, with the
+   same noise figure.
    Assumes nothing more than compare.h. */
 #include "compare.h"
 
@@ -31,6 +32,7 @@ struct question {
     const char *name;
     uint32_t length[3];
     const uint16_t *samples, *thresholds;
+    uint32_t noise;
     size_t samples_len, thresholds_len, answers_len, answer_len;
     struct lying lying;
     int ceilings_beside; /* so that a reading beside the samples or the thresholds changes the answer */
@@ -74,6 +76,7 @@ static struct {
     uint64_t side_by_side, apart, again_counted, again_refused, all_alike, all_different, falling;
     uint64_t at_sample, above_sample, nothing, no_quad, quads, different;
     uint64_t under_17, plane_counts[PLANE_COUNTS], other_planes;
+    uint64_t by_noise, no_noise, noise, at_limit, one_above, changed, some_changed, noise_refused[REFUSALS];
 } tally;
 
 /* How the numbers 3 stand in an accepted row. */
@@ -219,6 +222,7 @@ static void count_refused(const struct question *q, enum refusal given)
     for (size_t i = 0; !q->is_no_memory && i < q->thresholds_len; i++)
         has_three = has_three || is_refused(q->thresholds[i]);
     tally.three_refused[given] += has_three;
+    tally.noise_refused[given] += q->noise > 0;
     tally.empty_refused[given] += q->thresholds_len == 0;
     tally.seventeen += given == MANY && q->thresholds_len == MOST_THRESHOLDS + 1;
     tally.more += given == MANY && q->thresholds_len > MOST_THRESHOLDS + 1;
@@ -246,9 +250,9 @@ static void count_question(const struct question *q)
 static void print_question(const struct question *q)
 {
     size_t written = answer[0] == 0 ? ANSWER * q->thresholds_len : 0;
-    printf("  %s; axes %lu, %lu, %lu; lengths: samples %zu, thresholds %zu, answers %zu, answer %zu", q->name,
-           (unsigned long)q->length[0], (unsigned long)q->length[1], (unsigned long)q->length[2], q->samples_len,
-           q->thresholds_len, q->answers_len, q->answer_len);
+    printf("  %s; axes %lu, %lu, %lu; noise %lu; lengths: samples %zu, thresholds %zu, answers %zu, answer %zu",
+           q->name, (unsigned long)q->length[0], (unsigned long)q->length[1], (unsigned long)q->length[2],
+           (unsigned long)q->noise, q->samples_len, q->thresholds_len, q->answers_len, q->answer_len);
     printf("; plain: %lu, %lu, %lu; thresholds", (unsigned long)answer[0], (unsigned long)answer[1],
            (unsigned long)answer[2]);
     for (size_t i = 0; !q->is_no_memory && i < q->thresholds_len; i++)
@@ -267,7 +271,7 @@ static void ask_plain(const struct question *q)
     asking("plain_thresholds");
     memset(answers, 0, sizeof answers);
     plain_thresholds(q->length[0], q->length[1], q->length[2], q->samples, q->samples_len, q->thresholds,
-                     q->thresholds_len, answers, q->answers_len, answer, ANSWER);
+                     q->thresholds_len, q->noise, answers, q->answers_len, answer, ANSWER);
 }
 
 static void lend_copy(struct lent *place, const uint16_t *items, size_t count, const struct question *q)
@@ -292,7 +296,7 @@ static void run_row(const struct question *q)
     hand_out_to_read(&thresholds_place);
     hand_out_all(THRESHOLDS, q->lying, wanted, 2);
     parsniprow_thresholds(q->length[0], q->length[1], q->length[2], start(&samples_place), q->samples_len,
-                          q->is_no_memory ? q->thresholds : start(&thresholds_place), q->thresholds_len,
+                          q->is_no_memory ? q->thresholds : start(&thresholds_place), q->thresholds_len, q->noise,
                           start(&answers_place), q->answers_len, start(&answer_place), q->answer_len);
     take_back_read(&samples_place);
     take_back_read(&thresholds_place);
@@ -310,8 +314,8 @@ static void ask_one_by_one(const struct question *q)
     asking("parsniprow_counts");
     for (size_t i = 0; i < q->thresholds_len; i++) {
         uint32_t alone[ANSWER];
-        parsniprow_counts(q->length[0], q->length[1], q->length[2], q->samples, q->samples_len, q->thresholds[i], alone,
-                          ANSWER);
+        parsniprow_counts(q->length[0], q->length[1], q->length[2], q->samples, q->samples_len, q->thresholds[i],
+                          q->noise, alone, ANSWER);
         if (memcmp(written + ANSWER * i, alone, sizeof alone) == 0)
             continue;
         if (first_to_fail("a threshold of a row is answered otherwise than alone"))
@@ -320,13 +324,44 @@ static void ask_one_by_one(const struct question *q)
     asking("the comparison");
 }
 
+/* How many thresholds of an accepted row have other counts than with noise 0, and which limits they meet. */
+static void count_noise(const struct question *q)
+{
+    uint64_t changed = 0, at_limit = 0, one_above = 0, counted = 0;
+    tally.no_noise += q->noise == 0;
+    tally.noise += q->noise > 0;
+    if (q->noise == 0 || q->samples_len > SCANNED_SAMPLES)
+        return;
+    asking("parsniprow_counts");
+    for (size_t i = 0; i < q->thresholds_len; i++) {
+        uint32_t plainly[ANSWER];
+        struct noise_effect effect;
+        if (is_refused(q->thresholds[i]))
+            continue;
+        parsniprow_counts(q->length[0], q->length[1], q->length[2], q->samples, q->samples_len, q->thresholds[i], 0,
+                          plainly, ANSWER);
+        effect = effect_of(q->length, q->thresholds[i], q->noise, q->samples);
+        counted++;
+        changed += plainly[1] != three(i)[1];
+        at_limit += effect.at_limit > 0;
+        one_above += effect.one_above > 0;
+    }
+    asking("the comparison");
+    tally.changed += changed > 0;
+    tally.some_changed += changed > 0 && changed < counted;
+    tally.at_limit += at_limit > 0;
+    tally.one_above += one_above > 0;
+}
+
 /* After a long block its place is given back, so that with short ones no long pages are opened and closed. */
 static void try_question(const struct question *q)
 {
     ask_plain(q);
     run_row(q);
-    if (answer[0] == 0)
+    if (answer[0] == 0) {
         ask_one_by_one(q);
+        count_noise(q);
+    }
     count_question(q);
     if (q->samples_len > SHORT_BLOCK)
         give_back(&samples_place);
@@ -334,7 +369,6 @@ static void try_question(const struct question *q)
 
 /* ---- what is asked once ---- */
 
-/* The most samples of a column, a bar or a board. */
 /* Planes of up to 4 by 4 samples, as many as there can be, or wide planes, of which there are some. */
 enum { WIDE_AXIS = 130, WIDE_PLANES = 34, FIXED_SAMPLES = WIDE_AXIS * 3 * WIDE_PLANES };
 
@@ -473,6 +507,7 @@ static void try_hand_block(const struct hand_block *block)
     uint16_t samples[MOST_HAND_SAMPLES], thresholds[] = {CEILING, block->t, 0, block->t};
     uint32_t known[] = {3, CEILING, 0, 0, block->vertices, block->quads, 3, 0, 0, 0, block->vertices, block->quads};
     struct question question = next_question(block->name, block->length, samples, thresholds, 4);
+    question.noise = block->noise;
     question.samples_len = block->samples_len;
     fill_hand_block(block, samples);
     try_question(&question);
@@ -483,8 +518,32 @@ static void try_hand_block(const struct hand_block *block)
     tally.by_hand++;
 }
 
+/* The tied cube as a block by two thresholds. At t = 100 both products are 10000; at t = 50 they are 22500 and 2500. */
+static void try_noise_rows(void)
+{
+    static const uint16_t samples[8] = {200, 0, 0, 200, 0, 0, 0, 0}, thresholds[2] = {100, 50};
+    static const uint32_t length[3] = {2, 2, 2};
+    static const struct {
+        const char *name;
+        uint32_t noise, known[2 * ANSWER];
+    } rows[] = {{"a tied cube, noise 0", 0, {0, 1, 0, 0, 1, 0}},
+                {"a tied cube, noise 1", 1, {0, 2, 0, 0, 1, 0}},
+                {"a tied cube, noise 20000", 20000, {0, 2, 0, 0, 1, 0}},
+                {"a tied cube, noise 20001", 20001, {0, 2, 0, 0, 2, 0}},
+                {"a tied cube, the greatest noise", UINT32_MAX, {0, 2, 0, 0, 2, 0}}};
+    for (size_t i = 0; i < sizeof rows / sizeof *rows; i++)
+        for (unsigned beside = 0; beside < 2 * BESIDES; beside++) {
+            struct question question = next_question(rows[i].name, length, samples, thresholds, 2);
+            question.noise = rows[i].noise;
+            try_question(&question);
+            expect_answers(&question, rows[i].known);
+            tally.by_noise++;
+        }
+}
+
 static void try_hand_rows(void)
 {
+    try_noise_rows();
     for (size_t i = 0; i < sizeof hand_rows / sizeof *hand_rows; i++)
         try_hand_row(&hand_rows[i]);
     for (size_t i = 0; i < HAND_BLOCKS; i++)
@@ -542,13 +601,15 @@ static void try_bars(uint32_t nx, uint32_t x, uint32_t nz, uint32_t shift)
     tally.bars++;
 }
 
-/* Each cube has four vertices, whether metal or hollow is joined across its faces, up to the value of the metal. */
+/* Each cube has four vertices, whether metal or hollow is joined across its faces, up to the value of the metal. So no
+   noise figure changes their number. */
 static void try_board(uint32_t nx, uint32_t ny, uint32_t nz)
 {
     static const uint16_t thresholds[] = {110, 0, 1, 55, 111, 56, 111, CEILING, 110};
     uint32_t length[3] = {nx, ny, nz}, v = 4 * (nx - 1) * (ny - 1) * (nz - 1), q = inner_edges(length);
     uint32_t known[] = {0, v, q, 3, 0, 0, 0, v, q, 0, v, q, 0, 0, 0, 0, v, q, 0, 0, 0, 3, CEILING, 0, 0, v, q};
     struct question question = next_question("a board", length, fixed_samples, thresholds, 9);
+    question.noise = nx % 4 == 0 ? nz * 100 : 0;
     fill_board(length, nz % 2 ? 110 : 0, nz % 2 ? 0 : 110, fixed_samples);
     try_question(&question);
     expect_answers(&question, known);
@@ -684,18 +745,27 @@ static size_t choose_answers(struct chance *chance, int is_short, size_t thresho
     return how < 4 ? need : how < 8 ? need + 1 + how % 3 : need + (size_t)chance_below(chance, LONGER_ROOM);
 }
 
-/* Asks about a block, of which only the thresholds and the lengths of the places are open yet. */
+/* The noise figure, where the block is a good one: it goes with one of the thresholds. Else any. */
+static uint32_t noise_for(struct chance *chance, const struct question *q)
+{
+    uint16_t t = q->thresholds_len > 0 ? q->thresholds[chance_below(chance, q->thresholds_len)] : 0;
+    if ((due(q) & (1u << AXIS | 1u << COUNT)) == 0 && !is_refused(t))
+        return choose_noise(chance, q->length, t, q->samples);
+    return chance_in_100(chance, 25) ? 0 : (uint32_t)chance_below(chance, (uint64_t)UINT32_MAX + 1);
+}
+
+/* Asks about a block, of which only the thresholds, the noise figure and the lengths of the places are open yet. */
 static void ask_row(struct chance *chance, struct question *q, uint16_t t, int is_many, int is_short)
 {
     q->thresholds_len = is_many ? choose_many(chance) : choose_few(chance, q->samples_len);
     choose_thresholds(chance, q, t);
+    q->noise = noise_for(chance, q);
     q->answers_len = choose_answers(chance, is_short, q->thresholds_len);
     q->answer_len = choose_reach(chance, ANSWER);
     q->lying = choose_lying(chance);
     q->ceilings_beside = chance_in_100(chance, 50);
     try_question(q);
 }
-
 
 static void try_own_block(const struct trial *trial, struct chance *chance)
 {
@@ -756,6 +826,7 @@ static void tally_asked(void)
 {
     tally_title("rows of thresholds, asked once");
     tally_case("worked out by hand", tally.by_hand);
+    tally_case("with a noise figure", tally.by_noise);
     tally_case("one sample in a column", tally.columns);
     tally_case("bars", tally.bars);
     tally_case("boards", tally.boards);
@@ -807,6 +878,13 @@ static void tally_counts(void)
     tally_case("vertices and no quad", tally.no_quad);
     tally_case("quads", tally.quads);
     tally_case("different counts in a row", tally.different);
+    tally_title("noise figures of accepted rows");
+    tally_case("0", tally.no_noise);
+    tally_case("above", tally.noise);
+    tally_case("at the limit of a face", tally.at_limit);
+    tally_case("one above", tally.one_above);
+    tally_case("counts changed against noise 0", tally.changed);
+    tally_case("by some thresholds and not by others", tally.some_changed);
     tally_title("planes of blocks with quads");
     tally_case("under 17", tally.under_17);
     for (unsigned i = 0; i < PLANE_COUNTS; i++) {
@@ -827,6 +905,8 @@ static void tally_refused(void)
         tally_case(name, tally.answers[i]);
         sprintf(name, "refusal %u with 0 or 65535 in the row", refusals[i]);
         tally_case(name, tally.three_refused[i]);
+        sprintf(name, "refusal %u with a noise figure", refusals[i]);
+        tally_case(name, tally.noise_refused[i]);
         sprintf(name, "refusal %u of an empty row", refusals[i]);
         if (i == AXIS || i == COUNT)
             tally_case(name, tally.empty_refused[i]);

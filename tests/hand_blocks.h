@@ -7,14 +7,16 @@
 #include <stddef.h>
 #include <stdint.h>
 
-enum { HAND_BLOCKS = 40, MOST_HAND_SAMPLES = 48, MOST_ODD = 2 };
+enum { HAND_BLOCKS = 55, MOST_HAND_SAMPLES = 48, MOST_ODD = 2 };
 
 /* All samples are alike but for one or two, the odd ones. */
 struct hand_block {
     const char *name;
     uint32_t length[3];
     size_t samples_len; /* which decides about a refusal */
-    uint16_t t, others;
+    uint16_t t;
+    uint32_t noise;
+    uint16_t others;
     unsigned odd_count;
     struct {
         uint32_t at[3];

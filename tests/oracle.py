@@ -4,8 +4,9 @@
     tests/oracle.py            reads standard input and writes standard output, as the program does
     tests/oracle.py samples    writes what crates/run_samples must write, from the cases listed in its main.rt
 
-Loops are walked link by link, and a quad's vertices are searched for; there is no table. Assumes that Python's float is
-IEEE binary64, rounded to nearest."""
+Loops are walked link by link, and a quad's vertices are searched for; there is no table. The program has no noise
+figure, so metal is joined across a doubtful face as with 0. Assumes that Python's float is IEEE binary64, rounded to
+nearest."""
 import os
 import re
 import struct

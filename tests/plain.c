@@ -5,7 +5,8 @@
    after the other, each over the whole mesh, and its head is made by printf. A run of planes remembers the samples of
    the last two planes and nothing of the mesh: with the next plane they are a block of their own, meshed as any other.
    Of a reading only the bits are looked at, with no float arithmetic, and the block of its grey values is put together
-   before it is meshed.
+   before it is meshed. Whether metal is joined across a doubtful face is asked with a noise figure; beside that stands
+   the old rule, which has none.
    Assumes doubles rounded to nearest, each operation by itself (-ffp-contract=off), and floats of 32 bits by IEEE 754
    whose bytes stand as those of a uint32_t. */
 #include "plain.h"
@@ -16,7 +17,7 @@
 
 enum { AXES = 3, CORNERS = 8, EDGES = 12, FACES = 6, MOST_LOOPS = 4, CEILING = 65535, MARK = 4096 };
 enum { SHORTEST_AXIS = 2, LONGEST_AXIS = 256, WORDS = 2, SIDES = 4, ANSWER = 3, CLOSED_ANSWER = 4 };
-enum { MOST_THRESHOLDS = 16, STATE = 7, WORK_PLANES = 6, KEPT_PLANES = 2 };
+enum { MOST_THRESHOLDS = 16, STATE = 8, WORK_PLANES = 6, KEPT_PLANES = 2 };
 enum { FRACTION_BITS = 23, EXPONENT_BITS = 8, NO_EXPONENT = 255, BIAS = 127 };
 enum { MOST_VERTICES = 66325500, WIDEST_SPACING = 1000, MOST_HEAD = 256, DOUBLE_BYTES = 8, INT_BYTES = 4 };
 
@@ -24,15 +25,23 @@ enum { MOST_VERTICES = 66325500, WIDEST_SPACING = 1000, MOST_HEAD = 256, DOUBLE_
 static const unsigned ends[EDGES][2] = {{0, 1}, {2, 3}, {4, 5}, {6, 7}, {0, 2}, {1, 3},
                                         {4, 6}, {5, 7}, {0, 4}, {1, 5}, {2, 6}, {3, 7}};
 
+/* Where it is decided by an old rule or by a set of faces, the noise figure is not looked at. */
+enum decider { BY_NOISE, BY_OLD_RULE, BY_SET };
+
 struct cube {
     uint16_t sample[CORNERS];
     uint16_t t;
+    uint32_t noise;
+    enum decider decider;
+    unsigned set; /* the faces with joined metal, bit f for face f, where the set decides */
 };
 
 struct block {
     size_t length[AXES];
     const uint16_t *samples;
     uint16_t t;
+    uint32_t noise;
+    enum decider decider;
 };
 
 struct refusal {
@@ -116,20 +125,47 @@ static unsigned other_face(unsigned edge, unsigned face)
     return FACES;
 }
 
-/* On a face with four crossed edges: are the positive corners joined? */
-static int joined(const struct cube *cube, unsigned face)
+/* Of a face with four crossed edges: the product of the differences at its positive corners, and at its negative
+   ones. Neither is below 0, and neither has more than 32 bits. */
+struct products {
+    int64_t of_positive, of_negative;
+};
+
+static struct products products_on(const struct cube *cube, unsigned face)
 {
-    int64_t of_positive = 1, of_negative = 1;
+    struct products products = {1, 1};
     for (unsigned corner = 0; corner < CORNERS; corner++) {
         int64_t difference = (int64_t)cube->sample[corner] - (int64_t)cube->t;
         if (!corner_on_face(corner, face))
             continue;
         if (positive(cube->sample[corner], cube->t))
-            of_positive *= difference;
+            products.of_positive *= difference;
         else
-            of_negative *= difference;
+            products.of_negative *= difference;
     }
-    return of_positive >= of_negative;
+    return products;
+}
+
+/* The old rule, which has no noise figure. */
+static int joined_by_old_rule(const struct cube *cube, unsigned face)
+{
+    struct products products = products_on(cube, face);
+    return products.of_positive >= products.of_negative;
+}
+
+/* The rule with a noise figure. The sum has at most 33 bits. */
+static int joined_with_noise(const struct cube *cube, unsigned face)
+{
+    struct products products = products_on(cube, face);
+    return products.of_positive >= products.of_negative + (int64_t)cube->noise;
+}
+
+/* On a face with four crossed edges: are the positive corners joined? */
+static int joined(const struct cube *cube, unsigned face)
+{
+    if (cube->decider == BY_SET)
+        return cube->set >> face & 1;
+    return cube->decider == BY_OLD_RULE ? joined_by_old_rule(cube, face) : joined_with_noise(cube, face);
 }
 
 /* The edge that a crossed edge is linked with on one of its faces. */
@@ -233,7 +269,10 @@ static struct cube cube_at(const struct block *block, size_t number)
     size_t across = block->length[0] - 1, down = block->length[1] - 1;
     size_t i = number % across, j = number / across % down, k = number / across / down;
     struct cube cube;
+    memset(&cube, 0, sizeof cube);
     cube.t = block->t;
+    cube.noise = block->noise;
+    cube.decider = block->decider;
     for (unsigned corner = 0; corner < CORNERS; corner++)
         cube.sample[corner] =
             block->samples[sample_index(block, i + (corner & 1), j + (corner >> 1 & 1), k + (corner >> 2 & 1))];
@@ -463,7 +502,7 @@ static void say_refused(uint32_t *answer, size_t answer_len, struct refusal refu
     say(answer, answer_len, refusal.number, refusal.value, 0);
 }
 
-static struct block block_of(uint32_t nx, uint32_t ny, uint32_t nz, const uint16_t *samples, uint16_t t)
+static struct block block_of(uint32_t nx, uint32_t ny, uint32_t nz, const uint16_t *samples, uint16_t t, uint32_t noise)
 {
     struct block block;
     block.length[0] = nx;
@@ -471,6 +510,8 @@ static struct block block_of(uint32_t nx, uint32_t ny, uint32_t nz, const uint16
     block.length[2] = nz;
     block.samples = samples;
     block.t = t;
+    block.noise = noise;
+    block.decider = BY_NOISE;
     return block;
 }
 
@@ -687,7 +728,7 @@ static uint32_t longest_search(uint32_t n, const uint32_t *quads, size_t quads_l
 
 /* A mesh that is to be drawn, with the axes of its block and the spacing along each. */
 struct drawing {
-    struct block block; /* its samples and threshold are not used */
+    struct block block; /* its samples, threshold and noise figure are not used */
     const uint32_t *words, *quads;
     const double *offsets;
     size_t words_len, offsets_len, quads_len;
@@ -829,7 +870,7 @@ static void draw(const struct drawing *drawing, uint8_t *file)
 
 /* A run, as its state tells it. */
 struct run {
-    uint32_t length[AXES], vertices, quads, planes;
+    uint32_t length[AXES], noise, vertices, quads, planes;
     uint16_t t;
 };
 
@@ -841,9 +882,10 @@ static struct run run_of(const uint32_t *state, size_t state_len)
     put_words(items, STATE, state, state_len);
     memcpy(run.length, items, sizeof run.length);
     run.t = (uint16_t)items[3];
-    run.vertices = items[4];
-    run.quads = items[5];
-    run.planes = items[6];
+    run.noise = items[4];
+    run.vertices = items[5];
+    run.quads = items[6];
+    run.planes = items[7];
     return run;
 }
 
@@ -852,9 +894,10 @@ static void put_run(uint32_t *state, size_t state_len, const struct run *run)
     uint32_t items[STATE];
     memcpy(items, run->length, sizeof run->length);
     items[3] = run->t;
-    items[4] = run->vertices;
-    items[5] = run->quads;
-    items[6] = run->planes;
+    items[4] = run->noise;
+    items[5] = run->vertices;
+    items[6] = run->quads;
+    items[7] = run->planes;
     put_words(state, state_len, items, STATE);
 }
 
@@ -914,7 +957,7 @@ static void stack_planes(struct part *part, const struct run *run, const uint16_
         for (size_t at = 0; at < size; at++)
             part->samples[(part->kept - 1 - from) * size + at] = (uint16_t)work[from * size + at];
     memcpy(part->samples + part->kept * size, plane, size * sizeof *plane);
-    part->block = block_of(run->length[0], run->length[1], part->kept + 1, part->samples, run->t);
+    part->block = block_of(run->length[0], run->length[1], part->kept + 1, part->samples, run->t, run->noise);
 }
 
 /* The caller frees it. */
@@ -1080,21 +1123,19 @@ void plain_edge(uint16_t p, uint16_t q, uint16_t t, double *fraction, size_t fra
     put_doubles(fraction, fraction_len, &found, 1);
 }
 
-void plain_cube(uint16_t c0, uint16_t c1, uint16_t c2, uint16_t c3, uint16_t c4, uint16_t c5, uint16_t c6, uint16_t c7,
-                uint16_t t, uint32_t *words, size_t words_len, double *offsets, size_t offsets_len, uint32_t *answer,
-                size_t answer_len)
+static void say_cube(const struct cube *cube, uint32_t *words, size_t words_len, double *offsets, size_t offsets_len,
+                     uint32_t *answer, size_t answer_len)
 {
-    struct cube cube = {{c0, c1, c2, c3, c4, c5, c6, c7}, t};
-    struct refusal refusal = check_threshold(t);
+    struct refusal refusal = check_threshold(cube->t);
     uint32_t masks[MOST_LOOPS], items[MOST_LOOPS] = {0};
     double places[AXES * MOST_LOOPS] = {0.0};
     if (refusal.number) {
         say_refused(answer, answer_len, refusal);
     } else {
-        unsigned count = loops(&cube, masks);
+        unsigned count = loops(cube, masks);
         for (unsigned loop = 0; loop < count; loop++) {
-            items[loop] = word_of(&cube, masks[loop]);
-            place(&cube, masks[loop], places + AXES * loop);
+            items[loop] = word_of(cube, masks[loop]);
+            place(cube, masks[loop], places + AXES * loop);
         }
         say(answer, answer_len, 0, count, 0);
     }
@@ -1102,11 +1143,35 @@ void plain_cube(uint16_t c0, uint16_t c1, uint16_t c2, uint16_t c3, uint16_t c4,
     put_doubles(offsets, offsets_len, places, AXES * MOST_LOOPS);
 }
 
+void plain_cube(uint16_t c0, uint16_t c1, uint16_t c2, uint16_t c3, uint16_t c4, uint16_t c5, uint16_t c6, uint16_t c7,
+                uint16_t t, uint32_t noise, uint32_t *words, size_t words_len, double *offsets, size_t offsets_len,
+                uint32_t *answer, size_t answer_len)
+{
+    struct cube cube = {{c0, c1, c2, c3, c4, c5, c6, c7}, t, noise, BY_NOISE, 0};
+    say_cube(&cube, words, words_len, offsets, offsets_len, answer, answer_len);
+}
+
+void plain_old_cube(const uint16_t corner[8], uint16_t t, uint32_t words[4], double offsets[12], uint32_t answer[3])
+{
+    struct cube cube = {{0}, t, 0, BY_OLD_RULE, 0};
+    memcpy(cube.sample, corner, sizeof cube.sample);
+    say_cube(&cube, words, MOST_LOOPS, offsets, AXES * MOST_LOOPS, answer, ANSWER);
+}
+
+void plain_set_cube(const uint16_t corner[8], uint16_t t, unsigned set, uint32_t words[4])
+{
+    struct cube cube = {{0}, t, 0, BY_SET, set};
+    double offsets[AXES * MOST_LOOPS];
+    uint32_t answer[ANSWER];
+    memcpy(cube.sample, corner, sizeof cube.sample);
+    say_cube(&cube, words, MOST_LOOPS, offsets, AXES * MOST_LOOPS, answer, ANSWER);
+}
+
 void plain_crossed(uint32_t nx, uint32_t ny, uint32_t nz, const uint16_t *samples, size_t samples_len, uint16_t t,
                    uint32_t *answer, size_t answer_len)
 {
     struct refusal refusal = check_block(nx, ny, nz, samples_len, t);
-    struct block block = block_of(nx, ny, nz, samples, t);
+    struct block block = block_of(nx, ny, nz, samples, t, 0);
     if (refusal.number) {
         say_refused(answer, answer_len, refusal);
         return;
@@ -1115,10 +1180,10 @@ void plain_crossed(uint32_t nx, uint32_t ny, uint32_t nz, const uint16_t *sample
 }
 
 void plain_counts(uint32_t nx, uint32_t ny, uint32_t nz, const uint16_t *samples, size_t samples_len, uint16_t t,
-                  uint32_t *answer, size_t answer_len)
+                  uint32_t noise, uint32_t *answer, size_t answer_len)
 {
     struct refusal refusal = check_block(nx, ny, nz, samples_len, t);
-    struct block block = block_of(nx, ny, nz, samples, t);
+    struct block block = block_of(nx, ny, nz, samples, t, noise);
     if (refusal.number) {
         say_refused(answer, answer_len, refusal);
         return;
@@ -1127,8 +1192,8 @@ void plain_counts(uint32_t nx, uint32_t ny, uint32_t nz, const uint16_t *samples
 }
 
 void plain_thresholds(uint32_t nx, uint32_t ny, uint32_t nz, const uint16_t *samples, size_t samples_len,
-                      const uint16_t *thresholds, size_t thresholds_len, uint32_t *answers, size_t answers_len,
-                      uint32_t *answer, size_t answer_len)
+                      const uint16_t *thresholds, size_t thresholds_len, uint32_t noise, uint32_t *answers,
+                      size_t answers_len, uint32_t *answer, size_t answer_len)
 {
     struct refusal refusal;
     if (thresholds_len > MOST_THRESHOLDS)
@@ -1138,34 +1203,45 @@ void plain_thresholds(uint32_t nx, uint32_t ny, uint32_t nz, const uint16_t *sam
     else
         refusal = check_samples(nx, ny, nz, samples_len);
     for (size_t i = 0; !refusal.number && i < thresholds_len; i++)
-        plain_counts(nx, ny, nz, samples, samples_len, thresholds[i], answers + ANSWER * i, ANSWER);
+        plain_counts(nx, ny, nz, samples, samples_len, thresholds[i], noise, answers + ANSWER * i, ANSWER);
     say_refused(answer, answer_len, refusal);
 }
 
-void plain_mesh(uint32_t nx, uint32_t ny, uint32_t nz, const uint16_t *samples, size_t samples_len, uint16_t t,
-                uint32_t *words, size_t words_len, double *offsets, size_t offsets_len, uint32_t *quads,
-                size_t quads_len, uint32_t *answer, size_t answer_len)
+static void say_mesh(const struct block *block, uint32_t *words, size_t words_len, double *offsets, size_t offsets_len,
+                     uint32_t *quads, size_t quads_len, uint32_t *answer, size_t answer_len)
 {
-    struct refusal refusal = check_block(nx, ny, nz, samples_len, t);
-    struct block block = block_of(nx, ny, nz, samples, t);
-    uint32_t vertex_count, quad_count, *first;
-    if (refusal.number) {
-        say_refused(answer, answer_len, refusal);
-        return;
-    }
-    first = room_for(cubes(&block) + 1, sizeof *first);
-    vertex_count = number_vertices(&block, first);
-    quad_count = number_quads(&block, NULL, NULL, NULL);
+    uint32_t *first = room_for(cubes(block) + 1, sizeof *first);
+    uint32_t vertex_count = number_vertices(block, first), quad_count = number_quads(block, NULL, NULL, NULL);
     if (words_len < WORDS * (size_t)vertex_count || offsets_len < AXES * (size_t)vertex_count) {
         say(answer, answer_len, 5, vertex_count, 0);
     } else if (quads_len < SIDES * (size_t)quad_count) {
         say(answer, answer_len, 6, quad_count, 0);
     } else {
-        write_vertices(&block, words, offsets);
-        number_quads(&block, first, words, quads);
+        write_vertices(block, words, offsets);
+        number_quads(block, first, words, quads);
         say(answer, answer_len, 0, vertex_count, quad_count);
     }
     free(first);
+}
+
+void plain_mesh(uint32_t nx, uint32_t ny, uint32_t nz, const uint16_t *samples, size_t samples_len, uint16_t t,
+                uint32_t noise, uint32_t *words, size_t words_len, double *offsets, size_t offsets_len, uint32_t *quads,
+                size_t quads_len, uint32_t *answer, size_t answer_len)
+{
+    struct refusal refusal = check_block(nx, ny, nz, samples_len, t);
+    struct block block = block_of(nx, ny, nz, samples, t, noise);
+    if (refusal.number)
+        say_refused(answer, answer_len, refusal);
+    else
+        say_mesh(&block, words, words_len, offsets, offsets_len, quads, quads_len, answer, answer_len);
+}
+
+void plain_old_mesh(const uint32_t length[3], const uint16_t *samples, uint16_t t, uint32_t *words, size_t words_len,
+                    double *offsets, size_t offsets_len, uint32_t *quads, size_t quads_len, uint32_t answer[3])
+{
+    struct block block = block_of(length[0], length[1], length[2], samples, t, 0);
+    block.decider = BY_OLD_RULE;
+    say_mesh(&block, words, words_len, offsets, offsets_len, quads, quads_len, answer, ANSWER);
 }
 
 void plain_reading(float x, uint32_t *answer, size_t answer_len)
@@ -1179,31 +1255,31 @@ void plain_reading(float x, uint32_t *answer, size_t answer_len)
 }
 
 void plain_readings_counts(uint32_t nx, uint32_t ny, uint32_t nz, const float *readings, size_t readings_len,
-                           uint16_t t, uint32_t *answer, size_t answer_len)
+                           uint16_t t, uint32_t noise, uint32_t *answer, size_t answer_len)
 {
     uint16_t *samples = block_of_readings(nx, ny, nz, readings, readings_len, t, answer, answer_len);
     if (!samples)
         return;
-    plain_counts(nx, ny, nz, samples, readings_len, t, answer, answer_len);
+    plain_counts(nx, ny, nz, samples, readings_len, t, noise, answer, answer_len);
     free(samples);
 }
 
 void plain_readings_mesh(uint32_t nx, uint32_t ny, uint32_t nz, const float *readings, size_t readings_len, uint16_t t,
-                         uint32_t *words, size_t words_len, double *offsets, size_t offsets_len, uint32_t *quads,
-                         size_t quads_len, uint32_t *answer, size_t answer_len)
+                         uint32_t noise, uint32_t *words, size_t words_len, double *offsets, size_t offsets_len,
+                         uint32_t *quads, size_t quads_len, uint32_t *answer, size_t answer_len)
 {
     uint16_t *samples = block_of_readings(nx, ny, nz, readings, readings_len, t, answer, answer_len);
     if (!samples)
         return;
-    plain_mesh(nx, ny, nz, samples, readings_len, t, words, words_len, offsets, offsets_len, quads, quads_len, answer,
-               answer_len);
+    plain_mesh(nx, ny, nz, samples, readings_len, t, noise, words, words_len, offsets, offsets_len, quads, quads_len,
+               answer, answer_len);
     free(samples);
 }
 
-void plain_start(uint32_t nx, uint32_t ny, uint32_t nz, uint16_t t, uint32_t *work, size_t work_len, uint32_t *state,
-                 size_t state_len, uint32_t *answer, size_t answer_len)
+void plain_start(uint32_t nx, uint32_t ny, uint32_t nz, uint16_t t, uint32_t noise, uint32_t *work, size_t work_len,
+                 uint32_t *state, size_t state_len, uint32_t *answer, size_t answer_len)
 {
-    struct run run = {{nx, ny, nz}, 0, 0, 0, t};
+    struct run run = {{nx, ny, nz}, noise, 0, 0, 0, t};
     struct refusal refusal = check_run(&run);
     (void)work;
     if (!refusal.number)
@@ -1313,8 +1389,8 @@ void plain_ply(uint32_t nx, uint32_t ny, uint32_t nz, const uint32_t *words, siz
                size_t offsets_len, const uint32_t *quads, size_t quads_len, double x, double y, double z, uint8_t *file,
                size_t file_len, uint64_t *length, size_t length_len, uint32_t *answer, size_t answer_len)
 {
-    struct drawing drawing = {block_of(nx, ny, nz, NULL, 0), words,     quads,    offsets, words_len,
-                              offsets_len,                   quads_len, {x, y, z}};
+    struct drawing drawing = {
+        block_of(nx, ny, nz, NULL, 0, 0), words, quads, offsets, words_len, offsets_len, quads_len, {x, y, z}};
     struct refusal refusal = check_axes(nx, ny, nz);
     if (!refusal.number)
         refusal = check_drawing(&drawing, file_len);

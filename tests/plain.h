@@ -15,12 +15,21 @@
 void plain_edge(uint16_t p, uint16_t q, uint16_t t, double *fraction, size_t fraction_len, uint32_t *answer,
                 size_t answer_len);
 
-/* The cube question over corners 0 to 7. Answer: 0, loops, 0. Refusal 3.
+/* The cube question over corners 0 to 7 with a noise figure. Answer: 0, loops, 0. Refusal 3.
    Four words and four offsets of three coordinates; those that no loop uses hold zero, on refusal too. A word is the
    mask of a loop, and 4096 more where a corner is at the ceiling. */
 void plain_cube(uint16_t c0, uint16_t c1, uint16_t c2, uint16_t c3, uint16_t c4, uint16_t c5, uint16_t c6, uint16_t c7,
-                uint16_t t, uint32_t *words, size_t words_len, double *offsets, size_t offsets_len, uint32_t *answer,
-                size_t answer_len);
+                uint16_t t, uint32_t noise, uint32_t *words, size_t words_len, double *offsets, size_t offsets_len,
+                uint32_t *answer, size_t answer_len);
+
+/* The same by the old rule, which has no noise figure: metal is joined across a doubtful face if its product is at
+   least that of the hollow. The rule stands by itself in plain.c. */
+void plain_old_cube(const uint16_t corner[8], uint16_t t, uint32_t words[4], double offsets[12], uint32_t answer[3]);
+
+/* The words of a cube in which metal is joined across the doubtful faces of this set and across no other. Bit f is that
+   of face f, in the order of plain_face, and a face that is not doubtful may have either. Assumes a threshold from 1 to
+   65534. */
+void plain_set_cube(const uint16_t corner[8], uint16_t t, unsigned set, uint32_t words[4]);
 
 /* The crossed edges of a block, each counted once, on the faces of the box too. Answer: 0, crossed edges, 0. Refusals
    1, 2, 3. */
@@ -29,19 +38,24 @@ void plain_crossed(uint32_t nx, uint32_t ny, uint32_t nz, const uint16_t *sample
 
 /* The counts of a mesh. Answer: 0, vertices, quads. Refusals 1, 2, 3. */
 void plain_counts(uint32_t nx, uint32_t ny, uint32_t nz, const uint16_t *samples, size_t samples_len, uint16_t t,
-                  uint32_t *answer, size_t answer_len);
+                  uint32_t noise, uint32_t *answer, size_t answer_len);
 
-/* The counts of a mesh by each of up to 16 thresholds. Three words a threshold, as plain_counts answers it alone: 0,
-   vertices, quads; or 3, the threshold, 0. Answer: 0, 0, 0. Refusals of the whole call 16, 15, 1, 2, tried in this
-   order. The answers are kept on refusal, and behind three words a threshold always. */
+/* The counts of a mesh by each of up to 16 thresholds, with one noise figure for all. Three words a threshold, as
+   plain_counts answers it alone: 0, vertices, quads; or 3, the threshold, 0. Answer: 0, 0, 0. Refusals of the whole
+   call 16, 15, 1, 2, tried in this order. The answers are kept on refusal, and always behind three words a
+   threshold. */
 void plain_thresholds(uint32_t nx, uint32_t ny, uint32_t nz, const uint16_t *samples, size_t samples_len,
-                      const uint16_t *thresholds, size_t thresholds_len, uint32_t *answers, size_t answers_len,
-                      uint32_t *answer, size_t answer_len);
+                      const uint16_t *thresholds, size_t thresholds_len, uint32_t noise, uint32_t *answers,
+                      size_t answers_len, uint32_t *answer, size_t answer_len);
 
 /* The mesh into lent buffers, its words as of the cube question. Answer: 0, vertices, quads. Refusals 1, 2, 3, 5, 6. */
 void plain_mesh(uint32_t nx, uint32_t ny, uint32_t nz, const uint16_t *samples, size_t samples_len, uint16_t t,
-                uint32_t *words, size_t words_len, double *offsets, size_t offsets_len, uint32_t *quads,
+                uint32_t noise, uint32_t *words, size_t words_len, double *offsets, size_t offsets_len, uint32_t *quads,
                 size_t quads_len, uint32_t *answer, size_t answer_len);
+
+/* The mesh of a good block by the old rule, as of the cube question. Answer: 0, vertices, quads. Refusals 5, 6. */
+void plain_old_mesh(const uint32_t length[3], const uint16_t *samples, uint16_t t, uint32_t *words, size_t words_len,
+                    double *offsets, size_t offsets_len, uint32_t *quads, size_t quads_len, uint32_t answer[3]);
 
 /* What a reading of the second bench is. Answer: 0, grey value, which is 65535 at the ceiling, 0. Refusals 19, 20, 21,
    each with the value 0. */
@@ -50,19 +64,19 @@ void plain_reading(float x, uint32_t *answer, size_t answer_len);
 /* The counts of the mesh of the block that the readings become. Answer: 0, vertices, quads. Refusals 1, 2, 3, then that
    of the lowest reading at fault, 19, 20 or 21. */
 void plain_readings_counts(uint32_t nx, uint32_t ny, uint32_t nz, const float *readings, size_t readings_len,
-                           uint16_t t, uint32_t *answer, size_t answer_len);
+                           uint16_t t, uint32_t noise, uint32_t *answer, size_t answer_len);
 
 /* The mesh of that block into lent buffers, as plain_mesh writes it. Answer: 0, vertices, quads. Refusals as of
    plain_readings_counts, then 5, 6. */
 void plain_readings_mesh(uint32_t nx, uint32_t ny, uint32_t nz, const float *readings, size_t readings_len, uint16_t t,
-                         uint32_t *words, size_t words_len, double *offsets, size_t offsets_len, uint32_t *quads,
-                         size_t quads_len, uint32_t *answer, size_t answer_len);
+                         uint32_t noise, uint32_t *words, size_t words_len, double *offsets, size_t offsets_len,
+                         uint32_t *quads, size_t quads_len, uint32_t *answer, size_t answer_len);
 
-/* The mesh plane by plane. A state has seven words: nx, ny, nz, t, vertices so far, quads so far, planes taken; what is
-   missing is read as 0, and t modulo 65536. What stands in work is another matter than what the library puts there.
-   The start writes the state with no plane taken. Answer: 0, 0, 0. Refusals 1, 3, 15. */
-void plain_start(uint32_t nx, uint32_t ny, uint32_t nz, uint16_t t, uint32_t *work, size_t work_len, uint32_t *state,
-                 size_t state_len, uint32_t *answer, size_t answer_len);
+/* The mesh plane by plane. A state has eight words: nx, ny, nz, t, noise, vertices so far, quads so far, planes taken;
+   what is missing is read as 0, and t modulo 65536. What stands in work is another matter than what the library puts
+   there. The start writes the state with no plane taken. Answer: 0, 0, 0. Refusals 1, 3, 15. */
+void plain_start(uint32_t nx, uint32_t ny, uint32_t nz, uint16_t t, uint32_t noise, uint32_t *work, size_t work_len,
+                 uint32_t *state, size_t state_len, uint32_t *answer, size_t answer_len);
 
 /* The next plane: the vertices of the layer that it finishes, from the front of the buffers, and the quads of the edges
    along x and y on the layer's lower plane and along z within it. Answer: 0, vertices, quads of this call. Refusals 1,

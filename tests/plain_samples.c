@@ -1,9 +1,10 @@
 /* Runs the plain implementation on the paper's samples: the example block with its whole output, the nine cubes, the
-   edges, the refusals, lists of quads and the table of faces; on samples at the ceiling, which are metal and leave a
-   mark; on rows of thresholds for the example block; on that block plane by plane; on readings and small blocks of them
-   that were worked out by hand; on blocks whose crossed edges were worked out by hand or come from a formula; on two
-   samples that are joined across a face, whose mesh is closed; on the work of the closed question; on the pieces of
-   small lists that were worked out by hand and of the example's mesh; and on files of that mesh and of the empty one.
+   edges, the refusals, lists of quads and the table of faces; on cubes, rows and runs with a noise figure; on samples
+   at the ceiling, which are metal and leave a mark; on rows of thresholds for the example block; on that block plane by
+   plane; on readings and small blocks of them that were worked out by hand; on blocks whose crossed edges were worked
+   out by hand or come from a formula; on two samples that are joined across a face, whose mesh is closed; on the work
+   of the closed question; on the pieces of small lists that were worked out by hand and of the example's mesh; and on
+   files of that mesh and of the empty one.
    Prints each sample and its verdict; exits with 1 if one differs.
    Assumes nothing of the library. */
 #include "bench_cubes.h"
@@ -99,8 +100,8 @@ static void whole_output(const char *name, const uint16_t samples[EXAMPLE_SAMPLE
     double offsets[3 * MOST_VERTICES];
     char output[sizeof marked_output + 100];
     size_t used;
-    plain_counts(3, 3, 3, samples, EXAMPLE_SAMPLES, 100, counted, ANSWER);
-    plain_mesh(3, 3, 3, samples, EXAMPLE_SAMPLES, 100, words, 2 * MOST_VERTICES, offsets, 3 * MOST_VERTICES, quads,
+    plain_counts(3, 3, 3, samples, EXAMPLE_SAMPLES, 100, 0, counted, ANSWER);
+    plain_mesh(3, 3, 3, samples, EXAMPLE_SAMPLES, 100, 0, words, 2 * MOST_VERTICES, offsets, 3 * MOST_VERTICES, quads,
                4 * EXAMPLE_QUADS, answer, ANSWER);
     if (!says(counted, 0, vertices, EXAMPLE_QUADS) || !says(answer, 0, vertices, EXAMPLE_QUADS)) {
         verdict(name, 0);
@@ -130,9 +131,10 @@ static void example(void)
 
 /* ---- cubes ---- */
 
-static void ask_cube(const uint16_t c[8], uint16_t t, uint32_t masks[4], double offsets[12], uint32_t answer[ANSWER])
+static void ask_cube(const uint16_t c[8], uint16_t t, uint32_t noise, uint32_t words[4], double offsets[12],
+                     uint32_t answer[ANSWER])
 {
-    plain_cube(c[0], c[1], c[2], c[3], c[4], c[5], c[6], c[7], t, masks, 4, offsets, 12, answer, ANSWER);
+    plain_cube(c[0], c[1], c[2], c[3], c[4], c[5], c[6], c[7], t, noise, words, 4, offsets, 12, answer, ANSWER);
 }
 
 static void cubes(void)
@@ -141,7 +143,7 @@ static void cubes(void)
         uint32_t masks[4], answer[ANSWER];
         double offsets[12];
         int within = 1;
-        ask_cube(bench_cubes[i].corners, BENCH_THRESHOLD, masks, offsets, answer);
+        ask_cube(bench_cubes[i].corners, BENCH_THRESHOLD, 0, masks, offsets, answer);
         for (unsigned loop = 0; loop < answer[1]; loop++)
             printf("%s%03X", loop ? ", " : "masks ", (unsigned)masks[loop]);
         printf("%s", answer[1] ? "\n" : "no masks\n");
@@ -149,6 +151,23 @@ static void cubes(void)
             within = within && offsets[j] >= 0.0 && offsets[j] <= 1.0 && (j < 3 * answer[1] || bits(offsets[j]) == 0);
         verdict(bench_cubes[i].name, says(answer, 0, bench_cubes[i].count, 0) && within &&
                                          memcmp(masks, bench_cubes[i].masks, sizeof masks) == 0);
+    }
+}
+
+/* Cubes with a noise figure. With noise 0 the old rule says the same, in every bit. */
+static void noise_of_cubes(void)
+{
+    for (size_t i = 0; i < NOISE_CUBES; i++) {
+        const struct noise_cube *cube = &noise_cubes[i];
+        uint32_t words[4], old_words[4], answer[ANSWER], old_answer[ANSWER];
+        double offsets[12], old_offsets[12];
+        int is_old;
+        ask_cube(cube->corners, cube->t, 0, words, offsets, answer);
+        plain_old_cube(cube->corners, cube->t, old_words, old_offsets, old_answer);
+        is_old = memcmp(words, old_words, sizeof words) == 0 && memcmp(offsets, old_offsets, sizeof offsets) == 0 &&
+                 memcmp(answer, old_answer, sizeof answer) == 0;
+        ask_cube(cube->corners, cube->t, cube->noise, words, offsets, answer);
+        verdict(cube->name, is_old && says(answer, 0, cube->count, 0) && memcmp(words, cube->words, sizeof words) == 0);
     }
 }
 
@@ -178,13 +197,13 @@ static void ceilings_of_cubes(void)
     uint32_t words[4], answer[ANSWER];
     double offsets[12];
     for (size_t i = 0; i < sizeof marked_cubes / sizeof *marked_cubes; i++) {
-        ask_cube(marked_cubes[i].corners, 100, words, offsets, answer);
+        ask_cube(marked_cubes[i].corners, 100, 0, words, offsets, answer);
         verdict(marked_cubes[i].name, says(answer, 0, marked_cubes[i].count, 0) &&
                                           memcmp(words, marked_cubes[i].words, sizeof words) == 0);
     }
-    ask_cube(marked_cubes[0].corners, 0, words, offsets, answer);
+    ask_cube(marked_cubes[0].corners, 0, 0, words, offsets, answer);
     verdict("cube with a ceiling and t = 0", says(answer, 3, 0, 0) && words[0] == 0 && bits(offsets[0]) == 0);
-    ask_cube(marked_cubes[0].corners, CEILING, words, offsets, answer);
+    ask_cube(marked_cubes[0].corners, CEILING, 1, words, offsets, answer);
     verdict("cube with a ceiling and t = 65535",
             says(answer, 3, CEILING, 0) && words[0] == 0 && bits(offsets[0]) == 0);
 }
@@ -226,7 +245,7 @@ static void axes(uint32_t nx, uint32_t ny, uint32_t nz, uint32_t axis)
     uint16_t samples[1] = {0};
     uint32_t answer[ANSWER];
     char name[64];
-    plain_counts(nx, ny, nz, samples, 0, 100, answer, ANSWER);
+    plain_counts(nx, ny, nz, samples, 0, 100, 0, answer, ANSWER);
     sprintf(name, "axes %u,%u,%u: 1, value %u", (unsigned)nx, (unsigned)ny, (unsigned)nz, (unsigned)axis);
     verdict(name, says(answer, 1, axis, 0));
 }
@@ -237,7 +256,7 @@ static void room(const char *name, size_t vertices, size_t quads, uint32_t numbe
     uint32_t words[2 * EXAMPLE_VERTICES], list[4 * EXAMPLE_QUADS], answer[ANSWER];
     double offsets[3 * EXAMPLE_VERTICES];
     example_block(samples);
-    plain_mesh(3, 3, 3, samples, EXAMPLE_SAMPLES, 100, words, 2 * vertices, offsets, 3 * vertices, list, 4 * quads,
+    plain_mesh(3, 3, 3, samples, EXAMPLE_SAMPLES, 100, 0, words, 2 * vertices, offsets, 3 * vertices, list, 4 * quads,
                answer, ANSWER);
     verdict(name, says(answer, number, value, 0));
 }
@@ -252,16 +271,16 @@ static void refusals(void)
     room("room for 5 quads: 6, value 6", EXAMPLE_VERTICES, 5, 6, 6);
     room("both short: 5", 7, 5, 5, 8);
     example_block(samples);
-    plain_counts(3, 3, 3, samples, EXAMPLE_SAMPLES - 1, 100, answer, ANSWER);
+    plain_counts(3, 3, 3, samples, EXAMPLE_SAMPLES - 1, 100, 0, answer, ANSWER);
     verdict("one sample less: 2, value 27", says(answer, 2, EXAMPLE_SAMPLES, 0));
-    plain_counts(3, 3, 3, samples, EXAMPLE_SAMPLES, 1, answer, ANSWER);
+    plain_counts(3, 3, 3, samples, EXAMPLE_SAMPLES, 1, 0, answer, ANSWER);
     verdict("t = 1 passes", says(answer, 0, EXAMPLE_VERTICES, EXAMPLE_QUADS));
-    plain_counts(3, 3, 3, samples, EXAMPLE_SAMPLES, 65534, answer, ANSWER);
+    plain_counts(3, 3, 3, samples, EXAMPLE_SAMPLES, 65534, 0, answer, ANSWER);
     verdict("t = 65534 passes", says(answer, 0, 0, 0));
     samples[EXAMPLE_SAMPLES - 1] = CEILING;
-    plain_counts(3, 3, 3, samples, EXAMPLE_SAMPLES, 0, answer, ANSWER);
+    plain_counts(3, 3, 3, samples, EXAMPLE_SAMPLES, 0, 0, answer, ANSWER);
     verdict("last sample at the ceiling, t = 0: 3", says(answer, 3, 0, 0));
-    plain_counts(3, 3, 3, samples, EXAMPLE_SAMPLES - 1, 100, answer, ANSWER);
+    plain_counts(3, 3, 3, samples, EXAMPLE_SAMPLES - 1, 100, 0, answer, ANSWER);
     verdict("a ceiling, one sample less: 2, value 27", says(answer, 2, EXAMPLE_SAMPLES, 0));
 }
 
@@ -290,7 +309,7 @@ static void ceilings_of_blocks(void)
     verdict("an answer place of two items", says(answer, 0, 3, 9));
     for (size_t index = 0; index < EXAMPLE_SAMPLES; index++)
         samples[index] = index == EXAMPLE_SAMPLES / 2 ? CEILING : 200;
-    plain_counts(3, 3, 3, samples, EXAMPLE_SAMPLES, 100, answer, ANSWER);
+    plain_counts(3, 3, 3, samples, EXAMPLE_SAMPLES, 100, 0, answer, ANSWER);
     verdict("a ceiling with metal all round: no vertex", says(answer, 0, 0, 0));
     ceilings("and still counted: 1, at 13", samples, EXAMPLE_SAMPLES, 1, EXAMPLE_SAMPLES / 2);
 }
@@ -317,8 +336,8 @@ static void row(const char *name, const uint32_t n[3], size_t samples_len, size_
         thresholds[i] = row_thresholds[i % ROW];
     for (size_t i = 0; i < ANSWER * MOST_ROW; i++)
         answers[i] = UNTOUCHED;
-    plain_thresholds(n[0], n[1], n[2], samples, samples_len, thresholds, thresholds_len, answers, answers_len, answer,
-                     ANSWER);
+    plain_thresholds(n[0], n[1], n[2], samples, samples_len, thresholds, thresholds_len, 0, answers, answers_len,
+                     answer, ANSWER);
     is_good = says(answer, number, value, 0);
     for (size_t i = 0; i < MOST_ROW; i++) {
         const uint32_t kept[ANSWER] = {UNTOUCHED, UNTOUCHED, UNTOUCHED};
@@ -346,9 +365,26 @@ static void rows_of_thresholds(void)
     row("room for 20, a sample less: 15, value 7", good, EXAMPLE_SAMPLES - 1, 7, 20, 15, 7);
 }
 
+/* The tied cube as a block by the thresholds 100 and 50: so many vertices by each, and no quads. */
+static void noise_of_row(const char *name, uint32_t noise, uint32_t first, uint32_t second)
+{
+    static const uint16_t samples[8] = {200, 0, 0, 200, 0, 0, 0, 0}, thresholds[2] = {100, 50};
+    uint32_t answers[2 * ANSWER], answer[ANSWER];
+    plain_thresholds(2, 2, 2, samples, 8, thresholds, 2, noise, answers, 2 * ANSWER, answer, ANSWER);
+    verdict(name, says(answer, 0, 0, 0) && says(answers, 0, first, 0) && says(answers + ANSWER, 0, second, 0));
+}
+
+static void noise_of_rows(void)
+{
+    noise_of_row("a tied cube by 100 and 50, noise 0: 1, 1", 0, 1, 1);
+    noise_of_row("noise 1: 2, 1", 1, 2, 1);
+    noise_of_row("noise 20000: 2, 1", 20000, 2, 1);
+    noise_of_row("noise 20001: 2, 2", 20001, 2, 2);
+}
+
 /* ---- planes ---- */
 
-enum { STATE = 7, EXAMPLE_PLANES = 3, EXAMPLE_PLANE = 9, EXAMPLE_WORK = 54 };
+enum { STATE = 8, EXAMPLE_PLANES = 3, EXAMPLE_PLANE = 9, EXAMPLE_WORK = 54 };
 
 /* What the calls for the example write: vertices, and quads in their order. */
 static const uint32_t vertices_of_calls[EXAMPLE_PLANES] = {0, 4, 4}, quads_of_calls[EXAMPLE_PLANES] = {0, 1, 5};
@@ -367,14 +403,14 @@ static struct growing start_example(void)
     struct growing run;
     memset(&run, 0, sizeof run);
     example_block(run.samples);
-    plain_start(3, 3, 3, 100, run.work, EXAMPLE_WORK, run.state, STATE, run.answer, ANSWER);
+    plain_start(3, 3, 3, 100, 0, run.work, EXAMPLE_WORK, run.state, STATE, run.answer, ANSWER);
     return run;
 }
 
 /* The next plane, with room for so many vertices and quads behind those that there are. */
 static void grow(struct growing *run, uint32_t vertices, uint32_t quads)
 {
-    size_t plane = run->state[6] % EXAMPLE_PLANES, vertex = run->state[4], quad = run->state[5];
+    size_t plane = run->state[7] % EXAMPLE_PLANES, vertex = run->state[5], quad = run->state[6];
     plain_plane(run->state, STATE, run->samples + EXAMPLE_PLANE * plane, EXAMPLE_PLANE, run->work, EXAMPLE_WORK,
                 run->words + 2 * vertex, 2 * vertices, run->offsets + 3 * vertex, 3 * vertices, run->quads + 4 * quad,
                 4 * quads, run->answer, ANSWER);
@@ -398,8 +434,8 @@ static void parts_of_example(void)
     verdict("its quads", memcmp(run.quads, quads_in_calls, sizeof quads_in_calls) == 0);
     plain_end(run.state, STATE, answer, ANSWER);
     verdict("its end: 8, 6", says(answer, 0, EXAMPLE_VERTICES, EXAMPLE_QUADS));
-    plain_mesh(3, 3, 3, run.samples, EXAMPLE_SAMPLES, 100, words, 2 * EXAMPLE_VERTICES, offsets, 3 * EXAMPLE_VERTICES,
-               quads, 4 * EXAMPLE_QUADS, answer, ANSWER);
+    plain_mesh(3, 3, 3, run.samples, EXAMPLE_SAMPLES, 100, 0, words, 2 * EXAMPLE_VERTICES, offsets,
+               3 * EXAMPLE_VERTICES, quads, 4 * EXAMPLE_QUADS, answer, ANSWER);
     verdict("its words and offsets are those of the mesh",
             memcmp(words, run.words, sizeof words) == 0 && memcmp(offsets, run.offsets, sizeof offsets) == 0);
     plain_cut(3, 3, 3, words, EXAMPLE_VERTICES, quads, EXAMPLE_QUADS, vertices_of, quads_of, in_order);
@@ -409,28 +445,69 @@ static void parts_of_example(void)
 }
 
 /* A start with so much work. */
-static void started(const char *name, const uint32_t n[3], uint16_t t, size_t work_len, uint32_t number, uint32_t value)
+static void started(const char *name, const uint32_t n[3], uint16_t t, uint32_t noise, size_t work_len, uint32_t number,
+                    uint32_t value)
 {
     uint32_t work[1] = {0}, state[STATE], answer[ANSWER];
-    uint32_t wanted[STATE] = {n[0], n[1], n[2], t, 0, 0, 0};
+    uint32_t wanted[STATE] = {n[0], n[1], n[2], t, noise, 0, 0, 0};
     for (size_t i = 0; i < STATE; i++)
         state[i] = UNTOUCHED;
     for (size_t i = 0; number != 0 && i < STATE; i++)
         wanted[i] = UNTOUCHED;
-    plain_start(n[0], n[1], n[2], t, work, work_len, state, STATE, answer, ANSWER);
+    plain_start(n[0], n[1], n[2], t, noise, work, work_len, state, STATE, answer, ANSWER);
     verdict(name, says(answer, number, value, 0) && memcmp(state, wanted, sizeof state) == 0);
 }
 
 static void starts(void)
 {
     static const uint32_t good[3] = {3, 3, 3}, bad[3] = {3, 257, 1}, largest[3] = {256, 256, 256};
-    started("a start", good, 100, EXAMPLE_WORK, 0, 0);
-    started("the largest start", largest, 65534, 393216, 0, 0);
-    started("work of 53: 15, value 54", good, 100, 53, 15, 54);
-    started("work of 393215: 15, value 393216", largest, 1, 393215, 15, 393216);
-    started("a start with an axis of 257: 1, value 1", bad, 0, 0, 1, 1);
-    started("a start with t = 0: 3, value 0", good, 0, 0, 3, 0);
-    started("a start with t = 65535: 3, value 65535", good, CEILING, EXAMPLE_WORK, 3, CEILING);
+    started("a start", good, 100, 0, EXAMPLE_WORK, 0, 0);
+    started("a start with noise 2500", good, 100, 2500, EXAMPLE_WORK, 0, 0);
+    started("the largest start", largest, 65534, UINT32_MAX, 393216, 0, 0);
+    started("work of 53: 15, value 54", good, 100, 0, 53, 15, 54);
+    started("work of 393215: 15, value 393216", largest, 1, 1, 393215, 15, 393216);
+    started("a start with an axis of 257: 1, value 1", bad, 0, 0, 0, 1, 1);
+    started("a start with t = 0: 3, value 0", good, 0, UINT32_MAX, 0, 3, 0);
+    started("a start with t = 65535: 3, value 65535", good, CEILING, 0, EXAMPLE_WORK, 3, CEILING);
+}
+
+/* The tied cube in two planes. The noise figure stands in the state behind the threshold, and stays there. */
+static void noise_of_run(const char *name, uint32_t noise, uint32_t vertices)
+{
+    static const uint16_t samples[8] = {200, 0, 0, 200, 0, 0, 0, 0};
+    uint32_t state[STATE], work[24], words[4], quads[1], answer[ANSWER];
+    double offsets[6];
+    plain_start(2, 2, 2, 100, noise, work, 24, state, STATE, answer, ANSWER);
+    plain_plane(state, STATE, samples, 4, work, 24, words, 0, offsets, 0, quads, 0, answer, ANSWER);
+    plain_plane(state, STATE, samples + 4, 4, work, 24, words, 4, offsets, 6, quads, 0, answer, ANSWER);
+    verdict(name, says(answer, 0, vertices, 0) && state[3] == 100 && state[4] == noise && state[5] == vertices &&
+                      state[6] == 0 && state[7] == 2);
+}
+
+/* A state of four items has no noise figure and no planes taken: each plane is the first, and nothing more is
+   written. */
+static void four_items(void)
+{
+    static const uint16_t samples[4] = {200, 0, 0, 200};
+    uint32_t state[STATE], work[24], words[1], quads[1], answer[ANSWER];
+    double offsets[1];
+    int is_good = 1;
+    for (size_t i = 0; i < STATE; i++)
+        state[i] = UNTOUCHED;
+    plain_start(2, 2, 2, 100, 1, work, 24, state, 4, answer, ANSWER);
+    for (unsigned again = 0; again < 3; again++) {
+        plain_plane(state, 4, samples, 4, work, 24, words, 0, offsets, 0, quads, 0, answer, ANSWER);
+        is_good = is_good && says(answer, 0, 0, 0) && state[3] == 100 && state[4] == UNTOUCHED;
+    }
+    verdict("a state of four items: each plane the first", is_good);
+}
+
+static void noise_of_runs(void)
+{
+    noise_of_run("a tied cube by planes, noise 0: 1", 0, 1);
+    noise_of_run("noise 1: 2", 1, 2);
+    noise_of_run("noise 4294967295: 2", UINT32_MAX, 2);
+    four_items();
 }
 
 /* A call that is refused, after so many planes of the example, and leaves all as it was. */
@@ -492,8 +569,8 @@ static void blocks_of_readings(void)
             quads[at] = words[at % (2 * ROOM)] = UNTOUCHED;
         for (size_t at = 0; at < 3 * ROOM; at++)
             offsets[at] = 9;
-        plain_readings_counts(n[0], n[1], n[2], readings, block->readings_len, block->t, counted, ANSWER);
-        plain_readings_mesh(n[0], n[1], n[2], readings, block->readings_len, block->t, words, 2 * block->vertices,
+        plain_readings_counts(n[0], n[1], n[2], readings, block->readings_len, block->t, 0, counted, ANSWER);
+        plain_readings_mesh(n[0], n[1], n[2], readings, block->readings_len, block->t, 0, words, 2 * block->vertices,
                             offsets, 3 * block->vertices, quads, 4 * block->quads, answer, ANSWER);
         for (size_t at = 2 * vertex_count; at < 2 * ROOM; at++)
             is_kept = is_kept && words[at] == UNTOUCHED;
@@ -519,9 +596,9 @@ static void example_of_readings(const char *name, float last, uint16_t last_samp
         readings[index] = 0.25f;
     readings[13] = 400.75f;
     readings[EXAMPLE_SAMPLES - 1] = last;
-    plain_mesh(3, 3, 3, samples, EXAMPLE_SAMPLES, 100, words[0], 2 * vertices, offsets[0], 3 * vertices, quads[0],
+    plain_mesh(3, 3, 3, samples, EXAMPLE_SAMPLES, 100, 0, words[0], 2 * vertices, offsets[0], 3 * vertices, quads[0],
                4 * EXAMPLE_QUADS, answer[0], ANSWER);
-    plain_readings_mesh(3, 3, 3, readings, EXAMPLE_SAMPLES, 100, words[1], 2 * vertices, offsets[1], 3 * vertices,
+    plain_readings_mesh(3, 3, 3, readings, EXAMPLE_SAMPLES, 100, 0, words[1], 2 * vertices, offsets[1], 3 * vertices,
                         quads[1], 4 * EXAMPLE_QUADS, answer[1], ANSWER);
     for (size_t vertex = 0; says(answer[1], 0, vertices, EXAMPLE_QUADS) && vertex < vertices; vertex++)
         found += words[1][2 * vertex + 1] >= 4096;
@@ -554,7 +631,7 @@ static void crossed_of_hand_blocks(void)
         char name[80];
         fill_hand_block(block, samples);
         plain_crossed(n[0], n[1], n[2], samples, block->samples_len, block->t, answer, ANSWER);
-        plain_counts(n[0], n[1], n[2], samples, block->samples_len, block->t, counted, ANSWER);
+        plain_counts(n[0], n[1], n[2], samples, block->samples_len, block->t, block->noise, counted, ANSWER);
         sprintf(name, "crossed, %s", block->name);
         verdict(name, says(answer, wanted[0], wanted[1], wanted[2]) &&
                           (wanted[0] ? says(counted, wanted[0], wanted[1], wanted[2])
@@ -573,7 +650,7 @@ static int has_crossed(const uint32_t length[3], const uint16_t *samples, uint32
 static int has_counts(const uint32_t length[3], const uint16_t *samples, uint32_t vertices, uint32_t quads)
 {
     uint32_t answer[ANSWER];
-    plain_counts(length[0], length[1], length[2], samples, (size_t)length[0] * length[1] * length[2], 100, answer,
+    plain_counts(length[0], length[1], length[2], samples, (size_t)length[0] * length[1] * length[2], 100, 0, answer,
                  ANSWER);
     return says(answer, 0, vertices, quads);
 }
@@ -749,12 +826,12 @@ static void pieces_of_example(void)
     uint32_t words[2 * MOST_VERTICES], quads[4 * EXAMPLE_QUADS], answer[ANSWER];
     double offsets[3 * MOST_VERTICES];
     example_block(samples);
-    plain_mesh(3, 3, 3, samples, EXAMPLE_SAMPLES, 100, words, 2 * MOST_VERTICES, offsets, 3 * MOST_VERTICES, quads,
+    plain_mesh(3, 3, 3, samples, EXAMPLE_SAMPLES, 100, 0, words, 2 * MOST_VERTICES, offsets, 3 * MOST_VERTICES, quads,
                4 * EXAMPLE_QUADS, answer, ANSWER);
     pieces("pieces of the example: 1", answer[1], quads, 4 * EXAMPLE_QUADS, PIECE_ROOM, PIECE_ROOM, whole, piece,
            size);
     samples[EXAMPLE_SAMPLES - 1] = CEILING;
-    plain_mesh(3, 3, 3, samples, EXAMPLE_SAMPLES, 100, words, 2 * MOST_VERTICES, offsets, 3 * MOST_VERTICES, quads,
+    plain_mesh(3, 3, 3, samples, EXAMPLE_SAMPLES, 100, 0, words, 2 * MOST_VERTICES, offsets, 3 * MOST_VERTICES, quads,
                4 * EXAMPLE_QUADS, answer, ANSWER);
     pieces("its last sample at the ceiling: 2", answer[1], quads, 4 * EXAMPLE_QUADS, PIECE_ROOM, PIECE_ROOM, and_alone,
            piece, size);
@@ -772,8 +849,8 @@ static void pieces_of_two_grains(void)
     for (uint32_t vertex = 0; vertex < GRAINS_VERTICES; vertex++)
         piece[vertex] = vertex / GRAIN_VERTICES * GRAIN_VERTICES;
     size[0] = size[GRAIN_VERTICES] = GRAIN_VERTICES;
-    plain_mesh(3, 3, 5, samples, GRAINS_SAMPLES, 100, words, 2 * GRAINS_VERTICES, offsets, 3 * GRAINS_VERTICES, quads,
-               4 * GRAINS_QUADS, answer, ANSWER);
+    plain_mesh(3, 3, 5, samples, GRAINS_SAMPLES, 100, 0, words, 2 * GRAINS_VERTICES, offsets, 3 * GRAINS_VERTICES,
+               quads, 4 * GRAINS_QUADS, answer, ANSWER);
     verdict("two grains: 16 vertices and 12 quads", says(answer, 0, GRAINS_VERTICES, GRAINS_QUADS));
     pieces("pieces of two grains: 2", GRAINS_VERTICES, quads, 4 * GRAINS_QUADS, PIECE_ROOM, PIECE_ROOM, two, piece,
            size);
@@ -800,8 +877,8 @@ static size_t first_not_used_twice(const uint32_t *quads, size_t quads_len)
 }
 
 /* Two samples across a face of two cubes, and all others of the other sign: four quads join two of the vertices. So
-   the mesh is closed, though a side of quad 1 is used four times. */
-static void pore_of_two(const char *name, uint16_t two, uint16_t others, size_t side)
+   the mesh is closed, though a side of quad 1 is used four times. The noise figure does not part them. */
+static void pore_of_two(const char *name, uint16_t two, uint16_t others, uint32_t noise, size_t side)
 {
     uint16_t samples[PORE_SAMPLES];
     uint32_t words[2 * PORE_VERTICES], quads[4 * PORE_QUADS], answer[ANSWER];
@@ -809,7 +886,7 @@ static void pore_of_two(const char *name, uint16_t two, uint16_t others, size_t 
     for (size_t index = 0; index < PORE_SAMPLES; index++)
         samples[index] = others;
     samples[1 + 4 * (1 + 4)] = samples[2 + 4 * (2 + 4)] = two;
-    plain_mesh(4, 4, 3, samples, PORE_SAMPLES, 100, words, 2 * PORE_VERTICES, offsets, 3 * PORE_VERTICES, quads,
+    plain_mesh(4, 4, 3, samples, PORE_SAMPLES, 100, noise, words, 2 * PORE_VERTICES, offsets, 3 * PORE_VERTICES, quads,
                4 * PORE_QUADS, answer, ANSWER);
     verdict(name, says(answer, 0, PORE_VERTICES, PORE_QUADS) && closed(quads, PORE_QUADS) &&
                       first_not_used_twice(quads, 4 * PORE_QUADS) == 4 * 1 + side);
@@ -838,7 +915,7 @@ static void draw_example(uint8_t *file, size_t file_len, uint64_t *length, uint3
     uint32_t words[2 * EXAMPLE_VERTICES], quads[4 * EXAMPLE_QUADS];
     double offsets[3 * EXAMPLE_VERTICES];
     example_block(samples);
-    plain_mesh(3, 3, 3, samples, EXAMPLE_SAMPLES, 100, words, 2 * EXAMPLE_VERTICES, offsets, 3 * EXAMPLE_VERTICES,
+    plain_mesh(3, 3, 3, samples, EXAMPLE_SAMPLES, 100, 0, words, 2 * EXAMPLE_VERTICES, offsets, 3 * EXAMPLE_VERTICES,
                quads, 4 * EXAMPLE_QUADS, answer, ANSWER);
     plain_ply(3, 3, 3, words, 2 * EXAMPLE_VERTICES, offsets, 3 * EXAMPLE_VERTICES, quads, 4 * EXAMPLE_QUADS, 0.1, 0.2,
               0.5, file, file_len, length, 1, answer, ANSWER);
@@ -887,12 +964,15 @@ int main(void)
     faces();
     edges();
     cubes();
+    noise_of_cubes();
     ceilings_of_cubes();
     refusals();
     ceilings_of_blocks();
     rows_of_thresholds();
+    noise_of_rows();
     parts_of_example();
     starts();
+    noise_of_runs();
     planes_refused();
     readings_by_hand();
     blocks_of_readings();
@@ -904,8 +984,10 @@ int main(void)
     pieces_of_hand_lists();
     pieces_of_example();
     pieces_of_two_grains();
-    pore_of_two("two samples of metal: closed", 300, 0, 1);
-    pore_of_two("a pore of two samples: closed", 0, 150, 2);
+    pore_of_two("two samples of metal: closed", 300, 0, 0, 1);
+    pore_of_two("a pore of two samples: closed", 0, 150, 0, 2);
+    pore_of_two("two samples of metal, noise 30000: closed", 300, 0, 30000, 1);
+    pore_of_two("a pore of two that noise joins: closed", 90, 200, 9901, 2);
     files();
     example();
     printf("plain_samples: %u differences\n", failures);

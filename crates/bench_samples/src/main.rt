@@ -123,7 +123,7 @@ fn ask_cube(corners: [u16; 8], t: u16) {
     corners_of(corners);
     number(t as u64, 4);
     io::write_all(STDOUT_FILENO, b"- ");
-    let answer = cell::cube(corners, Cut { t: t });
+    let answer = cell::cube(corners, Cut { t: t, noise: 0 });
     let found = answer.found;
     match found {
         Found::Loops(n) => {
@@ -271,7 +271,7 @@ fn block_of(nx: u32, ny: u32, nz: u32, samples: usize, t: u16) {
 fn ask_counts(nx: u32, ny: u32, nz: u32, samples: &[u16], t: u16) {
     io::write_all(STDOUT_FILENO, b"counts ");
     block_of(nx, ny, nz, samples.len(), t);
-    let counted = mesh::counts(nx, ny, nz, samples, Cut { t: t });
+    let counted = mesh::counts(nx, ny, nz, samples, Cut { t: t, noise: 0 });
     counted_is(counted);
     end_line();
 }
@@ -289,7 +289,16 @@ fn ask_mesh(
 ) {
     io::write_all(STDOUT_FILENO, b"mesh ");
     block_of(nx, ny, nz, samples.len(), t);
-    let counted = mesh::mesh(nx, ny, nz, samples, Cut { t: t }, words, offsets, quads);
+    let counted = mesh::mesh(
+        nx,
+        ny,
+        nz,
+        samples,
+        Cut { t: t, noise: 0 },
+        words,
+        offsets,
+        quads,
+    );
     counted_is(counted);
     end_line();
     words_of(words);

@@ -11,9 +11,9 @@ use Rattle.block.specs.declared.Cut.{Cut}
 abbrev pub SixteenBit : List ℕ → Type 0
 SixteenBit samples = (k : ℕ) → getD samples k 0 < 65536
 
--- the threshold t as a value that travels whole
-abbrev pub cutOf : ℕ → Cut
-cutOf t = record { t = t }
+-- "A noise figure n, any u32, goes with the threshold" t: both as one value that travels whole
+abbrev pub cutOf : ℕ → ℕ → Cut
+cutOf t n = record { t = t; noise = n }
 
 -- the detector's ceiling: what the detector saw there is not known, and it "is taken as a positive sample of that value"
 abbrev pub ceiling : ℕ

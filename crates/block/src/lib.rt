@@ -27,9 +27,10 @@ pub enum Checked {
     Refuses(Refusal),
 }
 
-// The threshold, as a value that travels whole.
+// The threshold and the noise figure, as one value that travels whole. The noise figure is read where a doubtful face is decided, and nowhere else.
 pub struct Cut {
     pub t: u16,
+    pub noise: u32,
 }
 
 // How many samples are at the detector's ceiling, and the lowest index of one.

@@ -73,7 +73,7 @@ third-call = record { words = refl; offsets = refl; quads = refl; counts = refl 
 -- ---- the states between the calls
 
 abbrev stateAt : ℕ → ℕ → ℕ → Stream
-stateAt v q planes = record { nx = 3; ny = 3; nz = 3; cut = record { t = 100 }; vertices = v; quads = q; planes = planes }
+stateAt v q planes = record { nx = 3; ny = 3; nz = 3; cut = record { t = 100; noise = 0 }; vertices = v; quads = q; planes = planes }
 
 pub record States : Type 0 where
   pub at-first : begun 3 3 3 cut ≡ stateAt 0 0 0
@@ -101,7 +101,7 @@ end-rows = record { before-all = refl; after-one = refl; after-two = refl; after
 -- ---- a start: each row by itself, and each before the next
 
 abbrev startVerdict : ℕ → ℕ → ℕ → ℕ → ℕ → Checked
-startVerdict nx ny nz t room = inOrder (startRows nx ny nz (record { t = t }) room)
+startVerdict nx ny nz t room = inOrder (startRows nx ny nz (record { t = t; noise = 0 }) room)
 
 pub record StartRows : Type 0 where
   pub none : startVerdict 3 3 3 100 54 ≡ Passes
@@ -137,7 +137,7 @@ thirdVerdict count room words offsets quads = takeVerdict (stateAt 4 1 2) count 
 
 -- a state that no start gives
 abbrev foreign : ℕ → ℕ → ℕ → Stream
-foreign nz t planes = record { nx = 3; ny = 3; nz = nz; cut = record { t = t }; vertices = 0; quads = 0; planes = planes }
+foreign nz t planes = record { nx = 3; ny = 3; nz = nz; cut = record { t = t; noise = 0 }; vertices = 0; quads = 0; planes = planes }
 
 pub record PlaneRows : Type 0 where
   pub none : callVerdict (stateAt 0 0 0) 9 54 ≡ Passes

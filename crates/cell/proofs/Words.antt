@@ -13,17 +13,17 @@ use Rattle.laws.specs.Fixed.{Fixes}
 use Rattle.laws.proofs.Bits.{holds-top, holds-under}
 use Rattle.laws.proofs.Fixed.{equation-fixes}
 use Rattle.block.specs.declared.Cut.{Cut}
-use Rattle.block.specs.Grey.{ceiling, isCeiling, hasCeiling}
+use Rattle.block.specs.Grey.{cutOf, ceiling, isCeiling, hasCeiling}
 use Rattle.block.proofs.Saturated.{ceiling-exactly, ceiling-none}
 use Rattle.cube_rule.specs.Decider.{joined, loopsOf}
 use Rattle.cube_rule.specs.Edges.{patternOf, crossedMask}
 use Rattle.cube_rule.specs.Loops.{grow, loopFrom, loopsFrom, loopsBy}
 use Rattle.cell.specs.Answer.{markOf, wordOf}
 
--- ---- two cubes
+-- ---- three cubes
 
 abbrev hundred : Cut
-hundred = record { t = 100 }
+hundred = record { t = 100; noise = 0 }
 
 -- one corner, at the ceiling: its loop carries the mark
 pub corner-at-ceiling : map (wordOf (ceiling ∷ replicate 7 0)) (loopsOf hundred (ceiling ∷ replicate 7 0)) ≡ 0x1111 ∷ []
@@ -34,6 +34,15 @@ corner-at-ceiling = refl
 pub all-at-ceiling : map (wordOf (replicate 8 ceiling)) (loopsOf hundred (replicate 8 ceiling)) ≡ []
 unfolding loopsBy joined patternOf crossedMask loopsFrom loopFrom grow maskOf trailingZeros
 all-at-ceiling = refl
+
+-- a face whose positive corners are at the ceiling: the greatest noise figure that joins them, and one more
+pub joined-at-ceiling : map (wordOf (ceiling ∷ 0 ∷ 0 ∷ ceiling ∷ replicate 4 0)) (loopsOf (cutOf 1 4294705155) (ceiling ∷ 0 ∷ 0 ∷ ceiling ∷ replicate 4 0)) ≡ 0x1933 ∷ []
+unfolding loopsBy joined patternOf crossedMask loopsFrom loopFrom grow maskOf trailingZeros
+joined-at-ceiling = refl
+
+pub parted-at-ceiling : map (wordOf (ceiling ∷ 0 ∷ 0 ∷ ceiling ∷ replicate 4 0)) (loopsOf (cutOf 1 4294705156) (ceiling ∷ 0 ∷ 0 ∷ ceiling ∷ replicate 4 0)) ≡ 0x1111 ∷ 0x1822 ∷ []
+unfolding loopsBy joined patternOf crossedMask loopsFrom loopFrom grow maskOf trailingZeros
+parted-at-ceiling = refl
 
 -- ---- any cube
 

@@ -29,7 +29,7 @@ abbrev size : Size
 size = record { nx = 4; ny = 4; nz = 3 }
 
 abbrev cut : Cut
-cut = record { t = 100 }
+cut = record { t = 100; noise = 0 }
 
 -- one value at (1,1,1) and (2,2,1), and another elsewhere
 abbrev pair : ℕ → ℕ → List ℕ

@@ -5,7 +5,7 @@ ghost use mathlib.Core.Path.{_≡_};
 ghost use Prim.Native.Nat.{_≤_, _<_};
 ghost use lib.Bits.{bitAnd};
 ghost use lib.Count.{ones};
-ghost use lib.IntN.{_*ℤ_};
+ghost use lib.IntN.{pos, _+ℤ_, _*ℤ_};
 ghost use Rattle.laws.specs.Bits.{differ};
 ghost use Rattle.block.specs.Grey.{positive};
 ghost use Rattle.cube_rule.specs.Edges.{patternOf, crossedMask};
@@ -123,13 +123,27 @@ fn product(x: i32, y: i32) -> i64
     (x as i64) * (y as i64)
 }
 
-// Whether the positive corners of a face with four crossed edges are joined; p, q, r, s are the samples round it.
+// The same with the noise figure on top: no u32 takes it out of an i64.
+fn raised(x: i32, y: i32, n: u32) -> i64
+    ensures { λ r. ⌜ r ≡ x *ℤ y +ℤ pos n ⌝ }
+{
+    product(x, y) + (n as i64)
+}
+
+// Whether the positive corners of a face with four crossed edges are joined: whether their product is at least that of the negative corners and the noise figure
+// together. p, q, r, s are the samples round the face.
 pub fn decide(cut: Cut, p: u16, q: u16, r: u16, s: u16) -> bool
     ensures { λ j. ⌜ j ≡ joined cut p q r s ⌝ }
 {
-    let pr = product(difference(cut, p), difference(cut, r));
-    let qs = product(difference(cut, q), difference(cut, s));
-    if cut.t <= p { qs <= pr } else { pr <= qs }
+    let dp = difference(cut, p);
+    let dq = difference(cut, q);
+    let dr = difference(cut, r);
+    let ds = difference(cut, s);
+    if cut.t <= p {
+        raised(dq, ds, cut.noise) <= product(dp, dr)
+    } else {
+        raised(dp, dr, cut.noise) <= product(dq, ds)
+    }
 }
 
 // The links of a face, where `crossed` are the cube's crossed edges and p, q, r, s the samples round the face, p at its first corner.

@@ -1,11 +1,11 @@
--- The decider over the natural numbers: the sizes of the differences in place of the signed differences.
+-- The decider over the natural numbers: the sizes of the differences in place of the signed differences, and the noise figure beside those of the negative corners.
 -- Assumes nothing.
 use mathlib.Core.Path.{_≡_, ap, ap₂, _∙_}
 use mathlib.Core.Bool.{Bool, true, false, cond}
 use Prim.Native.Nat.{ℕ, zero, suc, _+_, _-_, _*_, _≤_, _<_}
 use native.Mathlib.Omega.{arith}
 use lib.Dec.{leb, ltb}
-use lib.IntN.{ℤ, pos, negsuc, _-ℤ_, _*ℤ_}
+use lib.IntN.{ℤ, pos, negsuc, _+ℤ_, _-ℤ_, _*ℤ_}
 use lib.Signed.{leZ}
 use borrow.Author.Tests.{lt-ltb, le-ltb, le-leb, lt-leb}
 use Rattle.block.specs.declared.Cut.{Cut}
@@ -32,10 +32,10 @@ difference-neg (suc t) s h = pick (ltb s (suc t)) true (negsuc (suc t - suc s)) 
 
 module _ (cut : Cut) where
   -- the product of two differences of one sign is the product of their sizes
-  product-pos : (a c : ℕ) → cut .t ≤ a → cut .t ≤ c → differenceOf cut a *ℤ differenceOf cut c ≡ pos ((a - cut .t) * (c - cut .t))
+  pub product-pos : (a c : ℕ) → cut .t ≤ a → cut .t ≤ c → differenceOf cut a *ℤ differenceOf cut c ≡ pos ((a - cut .t) * (c - cut .t))
   product-pos a c a-pos c-pos = ap₂ (λ (x y : ℤ). x *ℤ y) (difference-pos (cut .t) a a-pos) (difference-pos (cut .t) c c-pos)
 
-  product-neg : (b d : ℕ) → b < cut .t → d < cut .t → differenceOf cut b *ℤ differenceOf cut d ≡ pos ((cut .t - b) * (cut .t - d))
+  pub product-neg : (b d : ℕ) → b < cut .t → d < cut .t → differenceOf cut b *ℤ differenceOf cut d ≡ pos ((cut .t - b) * (cut .t - d))
   product-neg b d b-neg d-neg =
       ap₂ (λ (x y : ℤ). x *ℤ y) (difference-neg (cut .t) b b-neg) (difference-neg (cut .t) d d-neg)
       ∙ ap₂ (λ (x y : ℕ). pos (x * y)) (size (cut .t) b b-neg) (size (cut .t) d d-neg)
@@ -45,16 +45,16 @@ module _ (cut : Cut) where
 
   -- p and r at least t, q and s below it
   pub joined-pos : (p q r s : ℕ) → cut .t ≤ p → q < cut .t → cut .t ≤ r → s < cut .t →
-      joined cut p q r s ≡ leb ((cut .t - q) * (cut .t - s)) ((p - cut .t) * (r - cut .t))
+      joined cut p q r s ≡ leb ((cut .t - q) * (cut .t - s) + cut .noise) ((p - cut .t) * (r - cut .t))
   unfolding joined
   joined-pos p q r s p-pos q-neg r-pos s-neg =
       pick (positive cut p) true _ _ (le-leb (cut .t) p p-pos)
-      ∙ ap₂ leZ (product-neg q s q-neg s-neg) (product-pos p r p-pos r-pos)
+      ∙ ap₂ (λ (x y : ℤ). leZ (x +ℤ pos (cut .noise)) y) (product-neg q s q-neg s-neg) (product-pos p r p-pos r-pos)
 
   -- p and r below t, q and s at least t
   pub joined-neg : (p q r s : ℕ) → p < cut .t → cut .t ≤ q → r < cut .t → cut .t ≤ s →
-      joined cut p q r s ≡ leb ((cut .t - p) * (cut .t - r)) ((q - cut .t) * (s - cut .t))
+      joined cut p q r s ≡ leb ((cut .t - p) * (cut .t - r) + cut .noise) ((q - cut .t) * (s - cut .t))
   unfolding joined
   joined-neg p q r s p-neg q-pos r-neg s-pos =
       pick (positive cut p) false _ _ (lt-leb (cut .t) p p-neg)
-      ∙ ap₂ leZ (product-neg p r p-neg r-neg) (product-pos q s q-pos s-pos)
+      ∙ ap₂ (λ (x y : ℤ). leZ (x +ℤ pos (cut .noise)) y) (product-neg p r p-neg r-neg) (product-pos q s q-pos s-pos)

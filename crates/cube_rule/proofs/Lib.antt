@@ -12,4 +12,5 @@ pub mod Shared
 pub mod Decider
 pub mod Saddle
 pub mod Doubtful
+pub mod Noise
 pub mod Bench

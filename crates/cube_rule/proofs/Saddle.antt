@@ -1,19 +1,20 @@
--- The decider is the sign of the bilinear form at the saddle: a face with four crossed edges has a saddle, inside it, and its positive
--- corners are joined exactly if the form there is at least t (`decider-is-saddle`, `saddle-exists`, at the end).
+-- The decider reads the bilinear form at the saddle: a face with four crossed edges has a saddle, inside it, and its positive corners are
+-- joined exactly if the form there is at least t + n/S, S being the divisor A + B + C + D (`decider-is-saddle`, `saddle-exists`, at the end).
 -- With the samples t + A, t - B, t + C, t - D round the face, the first difference vanishes where (C + D) v = (A + B) x, and there the
--- form is above t by x (u + w) (A C - B D) over C + D. Positive samples at q and s are the same face, turned.
+-- form is above t by x (u + w) (A C - B D) over C + D, which is (u + w) (v + x) (A C - B D) over S. Positive samples at q and s are the
+-- same face, turned.
 -- Assumes nothing.
 use mathlib.Core.Path.{_≡_, refl, sym, ap, _∙_}
 use mathlib.Core.Bool.{Bool, true, false}
 use mathlib.Core.Logic.{_↔_, _⊎_, inl, inr, ⊎-elim}
-use Prim.Native.Nat.{ℕ, zero, suc, _+_, _-_, _*_, _≤_, _<_}
+use Prim.Native.Nat.{ℕ, _+_, _-_, _*_, _≤_, _<_}
 use native.Mathlib.Nat.{mul-comm, mul-pos, mul-le-mul-left, le-of-mul-le-mul-left}
 use native.Mathlib.Omega.{arith}
 use lib.Dec.{leb}
-use borrow.Author.Tests.{leb-true, leb-false, le-leb}
+use borrow.Author.Tests.{leb-true, leb-false, le-leb, lt-leb}
 use Rattle.block.specs.declared.Cut.{Cut}
 use Rattle.block.specs.Grey.{positive}
-use Rattle.cube_rule.specs.Decider.{joined}
+use Rattle.cube_rule.specs.Decider.{joined, divisor}
 use Rattle.cube_rule.specs.Saddle.{form, Saddle}
 use Rattle.cube_rule.proofs.Decider.{joined-pos, joined-neg}
 
@@ -27,18 +28,23 @@ same-order k m a b c d k-some m-some e = (to, from)
     from : a ≤ b → c ≤ d
     from h = let g : k * a ≤ k * b = mul-le-mul-left k h in le-of-mul-le-mul-left {k = m} (omega arith) m-some
 
--- of two weights that k and l balance, the second is not 0: else both were
-weight-some : (k l v x : ℕ) → 0 < k → 0 < v + x → k * v ≡ l * x → 0 < x
-weight-some k l v (suc x) k-some n-some e = omega arith
-weight-some k l zero zero k-some n-some e = omega arith
-weight-some k l (suc v) zero k-some n-some e = let g : 0 < k * suc v = mul-pos k-some (omega arith) in omega arith
-
 -- C + D times what the form has above t, at p and r, less what it has below t, at q and s, is x (u + w) (A C - B D)
 balance : (A B C D u w v x : ℕ) → (C + D) * v ≡ (A + B) * x →
     (C + D) * (A * (w * x) + C * (u * v)) + x * (u + w) * (B * D) ≡ (C + D) * (B * (u * x) + D * (w * v)) + x * (u + w) * (A * C)
 balance A B C D u w v x e =
     let f : C * u * ((C + D) * v) ≡ C * u * ((A + B) * x) = ap (λ (m : ℕ). C * u * m) e in
     let g : D * w * ((C + D) * v) ≡ D * w * ((A + B) * x) = ap (λ (m : ℕ). D * w * m) e in
+    omega arith
+
+-- S times the form, where a is what the form has above t and b what it has below, and where k and y balance a, b and the two products: k times the one and
+-- k M times the product of the negative sizes, the noise N with it, is k times the other and k M times the product of the positive sizes
+weighed : (k S y M N t f a b bd ac : ℕ) → f + b ≡ t * M + a → k * a + y * bd ≡ k * b + y * ac → k * M ≡ S * y
+    → k * (S * f) + k * M * (bd + N) ≡ k * ((t * S + N) * M) + k * M * ac
+weighed k S y M N t f a b bd ac level balanced same =
+    let l : k * S * (f + b) ≡ k * S * (t * M + a) = ap (λ (m : ℕ). k * S * m) level in
+    let w : S * (k * a + y * bd) ≡ S * (k * b + y * ac) = ap (λ (m : ℕ). S * m) balanced in
+    let g : k * M * bd ≡ S * y * bd = ap (λ (m : ℕ). m * bd) same in
+    let h : k * M * ac ≡ S * y * ac = ap (λ (m : ℕ). m * ac) same in
     omega arith
 
 -- A, B, C and D are the sizes of the samples' differences to t, of which p and r are above and q and s below
@@ -70,17 +76,22 @@ module _ (t p q r s A B C D : ℕ) (sizes : Sizes t p q r s A B C D) where
       ((λ d. omega arith), (λ d. omega arith))
 
   -- the second difference need not vanish for this: where the first does, the form is the same all along the line
-  decides : 0 < D → (u w v x : ℕ) → 0 < u + w → 0 < v + x → Saddle p q r s u w v x
-      → (B * D ≤ A * C) ↔ (t * ((u + w) * (v + x)) ≤ form p q r s u w v x)
+  decides : 0 < D → (N S : ℕ) → p + r ≡ q + s + S → (u w v x : ℕ) → 0 < u + w → 0 < v + x → Saddle p q r s u w v x
+      → (B * D + N ≤ A * C) ↔ ((t * S + N) * ((u + w) * (v + x)) ≤ S * form p q r s u w v x)
   unfolding form
-  decides D-some u w v x along across saddle =
+  decides D-some N S sum u w v x along across saddle =
       let e : (C + D) * v ≡ (A + B) * x = ratio v x .0 (saddle .first) in
-      let x-some : 0 < x = weight-some (C + D) (A + B) v x (omega arith) across e in
-      let n-some : 0 < x * (u + w) = mul-pos x-some along in
-      let o : (B * D ≤ A * C) ↔ (B * (u * x) + D * (w * v) ≤ A * (w * x) + C * (u * v)) =
-      same-order (C + D) (x * (u + w)) _ _ _ _ (omega arith) n-some (balance A B C D u w v x e) in
-      let l = level u w v x in
-      ((λ h. let g = o .0 h in omega arith), (λ h. o .1 (omega arith)))
+      let S-is : S ≡ A + B + C + D = omega (arith, sum, sizes .at-p, sizes .at-q, sizes .at-r, sizes .at-s) in
+      let M = (u + w) * (v + x) in
+      same-order (C + D) ((C + D) * M) _ _ _ _ (omega arith) (mul-pos (omega arith) (mul-pos along across))
+      (weighed (C + D) S (x * (u + w)) M N t _ _ _ (B * D) (A * C) (level u w v x) (balance A B C D u w v x e) (stretch S S-is e))
+    where
+      -- (C + D) (v + x) is S x
+      stretch : (S : ℕ) → S ≡ A + B + C + D → (C + D) * v ≡ (A + B) * x → (C + D) * ((u + w) * (v + x)) ≡ S * (x * (u + w))
+      stretch S S-is e =
+          let f : (u + w) * ((C + D) * v) ≡ (u + w) * ((A + B) * x) = ap (λ (m : ℕ). (u + w) * m) e in
+          let g : S * (x * (u + w)) ≡ (A + B + C + D) * (x * (u + w)) = ap (λ (m : ℕ). m * (x * (u + w))) S-is in
+          omega arith
 
 -- the second difference is the first one of the face seen from behind
 behind : {t p q r s A B C D : ℕ} → Sizes t p q r s A B C D → Sizes t p s r q A D C B
@@ -111,8 +122,8 @@ module _ (t p q r s : ℕ) (p-pos : t ≤ p) (q-neg : q < t) (r-pos : t ≤ r) (
   sized : Sizes t p q r s (p - t) (t - q) (r - t) (t - s)
   sized = record { at-p = omega arith; at-q = omega arith; at-r = omega arith; at-s = omega arith }
 
-  pub decider-pos : (u w v x : ℕ) → 0 < u + w → 0 < v + x → Saddle p q r s u w v x →
-      ((t - q) * (t - s) ≤ (p - t) * (r - t)) ↔ (t * ((u + w) * (v + x)) ≤ form p q r s u w v x)
+  pub decider-pos : (N S : ℕ) → p + r ≡ q + s + S → (u w v x : ℕ) → 0 < u + w → 0 < v + x → Saddle p q r s u w v x →
+      ((t - q) * (t - s) + N ≤ (p - t) * (r - t)) ↔ ((t * S + N) * ((u + w) * (v + x)) ≤ S * form p q r s u w v x)
   decider-pos = decides t p q r s (p - t) (t - q) (r - t) (t - s) sized (omega arith)
 
   pub saddle-exists-pos : SaddleInside p q r s
@@ -128,10 +139,10 @@ turn-saddle p q r s u w v x saddle = record { first = omega arith; second = omeg
 
 -- p and r are negative, q and s positive
 module _ (t p q r s : ℕ) (p-neg : p < t) (q-pos : t ≤ q) (r-neg : r < t) (s-pos : t ≤ s) where
-  pub decider-neg : (u w v x : ℕ) → 0 < u + w → 0 < v + x → Saddle p q r s u w v x →
-      ((t - p) * (t - r) ≤ (q - t) * (s - t)) ↔ (t * ((u + w) * (v + x)) ≤ form p q r s u w v x)
-  decider-neg u w v x along across saddle =
-      let d = decider-pos t q r s p q-pos r-neg s-pos p-neg v x w u across (omega arith) (turn-saddle p q r s u w v x saddle) in
+  pub decider-neg : (N S : ℕ) → q + s ≡ p + r + S → (u w v x : ℕ) → 0 < u + w → 0 < v + x → Saddle p q r s u w v x →
+      ((t - p) * (t - r) + N ≤ (q - t) * (s - t)) ↔ ((t * S + N) * ((u + w) * (v + x)) ≤ S * form p q r s u w v x)
+  decider-neg N S sum u w v x along across saddle =
+      let d = decider-pos t q r s p q-pos r-neg s-pos p-neg N S (omega arith) v x w u across (omega arith) (turn-saddle p q r s u w v x saddle) in
       rw (mul-comm (t - p) (t - r), ← turn-form p q r s u w v x, sides) d
     where
       sides : (u + w) * (v + x) ≡ (v + x) * (w + u)
@@ -143,7 +154,7 @@ module _ (t p q r s : ℕ) (p-neg : p < t) (q-pos : t ≤ q) (r-neg : r < t) (s-
       (f .2, f .3, f .1, f .0, f .6, f .7, f .5, f .4, turn-saddle s p q r (f .0) (f .1) (f .2) (f .3) (f .8))
 
 -- the samples at the first and third corner are positive, the others negative
-abbrev Alternate : (t p q r s : ℕ) → Type 0
+abbrev pub Alternate : (t p q r s : ℕ) → Type 0
 Alternate t p q r s = (t ≤ p) × (q < t) × (t ≤ r) × (s < t)
 
 -- a test that a comparison decides says what the comparison does
@@ -153,7 +164,7 @@ decided b m k e d = ((λ h. d .0 (leb-true m k (sym e ∙ h))), (λ h. e ∙ le-
 -- a face with four crossed edges: p and r have one sign, q and s the other
 module _ (cut : Cut) (p q r s : ℕ)
     (p-as-r : positive cut p ≡ positive cut r) (q-as-s : positive cut q ≡ positive cut s) (p-not-q : ¬ (positive cut p ≡ positive cut q)) where
-  alternate : Alternate (cut .t) p q r s ⊎ Alternate (cut .t) q r s p
+  pub alternate : Alternate (cut .t) p q r s ⊎ Alternate (cut .t) q r s p
   alternate = go (positive cut p) (positive cut q) refl refl
     where
       go : (a b : Bool) → positive cut p ≡ a → positive cut q ≡ b → Alternate (cut .t) p q r s ⊎ Alternate (cut .t) q r s p
@@ -164,15 +175,21 @@ module _ (cut : Cut) (p q r s : ℕ)
           inr (leb-true (cut .t) q f, leb-false (cut .t) r (sym p-as-r ∙ e), leb-true (cut .t) s (sym q-as-s ∙ f), leb-false (cut .t) p e)
       go false false e f = absurd (p-not-q (e ∙ sym f))
 
-  -- the positive corners are joined exactly if the form at the saddle is at least t
+  -- the positive corners are joined exactly if the form at the saddle is at least t + n/S
   pub decider-is-saddle : (u w v x : ℕ) → 0 < u + w → 0 < v + x → Saddle p q r s u w v x →
-      (joined cut p q r s ≡ true) ↔ (cut .t * ((u + w) * (v + x)) ≤ form p q r s u w v x)
+      (joined cut p q r s ≡ true) ↔ ((cut .t * divisor cut p q r s + cut .noise) * ((u + w) * (v + x)) ≤ divisor cut p q r s * form p q r s u w v x)
   decider-is-saddle u w v x along across saddle =
       ⊎-elim
       (λ (h : Alternate (cut .t) p q r s).
-      decided _ _ _ (joined-pos cut p q r s (h .0) (h .1) (h .2) (h .3)) (decider-pos (cut .t) p q r s (h .0) (h .1) (h .2) (h .3) u w v x along across saddle))
+      let S-is : divisor cut p q r s ≡ (p + r) - (q + s) = rw (le-leb (cut .t) p (h .0)) in
+      rw S-is
+      (decided _ _ _ (joined-pos cut p q r s (h .0) (h .1) (h .2) (h .3))
+      (decider-pos (cut .t) p q r s (h .0) (h .1) (h .2) (h .3) (cut .noise) ((p + r) - (q + s)) (omega (arith, h .0, h .1, h .2, h .3)) u w v x along across saddle)))
       (λ (h : Alternate (cut .t) q r s p).
-      decided _ _ _ (joined-neg cut p q r s (h .3) (h .0) (h .1) (h .2)) (decider-neg (cut .t) p q r s (h .3) (h .0) (h .1) (h .2) u w v x along across saddle))
+      let S-is : divisor cut p q r s ≡ (q + s) - (p + r) = rw (lt-leb (cut .t) p (h .3)) in
+      rw S-is
+      (decided _ _ _ (joined-neg cut p q r s (h .3) (h .0) (h .1) (h .2))
+      (decider-neg (cut .t) p q r s (h .3) (h .0) (h .1) (h .2) (cut .noise) ((q + s) - (p + r)) (omega (arith, h .0, h .1, h .2, h .3)) u w v x along across saddle)))
       alternate
 
   pub saddle-exists : SaddleInside p q r s

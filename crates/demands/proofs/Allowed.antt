@@ -73,10 +73,10 @@ size-allows nx ny nz = go (outOfLimits nx) (outOfLimits ny) (outOfLimits nz) ref
 
 pub edge-allows : (p q t : ℕ) → (r : Crossing) × EdgeAnswered p q t r
 unfolding edgeAnswer crossing decided
-edge-allows p q t = go (inOrder (thresholdRow (cutOf t) ∷ [])) (apart (cutOf t) p q)
+edge-allows p q t = go (inOrder (thresholdRow (cutOf t 0) ∷ [])) (apart (cutOf t 0) p q)
   where
-    go : (k : Checked) (b : Bool) → (r : Crossing) × (saidEdge r ≡ judged k (cond b (fraction (cutOf t) p q ∷ []) []))
-    go Passes true = (crossing-is.At (fraction (cutOf t) p q), refl)
+    go : (k : Checked) (b : Bool) → (r : Crossing) × (saidEdge r ≡ judged k (cond b (fraction (cutOf t 0) p q ∷ []) []))
+    go Passes true = (crossing-is.At (fraction (cutOf t 0) p q), refl)
     go Passes false = (crossing-is.Nothing, refl)
     go (Refuses x) b = (crossing-is.Refused x, refl)
 
@@ -193,24 +193,24 @@ edge-told-allows p q t fraction place =
     let r = edge-allows p q t in
     (tellOver (toldFraction (saidEdge (r .0))) fraction, tellOver (toldEdge (saidEdge (r .0))) place, record { answer = r .0; answered = r .1; fraction-told = refl; is-told = refl })
 
-pub cube-told-allows : (corners : List ℕ) (t : ℕ) (words : List ℕ) (offsets : List Float) (place : List ℕ)
-    → (words′ : List ℕ) × (offsets′ : List Float) × (place′ : List ℕ) × CubeTold corners t words offsets place words′ offsets′ place′
-cube-told-allows corners t words offsets place =
-    let r = cube-allows corners (cutOf t) in (
+pub cube-told-allows : (corners : List ℕ) (t noise : ℕ) (words : List ℕ) (offsets : List Float) (place : List ℕ)
+    → (words′ : List ℕ) × (offsets′ : List Float) × (place′ : List ℕ) × CubeTold corners t noise words offsets place words′ offsets′ place′
+cube-told-allows corners t noise words offsets place =
+    let r = cube-allows corners (cutOf t noise) in (
       tellOver (r .0 .words) words,
       tellOver (triples (r .0 .offsets)) offsets,
       tellOver (toldNumber (saidCube (r .0 .found))) place,
       record { answer = r .0; answered = r .1; words-told = refl; offsets-told = refl; is-told = refl },
     )
 
-pub counts-told-allows : (nx ny nz : ℕ) (s : List ℕ) (t : ℕ) (place : List ℕ) → (place′ : List ℕ) × CountsTold nx ny nz s t place place′
-counts-told-allows nx ny nz s t place =
-    let r = counts-allows nx ny nz s (cutOf t) in (tellOver (toldCounts (saidCounts (r .0))) place, record { answer = r .0; answered = r .1; is-told = refl })
+pub counts-told-allows : (nx ny nz : ℕ) (s : List ℕ) (t noise : ℕ) (place : List ℕ) → (place′ : List ℕ) × CountsTold nx ny nz s t noise place place′
+counts-told-allows nx ny nz s t noise place =
+    let r = counts-allows nx ny nz s (cutOf t noise) in (tellOver (toldCounts (saidCounts (r .0))) place, record { answer = r .0; answered = r .1; is-told = refl })
 
-pub mesh-told-allows : (nx ny nz : ℕ) (s : List ℕ) (t : ℕ) (w : List ℕ) (o : List Float) (q place : List ℕ)
-    → (w′ : List ℕ) × (o′ : List Float) × (q′ : List ℕ) × (place′ : List ℕ) × MeshTold nx ny nz s t w o q place w′ o′ q′ place′
-mesh-told-allows nx ny nz s t w o q place =
-    let r = mesh-allows nx ny nz s (cutOf t) w o q in
+pub mesh-told-allows : (nx ny nz : ℕ) (s : List ℕ) (t noise : ℕ) (w : List ℕ) (o : List Float) (q place : List ℕ)
+    → (w′ : List ℕ) × (o′ : List Float) × (q′ : List ℕ) × (place′ : List ℕ) × MeshTold nx ny nz s t noise w o q place w′ o′ q′ place′
+mesh-told-allows nx ny nz s t noise w o q place =
+    let r = mesh-allows nx ny nz s (cutOf t noise) w o q in
     (r .1, r .2, r .3, tellOver (toldCounts (saidCounts (r .0))) place, record { answer = r .0; meshed = r .4; is-told = refl })
 
 pub closed-told-allows : (quads place : List ℕ) → (place′ : List ℕ) × ClosedTold quads place place′

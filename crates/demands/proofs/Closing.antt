@@ -94,18 +94,18 @@ told-open p p′ Closed e h z f = absurd (omega (arith, z, ap (λ (l : List ℕ)
 told-open p p′ (Open q k) e h z f = f q k refl
 told-open p p′ (Refused x) e h z f = absurd (h x refl)
 
-module _ (nx ny nz : ℕ) (s : List ℕ) (t : ℕ) (w : List ℕ) (o : List Float) (q place w′ : List ℕ) (o′ : List Float) (q′ place′ : List ℕ)
-    (m : MeshTold nx ny nz s t w o q place w′ o′ q′ place′) (z : getD place′ 0 1 ≡ 0) (counted : 3 ≤ length place) where
-  call : MeshCall nx ny nz s (cutOf t)
-  call = mesh-told-call nx ny nz s t w o q place w′ o′ q′ place′ m z .0
+module _ (nx ny nz : ℕ) (s : List ℕ) (t noise : ℕ) (w : List ℕ) (o : List Float) (q place w′ : List ℕ) (o′ : List Float) (q′ place′ : List ℕ)
+    (m : MeshTold nx ny nz s t noise w o q place w′ o′ q′ place′) (z : getD place′ 0 1 ≡ 0) (counted : 3 ≤ length place) where
+  call : MeshCall nx ny nz s (cutOf t noise)
+  call = mesh-told-call nx ny nz s t noise w o q place w′ o′ q′ place′ m z .0
 
   vertices-found : getD place′ 1 0 ≡ call .counts .vertices
   unfolding call
-  vertices-found = mesh-told-call nx ny nz s t w o q place w′ o′ q′ place′ m z .3 (omega (arith, counted))
+  vertices-found = mesh-told-call nx ny nz s t noise w o q place w′ o′ q′ place′ m z .3 (omega (arith, counted))
 
   quads-found : getD place′ 2 0 ≡ call .counts .quads
   unfolding call
-  quads-found = mesh-told-call nx ny nz s t w o q place w′ o′ q′ place′ m z .4 counted
+  quads-found = mesh-told-call nx ny nz s t noise w o q place w′ o′ q′ place′ m z .4 counted
 
   -- the quads that the caller finds
   abbrev listFound : List ℕ
@@ -113,7 +113,7 @@ module _ (nx ny nz : ℕ) (s : List ℕ) (t : ℕ) (w : List ℕ) (o : List Floa
 
   is-written : listFound ≡ quadsWritten call
   unfolding call
-  is-written = ap₂ (λ (k : ℕ) (l : List ℕ). take (4 * k) l) quads-found (sym (mesh-told-call nx ny nz s t w o q place w′ o′ q′ place′ m z .2 .2))
+  is-written = ap₂ (λ (k : ℕ) (l : List ℕ). take (4 * k) l) quads-found (sym (mesh-told-call nx ny nz s t noise w o q place w′ o′ q′ place′ m z .2 .2))
 
   -- a word for each vertex and one for each side are memory enough
   pub mesh-told-enough : wordsNeeded (take (4 * getD place′ 2 0) q′) ≤ getD place′ 1 0 + 4 * getD place′ 2 0
@@ -126,20 +126,20 @@ module _ (nx ny nz : ℕ) (s : List ℕ) (t : ℕ) (w : List ℕ) (o : List Floa
   asked-with {work} {p} {work′} {p′} c = subst (λ (l : List ℕ). ClosedWith l work (c .answer) work′) is-written (c .answered)
 
   -- open: a face of the box cuts the surface off
-  pub mesh-told-open : (p p′ : List ℕ) → ClosedTold (take (4 * getD place′ 2 0) q′) p p′ → getD p′ 0 1 ≡ 0 → getD p′ 1 1 ≡ 0 → CutOff (sizeOf nx ny nz) s (cutOf t)
+  pub mesh-told-open : (p p′ : List ℕ) → ClosedTold (take (4 * getD place′ 2 0) q′) p p′ → getD p′ 0 1 ≡ 0 → getD p′ 1 1 ≡ 0 → CutOff (sizeOf nx ny nz) s (cutOf t noise)
   mesh-told-open p p′ c first second =
       told-open p p′ (c .answer) (c .is-told)
       (none-told 4 _ (saidClosure (c .answer)) p p′ (c .is-told) first (λ x e. omega (arith, closed-numbers listFound x (refused-exactly _ _ _ (c .answered) x .0 e)))) second
       (λ a b e. open-after call a b (subst (ClosedAnswered (quadsWritten call)) e (asked c)))
 
-  pub mesh-told-open-with : (work p work′ p′ : List ℕ) → ClosedWithTold (take (4 * getD place′ 2 0) q′) work p work′ p′ → getD p′ 0 1 ≡ 0 → getD p′ 1 1 ≡ 0 → CutOff (sizeOf nx ny nz) s (cutOf t)
+  pub mesh-told-open-with : (work p work′ p′ : List ℕ) → ClosedWithTold (take (4 * getD place′ 2 0) q′) work p work′ p′ → getD p′ 0 1 ≡ 0 → getD p′ 1 1 ≡ 0 → CutOff (sizeOf nx ny nz) s (cutOf t noise)
   mesh-told-open-with work p work′ p′ c first second =
       told-open p p′ (c .answer) (c .is-told)
       (none-told 4 _ (saidClosure (c .answer)) p p′ (c .is-told) first
       (λ x e. ⊎-elim (λ h. omega (arith, h)) (λ h. omega (arith, h)) (closed-with-numbers listFound (length work) x (refused-exactly _ _ _ (c .answered .answer) x .0 e)))) second
       (λ a b e. open-with-after call work work′ a b (subst (λ (r : Closure). ClosedWith (quadsWritten call) work r work′) e (asked-with c)))
 
-  module _ (sign : Bool) (faces : FacesAre sign (sizeOf nx ny nz) s (cutOf t)) where
+  module _ (sign : Bool) (faces : FacesAre sign (sizeOf nx ny nz) s (cutOf t noise)) where
     is-closed : (p p′ : List ℕ) (r : Closure) → p′ ≡ tellOver (toldClosed (saidClosure r)) p → r ≡ Closed → p′ ≡ tellOver (0 ∷ 1 ∷ 0 ∷ 0 ∷ []) p
     unfolding filled
     is-closed p p′ r e c = e ∙ ap (λ (x : Closure). tellOver (toldClosed (saidClosure x)) p) c

@@ -90,8 +90,8 @@ of-row : (n : ℕ) → RowNumber n → n ≡ 4 → ⊥
 of-row n (inl h) e = omega (arith, h .1, e)
 of-row n (inr h) e = omega (arith, h .0, e)
 
-row-other : (nx ny nz : ℕ) (s ts b : List ℕ) (r : RowAnswer) (b′ : List ℕ) → RowAnswered nx ny nz s ts b r b′ → NotFour (saidRow r)
-row-other nx ny nz s ts b r b′ m x e = of-row (x .number) (row-numbers nx ny nz s ts (length b) x (refused-exactly _ _ _ (m .answer) x .0 e))
+row-other : (nx ny nz : ℕ) (s ts : List ℕ) (noise : ℕ) (b : List ℕ) (r : RowAnswer) (b′ : List ℕ) → RowAnswered nx ny nz s ts noise b r b′ → NotFour (saidRow r)
+row-other nx ny nz s ts noise b r b′ m x e = of-row (x .number) (row-numbers nx ny nz s ts (length b) x (refused-exactly _ _ _ (m .answer) x .0 e))
 
 -- the first number of counts that are told
 first-other : (a : Answer Totals) → NotFour a → getD (toldCounts a) 0 0 ≡ 4 → ⊥
@@ -99,12 +99,12 @@ unfolding filled
 first-other (accepted c) h e = omega (arith, e)
 first-other (refused x) h e = h x refl e
 
-row-each : (nx ny nz : ℕ) (s ts b : List ℕ) (r : RowAnswer) (b′ : List ℕ) → RowAnswered nx ny nz s ts b r b′ → saidRow r ≡ accepted tt → (i : ℕ) → i < length ts → getD b′ (3 * i) 0 ≡ 4 → ⊥
-row-each nx ny nz s ts b r b′ m answered i h e =
-    let cut = cutOf (getD ts i 0) in
+row-each : (nx ny nz : ℕ) (s ts : List ℕ) (noise : ℕ) (b : List ℕ) (r : RowAnswer) (b′ : List ℕ) → RowAnswered nx ny nz s ts noise b r b′ → saidRow r ≡ accepted tt → (i : ℕ) → i < length ts → getD b′ (3 * i) 0 ≡ 4 → ⊥
+row-each nx ny nz s ts noise b r b′ m answered i h e =
+    let cut = cutOf (getD ts i 0) noise in
     let c = counts-allows nx ny nz s cut in
     first-other (saidCounts (c .0)) (λ x f g. omega (arith, g, counts-numbers nx ny nz s cut x (refused-exactly _ _ _ (c .1) x .0 f) .1))
-    (sym (row-is-one-by-one nx ny nz s ts b r b′ m answered i h (c .0) (c .1) 0 (omega arith)) ∙ ap (λ (k : ℕ). getD b′ k 0) (add-zero (3 * i)) ∙ e)
+    (sym (row-is-one-by-one nx ny nz s ts noise b r b′ m answered i h (c .0) (c .1) 0 (omega arith)) ∙ ap (λ (k : ℕ). getD b′ k 0) (add-zero (3 * i)) ∙ e)
 
 ply-other : (nx ny nz : ℕ) (words : List ℕ) (offsets : List Float) (quads : List ℕ) (s : Spacing) (file : List ℕ) (r : Filed) (file′ : List ℕ)
     → PlyWritten nx ny nz words offsets quads s file r file′ → NotFour (saidFile r)
@@ -155,7 +155,7 @@ four-never = record {
   cube = λ corners cut r m x e f. omega (arith, f, cube-numbers cut x (refused-exactly _ _ _ (m .found) x .0 e));
   crossed = λ nx ny nz s cut r m x e f. omega (arith, f, crossed-numbers nx ny nz s cut r m x e .1);
   counts = λ nx ny nz s cut r m x e f. omega (arith, f, counts-numbers nx ny nz s cut x (refused-exactly _ _ _ m x .0 e) .1);
-  row = λ nx ny nz s ts b r b′ m. (row-other nx ny nz s ts b r b′ m, row-each nx ny nz s ts b r b′ m);
+  row = λ nx ny nz s ts noise b r b′ m. (row-other nx ny nz s ts noise b r b′ m, row-each nx ny nz s ts noise b r b′ m);
   mesh = λ nx ny nz s cut w o q r w′ o′ q′ m x e. of-mesh (x .number) (mesh-numbers nx ny nz s cut (length w) (length o) (length q) x (refused-exactly _ _ _ (m .answer) x .0 e));
   reading = reading-other;
   readings-counts = readings-counts-other;
@@ -170,18 +170,18 @@ four-never = record {
   run = λ bytes out r out′ m v h p. of-run 4 (run-numbers bytes _ (run-refuses bytes out r out′ m (record { number = 4; value = v }) (omega arith) h .0 p)) refl;
   ceilings-told = λ s place place′ m. four-untold 3 (λ (c : CeilingCount). c .count ∷ c .lowest ∷ []) (accepted (ceilingsIn s)) place place′ m (λ x e f. let z : _≡_ {A = ℕ} 0 1 = cc in omega arith);
   edge-told = λ p q t f place f′ place′ m. four-untold 3 _ (saidEdge (m .answer)) place place′ (m .is-told) (edge-other p q t (m .answer) (m .answered));
-  cube-told = λ corners t w o place w′ o′ place′ m. four-untold 3 _ (saidCube (m .answer .found)) place place′ (m .is-told) (λ x e f. omega (arith, f, cube-numbers (cutOf t) x (refused-exactly _ _ _ (m .answered .found) x .0 e)));
-  crossed-told = λ nx ny nz s t place place′ m. four-untold 3 _ (saidCrossed (m .answer)) place place′ (m .is-told) (λ x e f. omega (arith, f, crossed-numbers nx ny nz s (cutOf t) (m .answer) (m .answered) x e .1));
-  counts-told = λ nx ny nz s t place place′ m. four-untold 3 _ (saidCounts (m .answer)) place place′ (m .is-told) (λ x e f. omega (arith, f, counts-numbers nx ny nz s (cutOf t) x (refused-exactly _ _ _ (m .answered) x .0 e) .1));
-  row-told = λ nx ny nz s ts b place b′ place′ m. (
-    four-untold 3 _ (saidRow (m .answer)) place place′ (m .is-told) (row-other nx ny nz s ts b (m .answer) b′ (m .answered)),
-    λ z. row-each nx ny nz s ts b (m .answer) b′ (m .answered) (row-told-answered nx ny nz s ts b place b′ place′ m z),
+  cube-told = λ corners t noise w o place w′ o′ place′ m. four-untold 3 _ (saidCube (m .answer .found)) place place′ (m .is-told) (λ x e f. omega (arith, f, cube-numbers (cutOf t noise) x (refused-exactly _ _ _ (m .answered .found) x .0 e)));
+  crossed-told = λ nx ny nz s t place place′ m. four-untold 3 _ (saidCrossed (m .answer)) place place′ (m .is-told) (λ x e f. omega (arith, f, crossed-numbers nx ny nz s (cutOf t 0) (m .answer) (m .answered) x e .1));
+  counts-told = λ nx ny nz s t noise place place′ m. four-untold 3 _ (saidCounts (m .answer)) place place′ (m .is-told) (λ x e f. omega (arith, f, counts-numbers nx ny nz s (cutOf t noise) x (refused-exactly _ _ _ (m .answered) x .0 e) .1));
+  row-told = λ nx ny nz s ts noise b place b′ place′ m. (
+    four-untold 3 _ (saidRow (m .answer)) place place′ (m .is-told) (row-other nx ny nz s ts noise b (m .answer) b′ (m .answered)),
+    λ z. row-each nx ny nz s ts noise b (m .answer) b′ (m .answered) (row-told-answered nx ny nz s ts noise b place b′ place′ m z),
   );
-  mesh-told = λ nx ny nz s t w o q place w′ o′ q′ place′ m. four-untold 3 _ (saidCounts (m .answer)) place place′ (m .is-told) (λ x e. of-mesh (x .number) (mesh-numbers nx ny nz s (cutOf t) (length w) (length o) (length q) x (refused-exactly _ _ _ (m .meshed .answer) x .0 e)));
+  mesh-told = λ nx ny nz s t noise w o q place w′ o′ q′ place′ m. four-untold 3 _ (saidCounts (m .answer)) place place′ (m .is-told) (λ x e. of-mesh (x .number) (mesh-numbers nx ny nz s (cutOf t noise) (length w) (length o) (length q) x (refused-exactly _ _ _ (m .meshed .answer) x .0 e)));
   reading-told = λ x place place′ m. four-untold 3 _ (saidReading (readingOf x)) place place′ m (reading-other x);
-  readings-counts-told = λ nx ny nz xs t place place′ m. four-untold 3 _ (saidCounts (m .answer)) place place′ (m .is-told) (readings-counts-other nx ny nz xs (cutOf t) (m .answer) (m .answered));
-  readings-mesh-told = λ nx ny nz xs t w o q place w′ o′ q′ place′ m. four-untold 3 _ (saidCounts (m .answer)) place place′ (m .is-told) (readings-mesh-other nx ny nz xs (cutOf t) w o q (m .answer) w′ o′ q′ (m .meshed));
-  start-told = λ nx ny nz t work state place state′ place′ m. four-untold 3 _ (saidStart (m .answer)) place place′ (m .is-told) (start-other nx ny nz (cutOf t) (length work) (m .answer) (m .answered));
+  readings-counts-told = λ nx ny nz xs t noise place place′ m. four-untold 3 _ (saidCounts (m .answer)) place place′ (m .is-told) (readings-counts-other nx ny nz xs (cutOf t noise) (m .answer) (m .answered));
+  readings-mesh-told = λ nx ny nz xs t noise w o q place w′ o′ q′ place′ m. four-untold 3 _ (saidCounts (m .answer)) place place′ (m .is-told) (readings-mesh-other nx ny nz xs (cutOf t noise) w o q (m .answer) w′ o′ q′ (m .meshed));
+  start-told = λ nx ny nz t noise work state place state′ place′ m. four-untold 3 _ (saidStart (m .answer)) place place′ (m .is-told) (start-other nx ny nz (cutOf t noise) (length work) (m .answer) (m .answered));
   plane-told = λ state plane work w o q place state′ work′ w′ o′ q′ place′ m. four-untold 3 _ (saidTaken (m .answer)) place place′ (m .is-told) (plane-other (m .answered));
   end-told = λ state place place′ m. four-untold 3 _ (saidCounts (m .answer)) place place′ (m .is-told) (finish-other (stateOf state) (m .answer) (m .answered));
   closed-told = λ quads place place′ m. four-untold 4 _ (saidClosure (m .answer)) place place′ (m .is-told) (λ x e f. omega (arith, f, closed-numbers quads x (refused-exactly _ _ _ (m .answered) x .0 e)));

@@ -95,16 +95,16 @@ module _ {nx ny nz : ℕ} {s : List ℕ} {cut : Cut} (a : MeshCall nx ny nz s cu
 
 -- what 01's cut of 100 passes: any block of that size
 module _ (nx ny nz : ℕ) (l : Limits (sizeOf nx ny nz)) where
-  of-size : (s : List ℕ) → length s ≡ nx * (ny * nz) → blockVerdict nx ny nz s (cutOf 100) ≡ Passes
+  of-size : (s : List ℕ) → length s ≡ nx * (ny * nz) → blockVerdict nx ny nz s (cutOf 100 0) ≡ Passes
   of-size s long =
       order-passes (axisRow nx ny nz) _ (within-axes nx ny nz l)
       ∙ order-passes (countRow (sizeOf nx ny nz) (length s)) _ (count-passes (sizeOf nx ny nz) (length s) long)
-      ∙ order-last (thresholdRow (cutOf 100))
+      ∙ order-last (thresholdRow (cutOf 100 0))
 
-  pub hollow-accepted : blockVerdict nx ny nz (hollow (sizeOf nx ny nz)) (cutOf 100) ≡ Passes
+  pub hollow-accepted : blockVerdict nx ny nz (hollow (sizeOf nx ny nz)) (cutOf 100 0) ≡ Passes
   hollow-accepted = of-size (hollow (sizeOf nx ny nz)) (hollow-length (sizeOf nx ny nz))
 
-  pub checkerboard-accepted : blockVerdict nx ny nz (board (sizeOf nx ny nz)) (cutOf 100) ≡ Passes
+  pub checkerboard-accepted : blockVerdict nx ny nz (board (sizeOf nx ny nz)) (cutOf 100 0) ≡ Passes
   checkerboard-accepted = of-size (board (sizeOf nx ny nz)) (board-length (sizeOf nx ny nz))
 
 -- an accepted block has a call with buffers of just its size
@@ -139,8 +139,8 @@ module _ (nx ny nz : ℕ) (s : List ℕ) (cut : Cut) (passes : blockVerdict nx n
   call-of = mesh-call nx ny nz s cut (zeros (2 * v)) (places (3 * v)) (zeros (4 * q)) roomy .0
 
 -- no two calls on them have the same counts
-pub one-count-falls : (nx ny nz : ℕ) → Limits (sizeOf nx ny nz) → (a : MeshCall nx ny nz (hollow (sizeOf nx ny nz)) (cutOf 100))
-    (b : MeshCall nx ny nz (board (sizeOf nx ny nz)) (cutOf 100)) → a .counts ≡ b .counts → ⊥
+pub one-count-falls : (nx ny nz : ℕ) → Limits (sizeOf nx ny nz) → (a : MeshCall nx ny nz (hollow (sizeOf nx ny nz)) (cutOf 100 0))
+    (b : MeshCall nx ny nz (board (sizeOf nx ny nz)) (cutOf 100 0)) → a .counts ≡ b .counts → ⊥
 one-count-falls nx ny nz l a b same =
     some (cubeCount (sizeOf nx ny nz)) cubes
     (sym (hollow-vertices (sizeOf nx ny nz)) ∙ sym (mesh-given a .vertex-count) ∙ ap (λ (x : Totals). x .vertices) same ∙ mesh-given b .vertex-count
@@ -159,5 +159,5 @@ pub no-mesh-for-all : (nx ny nz : ℕ) → Limits (sizeOf nx ny nz) → (c : Tot
 no-mesh-for-all nx ny nz l c call one =
     let h = hollow-accepted nx ny nz l in
     let b = checkerboard-accepted nx ny nz l in
-    one-count-falls nx ny nz l (call (hollow (sizeOf nx ny nz)) (cutOf 100) h) (call (board (sizeOf nx ny nz)) (cutOf 100) b)
-    (one (hollow (sizeOf nx ny nz)) (cutOf 100) h ∙ sym (one (board (sizeOf nx ny nz)) (cutOf 100) b))
+    one-count-falls nx ny nz l (call (hollow (sizeOf nx ny nz)) (cutOf 100 0) h) (call (board (sizeOf nx ny nz)) (cutOf 100 0) b)
+    (one (hollow (sizeOf nx ny nz)) (cutOf 100 0) h ∙ sym (one (board (sizeOf nx ny nz)) (cutOf 100 0) b))

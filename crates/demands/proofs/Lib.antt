@@ -21,3 +21,4 @@ pub mod Readings
 pub mod Four
 pub mod StandIn
 pub mod Idle
+pub mod Noise

@@ -66,8 +66,8 @@ size-numbers nx ny nz = first-has (λ (x : Refusal). x .number ≡ 1) _ (axis-nu
 pub cube-numbers : (cut : Cut) (x : Refusal) → cubeVerdict cut ≡ Refuses x → x .number ≡ 3
 cube-numbers cut = first-has (λ (x : Refusal). x .number ≡ 3) _ (threshold-number cut, tt)
 
-pub edge-numbers : (t : ℕ) (x : Refusal) → inOrder (thresholdRow (cutOf t) ∷ []) ≡ Refuses x → x .number ≡ 3
-edge-numbers t = cube-numbers (cutOf t)
+pub edge-numbers : (t : ℕ) (x : Refusal) → inOrder (thresholdRow (cutOf t 0) ∷ []) ≡ Refuses x → x .number ≡ 3
+edge-numbers t = cube-numbers (cutOf t 0)
 
 -- a number between two others
 from-to : (a b : ℕ) {n : ℕ} → (x : Refusal) → x .number ≡ n → a ≤ n → n ≤ b → (a ≤ x .number) × (x .number ≤ b)

@@ -54,9 +54,9 @@ start-allows nx ny nz cut room = start-of (judged (inOrder (startRows nx ny nz c
 pub finish-allows : (st : Stream) → (r : Counted) × FinishAnswered st r
 finish-allows st = counts-of (judged (inOrder (endRow st ∷ [])) (record { vertices = st .vertices; quads = st .quads }))
 
-pub start-told-allows : (nx ny nz t : ℕ) (work state place : List ℕ) → (state′ : List ℕ) × (place′ : List ℕ) × StartTold nx ny nz t work state place state′ place′
-start-told-allows nx ny nz t work state place =
-    let r = start-allows nx ny nz (cutOf t) (length work) in
+pub start-told-allows : (nx ny nz t noise : ℕ) (work state place : List ℕ) → (state′ : List ℕ) × (place′ : List ℕ) × StartTold nx ny nz t noise work state place state′ place′
+start-told-allows nx ny nz t noise work state place =
+    let r = start-allows nx ny nz (cutOf t noise) (length work) in
     (stateAfter (saidStart (r .0)) state, tellOver (toldNothing (saidStart (r .0))) place, record { answer = r .0; answered = r .1; state-told = refl; is-told = refl })
 
 pub end-told-allows : (state place : List ℕ) → (place′ : List ℕ) × EndTold state place place′
@@ -167,9 +167,9 @@ module _ (st : Stream) where
 
 -- ---- a C caller
 
--- a place of seven items or more gives back the state that was told there
-pub state-comes-back : (st : Stream) (place : List ℕ) → 7 ≤ length place → st .cut .t < 65536 → stateOf (tellOver (stateNumbers st) place) ≡ st
+-- a place of eight items or more gives back the state that was told there
+pub state-comes-back : (st : Stream) (place : List ℕ) → 8 ≤ length place → st .cut .t < 65536 → stateOf (tellOver (stateNumbers st) place) ≡ st
 unfolding over
 state-comes-back st place room small =
     ap (λ (l : List ℕ). stateOf (over l place)) (take-all (length place) (stateNumbers st) room)
-    ∙ ap (λ (t : ℕ). record { nx = st .nx; ny = st .ny; nz = st .nz; cut = cutOf t; vertices = st .vertices; quads = st .quads; planes = st .planes }) (mod-eq-of-lt small)
+    ∙ ap (λ (t : ℕ). record { nx = st .nx; ny = st .ny; nz = st .nz; cut = cutOf t (st .cut .noise); vertices = st .vertices; quads = st .quads; planes = st .planes }) (mod-eq-of-lt small)

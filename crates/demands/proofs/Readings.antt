@@ -115,9 +115,9 @@ readings-counts-numbers nx ny nz xs cut =
 pub readings-counts-allows : (nx ny nz : ℕ) (xs : List Float) (cut : Cut) → (r : Counted) × ReadingsCounted nx ny nz xs cut r
 readings-counts-allows nx ny nz xs cut = counted-of (readingsAnswer nx ny nz xs cut)
 
-pub readings-counts-told-allows : (nx ny nz : ℕ) (xs : List Float) (t : ℕ) (place : List ℕ) → (place′ : List ℕ) × ReadingsCountsTold nx ny nz xs t place place′
-readings-counts-told-allows nx ny nz xs t place =
-    let r = readings-counts-allows nx ny nz xs (cutOf t) in (tellOver (toldCounts (saidCounts (r .0))) place, record { answer = r .0; answered = r .1; is-told = refl })
+pub readings-counts-told-allows : (nx ny nz : ℕ) (xs : List Float) (t noise : ℕ) (place : List ℕ) → (place′ : List ℕ) × ReadingsCountsTold nx ny nz xs t noise place place′
+readings-counts-told-allows nx ny nz xs t noise place =
+    let r = readings-counts-allows nx ny nz xs (cutOf t noise) in (tellOver (toldCounts (saidCounts (r .0))) place, record { answer = r .0; answered = r .1; is-told = refl })
 
 -- ---- meshing
 
@@ -152,10 +152,10 @@ module _ (nx ny nz : ℕ) (xs : List Float) (cut : Cut) (w : List ℕ) (o : List
     record { answer = answered .1; words = refl; offsets = refl; quads = refl },
   )
 
-pub readings-mesh-told-allows : (nx ny nz : ℕ) (xs : List Float) (t : ℕ) (w : List ℕ) (o : List Float) (q place : List ℕ)
-    → (w′ : List ℕ) × (o′ : List Float) × (q′ : List ℕ) × (place′ : List ℕ) × ReadingsMeshTold nx ny nz xs t w o q place w′ o′ q′ place′
-readings-mesh-told-allows nx ny nz xs t w o q place =
-    let r = readings-mesh-allows nx ny nz xs (cutOf t) w o q in
+pub readings-mesh-told-allows : (nx ny nz : ℕ) (xs : List Float) (t noise : ℕ) (w : List ℕ) (o : List Float) (q place : List ℕ)
+    → (w′ : List ℕ) × (o′ : List Float) × (q′ : List ℕ) × (place′ : List ℕ) × ReadingsMeshTold nx ny nz xs t noise w o q place w′ o′ q′ place′
+readings-mesh-told-allows nx ny nz xs t noise w o q place =
+    let r = readings-mesh-allows nx ny nz xs (cutOf t noise) w o q in
     (r .1, r .2, r .3, tellOver (toldCounts (saidCounts (r .0))) place, record { answer = r .0; meshed = r .4; is-told = refl })
 
 pub readings-mesh-numbers : (nx ny nz : ℕ) (xs : List Float) (cut : Cut) (words offsets room : ℕ) (x : Refusal) → readingsVerdict nx ny nz xs cut words offsets room ≡ Refuses x
@@ -279,13 +279,13 @@ reading-metal nx ny nz xs cut sound small i j k h =
 
 -- ---- what a C caller finds
 
-module _ (nx ny nz : ℕ) (xs : List Float) (t : ℕ) (w : List ℕ) (o : List Float) (q place w′ : List ℕ) (o′ : List Float) (q′ place′ : List ℕ)
-    (m : ReadingsMeshTold nx ny nz xs t w o q place w′ o′ q′ place′) where
+module _ (nx ny nz : ℕ) (xs : List Float) (t noise : ℕ) (w : List ℕ) (o : List Float) (q place w′ : List ℕ) (o′ : List Float) (q′ place′ : List ℕ)
+    (m : ReadingsMeshTold nx ny nz xs t noise w o q place w′ o′ q′ place′) where
   -- where the first number is 0, it is what a caller of `parsniprow_mesh` finds for the block of grey values
-  pub readings-told-mesh : getD place′ 0 1 ≡ 0 → MeshTold nx ny nz (greysOf xs) t w o q place w′ o′ q′ place′
+  pub readings-told-mesh : getD place′ 0 1 ≡ 0 → MeshTold nx ny nz (greysOf xs) t noise w o q place w′ o′ q′ place′
   readings-told-mesh z = record {
     answer = m .answer;
-    meshed = mesh-of-their-block nx ny nz xs (cutOf t) sound w o q (m .answer) w′ o′ q′ .0 (m .meshed);
+    meshed = mesh-of-their-block nx ny nz xs (cutOf t noise) sound w o q (m .answer) w′ o′ q′ .0 (m .meshed);
     is-told = m .is-told;
   }
     where
@@ -297,7 +297,7 @@ module _ (nx ny nz : ℕ) (xs : List Float) (t : ℕ) (w : List ℕ) (o : List F
       none : NotRefused (saidCounts (m .answer))
       none =
           none-told 3 _ (saidCounts (m .answer)) place place′ (m .is-told) z
-          (λ x e. least (x .number) (readings-mesh-numbers nx ny nz xs (cutOf t) (length w) (length o) (length q) x (refused-exactly _ _ _ (m .meshed .answer) x .0 e)))
+          (λ x e. least (x .number) (readings-mesh-numbers nx ny nz xs (cutOf t noise) (length w) (length o) (length q) x (refused-exactly _ _ _ (m .meshed .answer) x .0 e)))
 
       sound : Sound xs
-      sound = let c = counts-given (m .answer) none in accepted-sound nx ny nz xs (cutOf t) w o q (m .answer) w′ o′ q′ (m .meshed) (c .0) (c .1)
+      sound = let c = counts-given (m .answer) none in accepted-sound nx ny nz xs (cutOf t noise) w o q (m .answer) w′ o′ q′ (m .meshed) (c .0) (c .1)

@@ -63,11 +63,11 @@ module _ (nx ny nz : ℕ) (r : Sized) (promise : SizeMade nx ny nz r) where
 
 -- the edge question
 module _ (p q t : ℕ) (r : Crossing) (promise : EdgeAnswered p q t r) where
-  pub edge-refuses : (x : Refusal) → (saidEdge r ≡ refused x) ↔ First (thresholdRow (cutOf t) ∷ []) x
+  pub edge-refuses : (x : Refusal) → (saidEdge r ≡ refused x) ↔ First (thresholdRow (cutOf t 0) ∷ []) x
   unfolding edgeAnswer
   edge-refuses = refuses-by _ _ _ promise
 
-  pub edge-accepts : (c : List Float) → (saidEdge r ≡ accepted c) ↔ ((thresholdRow (cutOf t) ≡ Passes) × (c ≡ crossing (cutOf t) p q))
+  pub edge-accepts : (c : List Float) → (saidEdge r ≡ accepted c) ↔ ((thresholdRow (cutOf t 0) ≡ Passes) × (c ≡ crossing (cutOf t 0) p q))
   unfolding edgeAnswer
   edge-accepts = accepts-by _ _ _ promise
 

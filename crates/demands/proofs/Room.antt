@@ -54,7 +54,12 @@ crossed-allows nx ny nz s cut = edged-of (judged (blockVerdict nx ny nz s cut) (
 
 pub crossed-told-allows : (nx ny nz : ℕ) (s : List ℕ) (t : ℕ) (place : List ℕ) → (place′ : List ℕ) × CrossedTold nx ny nz s t place place′
 crossed-told-allows nx ny nz s t place =
-    let r = crossed-allows nx ny nz s (cutOf t) in (tellOver (toldNumber (saidCrossed (r .0))) place, record { answer = r .0; answered = r .1; is-told = refl })
+    let r = crossed-allows nx ny nz s (cutOf t 0) in (tellOver (toldNumber (saidCrossed (r .0))) place, record { answer = r .0; answered = r .1; is-told = refl })
+
+-- it is the same by any noise figure
+pub crossed-reads-no-noise : (nx ny nz : ℕ) (s : List ℕ) (t m n : ℕ) (r : Edged) → CrossedAnswered nx ny nz s (cutOf t m) r → CrossedAnswered nx ny nz s (cutOf t n) r
+unfolding crossedCount
+crossed-reads-no-noise nx ny nz s t m n r h = h
 
 module _ (nx ny nz : ℕ) (s : List ℕ) (cut : Cut) (r : Edged) (promise : CrossedAnswered nx ny nz s cut r) where
   pub crossed-refuses : (x : Refusal) → (saidCrossed r ≡ refused x) ↔ First (axisRow nx ny nz ∷ blockRows (sizeOf nx ny nz) s cut) x
@@ -133,10 +138,10 @@ edges-of : (r : Edged) → NotRefused (saidCrossed r) → (e : ℕ) × (saidCros
 edges-of (edged.Edges e) h = (e, refl)
 edges-of (edged.Refused x) h = absurd (h x refl)
 
--- who is told 0 and a number, and reserves by it, is told 0 of the mesh
+-- who is told 0 and a number, and reserves by it, is told 0 of the mesh by any noise figure
 module _ (nx ny nz : ℕ) (s : List ℕ) (t : ℕ) (place place′ : List ℕ) (m : CrossedTold nx ny nz s t place place′) (z : getD place′ 0 1 ≡ 0) (two : 2 ≤ length place) where
   found : (e : ℕ) × (saidCrossed (m .answer) ≡ accepted e)
-  found = edges-of (m .answer) (none-told 3 _ (saidCrossed (m .answer)) place place′ (m .is-told) z (λ x e. crossed-numbers nx ny nz s (cutOf t) (m .answer) (m .answered) x e .0))
+  found = edges-of (m .answer) (none-told 3 _ (saidCrossed (m .answer)) place place′ (m .is-told) z (λ x e. crossed-numbers nx ny nz s (cutOf t 0) (m .answer) (m .answered) x e .0))
 
   number-is : getD place′ 1 0 ≡ found .0
   unfolding filled
@@ -144,11 +149,11 @@ module _ (nx ny nz : ℕ) (s : List ℕ) (t : ℕ) (place place′ : List ℕ) (
       ap (λ (l : List ℕ). getD l 1 0) (m .is-told ∙ ap (λ (a : Answer ℕ). tellOver (toldNumber a) place) (found .1))
       ∙ tell-at (toldNumber (accepted (found .0))) place 1 0 (omega (arith, two)) (omega arith)
 
-  pub room-told : (w : List ℕ) (o : List Float) (q answer w′ : List ℕ) (o′ : List Float) (q′ answer′ : List ℕ) → 0 < length answer
-      → Reserved (getD place′ 1 0) (length w) (length o) (length q) → MeshTold nx ny nz s t w o q answer w′ o′ q′ answer′ → getD answer′ 0 1 ≡ 0
+  pub room-told : (noise : ℕ) (w : List ℕ) (o : List Float) (q answer w′ : List ℕ) (o′ : List Float) (q′ answer′ : List ℕ) → 0 < length answer
+      → Reserved (getD place′ 1 0) (length w) (length o) (length q) → MeshTold nx ny nz s t noise w o q answer w′ o′ q′ answer′ → getD answer′ 0 1 ≡ 0
   unfolding filled
-  room-told w o q answer w′ o′ q′ answer′ long room told =
+  room-told noise w o q answer w′ o′ q′ answer′ long room told =
       let reserved : Reserved (found .0) (length w) (length o) (length q) = rw number-is at room in
-      let given = room-never-short nx ny nz s (cutOf t) (m .answer) (m .answered) (found .0) (found .1) w o q (told .answer) w′ o′ q′ reserved (told .meshed) in
+      let given = room-never-short nx ny nz s (cutOf t noise) (m .answer) (crossed-reads-no-noise nx ny nz s t 0 noise (m .answer) (m .answered)) (found .0) (found .1) w o q (told .answer) w′ o′ q′ reserved (told .meshed) in
       ap (λ (l : List ℕ). getD l 0 1) (told .is-told ∙ ap (λ (a : Answer Totals). tellOver (toldCounts a) answer) given)
-      ∙ tell-at (toldCounts (accepted (countsOf (sizeOf nx ny nz) s (cutOf t)))) answer 0 1 long (omega arith)
+      ∙ tell-at (toldCounts (accepted (countsOf (sizeOf nx ny nz) s (cutOf t noise)))) answer 0 1 long (omega arith)

@@ -18,7 +18,7 @@ use Rattle.block.specs.Size.{sizeOf, Limits}
 use Rattle.block.proofs.Order.{order-first, accepted-exactly, written-passed}
 use Rattle.block.proofs.Sizes.{axes-within}
 use Rattle.cube_rule.specs.Decider.{joined, loopsOf}
-use Rattle.cube_rule.proofs.Doubtful.{doubtful-saddle}
+use Rattle.cube_rule.proofs.Doubtful.{divisor-some, noisy-saddle, doubtful-saddle}
 use Rattle.cube_rule.proofs.Laws.{cube-laws, cube-ruled}
 use Rattle.cell.specs.Answer.{wordOf}
 use Rattle.mesh_rule.specs.Buffers.{meshWords, meshOffsets, meshQuads}
@@ -121,7 +121,8 @@ module _ {nx ny nz : ℕ} {s : List ℕ} {cut : Cut} (a : MeshCall nx ny nz s cu
     vertex-count = vertices-are;
     each-vertex = vertex-given;
     loops = λ c. cube-ruled joined cut (cornersOf size s c);
-    saddles = λ c f u w v x four. doubtful-saddle cut _ _ _ _ four u w v x;
+    noisy-saddles = λ c f u w v x four along across saddle. (divisor-some cut _ _ _ _ four, noisy-saddle cut _ _ _ _ four u w v x along across saddle);
+    saddles = λ none c f u w v x four. doubtful-saddle cut _ _ _ _ four none u w v x;
     offsets = offsets-in;
     in-unit = λ grey k h. rw (offset-at k h) (offsets-in-unit size s cut grey k (rw offsets-long h));
     quads = quads-in;

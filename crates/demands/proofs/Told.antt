@@ -55,8 +55,8 @@ module _ (s place place′ : List ℕ) (promise : CeilingsTold s place place′)
 
 -- ---- the cube question
 
-module _ (corners : List ℕ) (t : ℕ) (w : List ℕ) (o : List Float) (place w′ : List ℕ) (o′ : List Float) (place′ : List ℕ)
-    (m : CubeTold corners t w o place w′ o′ place′) (z : getD place′ 0 1 ≡ 0) where
+module _ (corners : List ℕ) (t noise : ℕ) (w : List ℕ) (o : List Float) (place w′ : List ℕ) (o′ : List Float) (place′ : List ℕ)
+    (m : CubeTold corners t noise w o place w′ o′ place′) (z : getD place′ 0 1 ≡ 0) where
   loops-of : (f : Found) → NotRefused (saidCube f) → (n : ℕ) × (saidCube f ≡ accepted n)
   loops-of (found-is.Loops n) h = (n, refl)
   loops-of (found-is.Refused x) h = absurd (h x refl)
@@ -65,7 +65,7 @@ module _ (corners : List ℕ) (t : ℕ) (w : List ℕ) (o : List Float) (place w
   loops =
       loops-of (m .answer .found)
       (none-told 3 _ (saidCube (m .answer .found)) place place′ (m .is-told) z
-      (λ x e. omega (arith, cube-numbers (cutOf t) x (refused-exactly _ _ _ (m .answered .found) x .0 e))))
+      (λ x e. omega (arith, cube-numbers (cutOf t noise) x (refused-exactly _ _ _ (m .answered .found) x .0 e))))
 
   -- the number of loops that is found is not more than there are
   loops-found : getD place′ 1 0 ≤ loops .0
@@ -77,10 +77,10 @@ module _ (corners : List ℕ) (t : ℕ) (w : List ℕ) (o : List Float) (place w
   words-long : loops .0 ≤ length (m .answer .words)
   unfolding filled
   words-long =
-      let e = cube-accepts corners (cutOf t) (m .answer) (m .answered) (loops .0) .0 (loops .1) in
-      let is : m .answer .words ≡ filled 4 0 (map (wordOf corners) (loopsOf (cutOf t) corners)) =
-      m .answered .words ∙ ap (λ (ms : List ℕ). filled 4 0 (map (wordOf corners) ms)) (accepted-loops (cutOf t) corners (verdict-is (cutOf t) ∙ e .0)) in
-      omega (arith, e .1, ap length is, length-append (map (wordOf corners) (loopsOf (cutOf t) corners)) (replicate (4 - length (map (wordOf corners) (loopsOf (cutOf t) corners))) 0), length-map (loopsOf (cutOf t) corners) (wordOf corners))
+      let e = cube-accepts corners (cutOf t noise) (m .answer) (m .answered) (loops .0) .0 (loops .1) in
+      let is : m .answer .words ≡ filled 4 0 (map (wordOf corners) (loopsOf (cutOf t noise) corners)) =
+      m .answered .words ∙ ap (λ (ms : List ℕ). filled 4 0 (map (wordOf corners) ms)) (accepted-loops (cutOf t noise) corners (verdict-is (cutOf t noise) ∙ e .0)) in
+      omega (arith, e .1, ap length is, length-append (map (wordOf corners) (loopsOf (cutOf t noise) corners)) (replicate (4 - length (map (wordOf corners) (loopsOf (cutOf t noise) corners))) 0), length-map (loopsOf (cutOf t noise) corners) (wordOf corners))
 
   word-found : (l : ℕ) → l < length w → l < loops .0 → getD w′ l 0 ≡ getD (m .answer .words) l 0
   word-found l room h =
@@ -90,7 +90,7 @@ module _ (corners : List ℕ) (t : ℕ) (w : List ℕ) (o : List Float) (place w
   pub cube-told-marked : (l : ℕ) → l < getD place′ 1 0 → l < length w → (hasMark (getD w′ l 0) ≡ true) ↔ AtCeiling corners
   cube-told-marked l h room =
       let there : l < loops .0 = omega (arith, h, loops-found) in
-      subst (λ (x : ℕ). (hasMark x ≡ true) ↔ AtCeiling corners) (sym (word-found l room there)) (cube-marked corners (cutOf t) (m .answer) (m .answered) (loops .0) (loops .1) l there)
+      subst (λ (x : ℕ). (hasMark x ≡ true) ↔ AtCeiling corners) (sym (word-found l room there)) (cube-marked corners (cutOf t noise) (m .answer) (m .answered) (loops .0) (loops .1) l there)
 
 -- ---- the mesh
 
@@ -99,15 +99,15 @@ pub counts-given : (r : Counted) → NotRefused (saidCounts r) → (c : Totals) 
 counts-given (counted.Counts c) h = (c, refl)
 counts-given (counted.Refused x) h = absurd (h x refl)
 
-module _ (nx ny nz : ℕ) (s : List ℕ) (t : ℕ) (w : List ℕ) (o : List Float) (q place w′ : List ℕ) (o′ : List Float) (q′ place′ : List ℕ)
-    (m : MeshTold nx ny nz s t w o q place w′ o′ q′ place′) (z : getD place′ 0 1 ≡ 0) where
+module _ (nx ny nz : ℕ) (s : List ℕ) (t noise : ℕ) (w : List ℕ) (o : List Float) (q place w′ : List ℕ) (o′ : List Float) (q′ place′ : List ℕ)
+    (m : MeshTold nx ny nz s t noise w o q place w′ o′ q′ place′) (z : getD place′ 0 1 ≡ 0) where
   counts : (c : Totals) × (saidCounts (m .answer) ≡ accepted c)
   counts =
       counts-given (m .answer)
       (none-told 3 _ (saidCounts (m .answer)) place place′ (m .is-told) z
-      (λ x e. ⊎-elim (λ h. h .0) (λ h. omega (arith, h .0)) (mesh-numbers nx ny nz s (cutOf t) (length w) (length o) (length q) x (refused-exactly _ _ _ (m .meshed .answer) x .0 e))))
+      (λ x e. ⊎-elim (λ h. h .0) (λ h. omega (arith, h .0)) (mesh-numbers nx ny nz s (cutOf t noise) (length w) (length o) (length q) x (refused-exactly _ _ _ (m .meshed .answer) x .0 e))))
 
-  abbrev call : MeshCall nx ny nz s (cutOf t)
+  abbrev call : MeshCall nx ny nz s (cutOf t noise)
   call = record {
     words = w;
     offsets = o;
@@ -138,7 +138,7 @@ module _ (nx ny nz : ℕ) (s : List ℕ) (t : ℕ) (w : List ℕ) (o : List Floa
       subst (λ (l : List ℕ). getD l 1 0 ≤ counts .0 .vertices) (sym place-is) (tell-le (toldCounts (accepted (counts .0))) place 1 (omega arith))
 
   -- there is a call of `mesh` with these buffers, before and after, and with the counts that are found where the place has room for them
-  pub mesh-told-call : (a : MeshCall nx ny nz s (cutOf t)) × ((a .words ≡ w) × (a .offsets ≡ o) × (a .quads ≡ q))
+  pub mesh-told-call : (a : MeshCall nx ny nz s (cutOf t noise)) × ((a .words ≡ w) × (a .offsets ≡ o) × (a .quads ≡ q))
       × ((a .words-after ≡ w′) × (a .offsets-after ≡ o′) × (a .quads-after ≡ q′))
       × (2 ≤ length place → getD place′ 1 0 ≡ a .counts .vertices) × (3 ≤ length place → getD place′ 2 0 ≡ a .counts .quads)
   mesh-told-call = (call, (refl, refl, refl), (refl, refl, refl), vertices-are, quads-are)
@@ -151,12 +151,12 @@ module _ (nx ny nz : ℕ) (s : List ℕ) (t : ℕ) (w : List ℕ) (o : List Floa
 
   -- where the place has room for the number of vertices, and none of them is marked
   pub mesh-told-clear : 2 ≤ length place → ((v : ℕ) → v < getD place′ 1 0 → hasMark (getD w′ (2 * v + 1) 0) ≡ false)
-      → (c : ℕ) → c < cubeCount (sizeOf nx ny nz) → BothSigns (cutOf t) (cornersOf (sizeOf nx ny nz) s c) → AtCeiling (cornersOf (sizeOf nx ny nz) s c) → ⊥
+      → (c : ℕ) → c < cubeCount (sizeOf nx ny nz) → BothSigns (cutOf t noise) (cornersOf (sizeOf nx ny nz) s c) → AtCeiling (cornersOf (sizeOf nx ny nz) s c) → ⊥
   mesh-told-clear room none =
       unmarked-clear call (λ v h. none v (seen room v h))
 
   -- so each crossed edge of the block, on its faces too, has both ends below 65,535
   pub mesh-told-below : 2 ≤ length place → ((v : ℕ) → v < getD place′ 1 0 → hasMark (getD w′ (2 * v + 1) 0) ≡ false) → SixteenBit s
-      → (axis : Axis) (i j k : ℕ) → EdgeIn (sizeOf nx ny nz) axis i j k → crossedFrom (sizeOf nx ny nz) s (cutOf t) axis i j k ≡ true
+      → (axis : Axis) (i j k : ℕ) → EdgeIn (sizeOf nx ny nz) axis i j k → crossedFrom (sizeOf nx ny nz) s (cutOf t noise) axis i j k ≡ true
       → (sampleAt (sizeOf nx ny nz) s i j k < 65535) × (ahead (sampleAt (sizeOf nx ny nz) s) axis i j k < 65535)
   mesh-told-below room none grey = crossed-below call (λ v h. none v (seen room v h)) grey

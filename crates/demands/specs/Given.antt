@@ -13,7 +13,7 @@ use Rattle.block.specs.declared.Size.{Size}
 use Rattle.block.specs.Grey.{positive, SixteenBit}
 use Rattle.block.specs.Numbering.{X, Y, Z, sampleCount, cubeCount}
 use Rattle.block.specs.Size.{sizeOf}
-use Rattle.cube_rule.specs.Decider.{joined, loopsOf}
+use Rattle.cube_rule.specs.Decider.{joined, divisor, loopsOf}
 use Rattle.cube_rule.specs.Edges.{cornerSample, patternOf}
 use Rattle.cube_rule.specs.Faces.{ringCorner}
 use Rattle.cube_rule.specs.Links.{ringCount, decisions}
@@ -35,6 +35,10 @@ module _ {nx ny nz : ℕ} {s : List ℕ} {cut : Cut} (a : MeshCall nx ny nz s cu
   abbrev round : ℕ → ℕ → ℕ → ℕ
   round c f i = cornerSample (cornersOf size s c) (ringCorner f i)
 
+  -- the divisor of its saddle
+  abbrev S : ℕ → ℕ → ℕ
+  S c f = divisor cut (round c f 0) (round c f 1) (round c f 2) (round c f 3)
+
   pub record MeshGiven : Type 0 where
     -- the vertices, one for each loop of each cube, in order: cube number and word. What stood behind them is kept
     pub words : a .words-after ≡ over (meshWords loopsOf size s cut) (a .words)
@@ -47,8 +51,14 @@ module _ {nx ny nz : ℕ} {s : List ℕ} {cut : Cut} (a : MeshCall nx ny nz s cu
         × List·Memᴰ (vertexOf loopsOf size s cut v .mask) (cubeLoops loopsOf size s cut (vertexOf loopsOf size s cut v .cube))
     -- the loops of a cube are those of THE RULE, its doubtful faces being decided by `joined`
     pub loops : (c : ℕ) → Rule (patternOf cut (cornersOf size s c)) (decisions joined cut (cornersOf size s c)) (cubeLoops loopsOf size s cut c)
-    -- and that is by the saddle: where all four edges of a face are crossed, its positive corners are joined exactly if the form there is at least t
-    pub saddles : (c f u w v x : ℕ)
+    -- and that is by the saddle: where all four edges of a face are crossed, its positive corners are joined exactly if the form there is at least t + n/S, with the
+    -- noise figure n and the divisor S, which is above 0; so without noise exactly if it is at least t
+    pub noisy-saddles : (c f u w v x : ℕ)
+        → ringCount (positive cut (round c f 0)) (positive cut (round c f 1)) (positive cut (round c f 2)) (positive cut (round c f 3)) ≡ 4
+        → 0 < u + w → 0 < v + x → Saddle (round c f 0) (round c f 1) (round c f 2) (round c f 3) u w v x
+        → (0 < S c f) × ((decisions joined cut (cornersOf size s c) f ≡ true)
+        ↔ ((cut .t * S c f + cut .noise) * ((u + w) * (v + x)) ≤ S c f * form (round c f 0) (round c f 1) (round c f 2) (round c f 3) u w v x))
+    pub saddles : cut .noise ≡ 0 → (c f u w v x : ℕ)
         → ringCount (positive cut (round c f 0)) (positive cut (round c f 1)) (positive cut (round c f 2)) (positive cut (round c f 3)) ≡ 4
         → 0 < u + w → 0 < v + x → Saddle (round c f 0) (round c f 1) (round c f 2) (round c f 3) u w v x
         → (decisions joined cut (cornersOf size s c) f ≡ true) ↔ (cut .t * ((u + w) * (v + x)) ≤ form (round c f 0) (round c f 1) (round c f 2) (round c f 3) u w v x)

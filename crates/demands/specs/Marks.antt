@@ -81,7 +81,7 @@ pub record FourNever : Type 0 where
   pub cube : (corners : List ℕ) (cut : Cut) (r : CubeAnswer) → CubeAnswered corners cut r → NotFour (saidCube (r .found))
   pub crossed : (nx ny nz : ℕ) (s : List ℕ) (cut : Cut) (r : Edged) → CrossedAnswered nx ny nz s cut r → NotFour (saidCrossed r)
   pub counts : (nx ny nz : ℕ) (s : List ℕ) (cut : Cut) (r : Counted) → CountsAnswered nx ny nz s cut r → NotFour (saidCounts r)
-  pub row : (nx ny nz : ℕ) (s ts b : List ℕ) (r : RowAnswer) (b′ : List ℕ) → RowAnswered nx ny nz s ts b r b′
+  pub row : (nx ny nz : ℕ) (s ts : List ℕ) (noise : ℕ) (b : List ℕ) (r : RowAnswer) (b′ : List ℕ) → RowAnswered nx ny nz s ts noise b r b′
       → NotFour (saidRow r) × (saidRow r ≡ accepted tt → (i : ℕ) → i < length ts → getD b′ (3 * i) 0 ≡ 4 → ⊥)
   pub mesh : (nx ny nz : ℕ) (s : List ℕ) (cut : Cut) (w : List ℕ) (o : List Float) (q : List ℕ) (r : Counted) (w′ : List ℕ) (o′ : List Float) (q′ : List ℕ)
       → Meshed nx ny nz s cut w o q r w′ o′ q′ → NotFour (saidCounts r)
@@ -101,19 +101,19 @@ pub record FourNever : Type 0 where
   pub run : (bytes out : List ℕ) (r : ℕ) (out′ : List ℕ) → Ran bytes out r out′ → (v : ℕ) → v ≤ 4294967295 → Prints (refusalLine (record { number = 4; value = v })) out r out′ → ⊥
   pub ceilings-told : (s place place′ : List ℕ) → CeilingsTold s place place′ → getD place′ 0 0 ≡ 4 → ⊥
   pub edge-told : (p q t : ℕ) (f : List Float) (place : List ℕ) (f′ : List Float) (place′ : List ℕ) → EdgeTold p q t f place f′ place′ → getD place′ 0 0 ≡ 4 → ⊥
-  pub cube-told : (corners : List ℕ) (t : ℕ) (w : List ℕ) (o : List Float) (place w′ : List ℕ) (o′ : List Float) (place′ : List ℕ)
-      → CubeTold corners t w o place w′ o′ place′ → getD place′ 0 0 ≡ 4 → ⊥
+  pub cube-told : (corners : List ℕ) (t noise : ℕ) (w : List ℕ) (o : List Float) (place w′ : List ℕ) (o′ : List Float) (place′ : List ℕ)
+      → CubeTold corners t noise w o place w′ o′ place′ → getD place′ 0 0 ≡ 4 → ⊥
   pub crossed-told : (nx ny nz : ℕ) (s : List ℕ) (t : ℕ) (place place′ : List ℕ) → CrossedTold nx ny nz s t place place′ → getD place′ 0 0 ≡ 4 → ⊥
-  pub counts-told : (nx ny nz : ℕ) (s : List ℕ) (t : ℕ) (place place′ : List ℕ) → CountsTold nx ny nz s t place place′ → getD place′ 0 0 ≡ 4 → ⊥
-  pub row-told : (nx ny nz : ℕ) (s ts b place b′ place′ : List ℕ) → RowTold nx ny nz s ts b place b′ place′
+  pub counts-told : (nx ny nz : ℕ) (s : List ℕ) (t noise : ℕ) (place place′ : List ℕ) → CountsTold nx ny nz s t noise place place′ → getD place′ 0 0 ≡ 4 → ⊥
+  pub row-told : (nx ny nz : ℕ) (s ts : List ℕ) (noise : ℕ) (b place b′ place′ : List ℕ) → RowTold nx ny nz s ts noise b place b′ place′
       → (getD place′ 0 0 ≡ 4 → ⊥) × (getD place′ 0 1 ≡ 0 → (i : ℕ) → i < length ts → getD b′ (3 * i) 0 ≡ 4 → ⊥)
-  pub mesh-told : (nx ny nz : ℕ) (s : List ℕ) (t : ℕ) (w : List ℕ) (o : List Float) (q place w′ : List ℕ) (o′ : List Float) (q′ place′ : List ℕ)
-      → MeshTold nx ny nz s t w o q place w′ o′ q′ place′ → getD place′ 0 0 ≡ 4 → ⊥
+  pub mesh-told : (nx ny nz : ℕ) (s : List ℕ) (t noise : ℕ) (w : List ℕ) (o : List Float) (q place w′ : List ℕ) (o′ : List Float) (q′ place′ : List ℕ)
+      → MeshTold nx ny nz s t noise w o q place w′ o′ q′ place′ → getD place′ 0 0 ≡ 4 → ⊥
   pub reading-told : (x : Float) (place place′ : List ℕ) → ReadingTold x place place′ → getD place′ 0 0 ≡ 4 → ⊥
-  pub readings-counts-told : (nx ny nz : ℕ) (xs : List Float) (t : ℕ) (place place′ : List ℕ) → ReadingsCountsTold nx ny nz xs t place place′ → getD place′ 0 0 ≡ 4 → ⊥
-  pub readings-mesh-told : (nx ny nz : ℕ) (xs : List Float) (t : ℕ) (w : List ℕ) (o : List Float) (q place w′ : List ℕ) (o′ : List Float) (q′ place′ : List ℕ)
-      → ReadingsMeshTold nx ny nz xs t w o q place w′ o′ q′ place′ → getD place′ 0 0 ≡ 4 → ⊥
-  pub start-told : (nx ny nz t : ℕ) (work state place state′ place′ : List ℕ) → StartTold nx ny nz t work state place state′ place′ → getD place′ 0 0 ≡ 4 → ⊥
+  pub readings-counts-told : (nx ny nz : ℕ) (xs : List Float) (t noise : ℕ) (place place′ : List ℕ) → ReadingsCountsTold nx ny nz xs t noise place place′ → getD place′ 0 0 ≡ 4 → ⊥
+  pub readings-mesh-told : (nx ny nz : ℕ) (xs : List Float) (t noise : ℕ) (w : List ℕ) (o : List Float) (q place w′ : List ℕ) (o′ : List Float) (q′ place′ : List ℕ)
+      → ReadingsMeshTold nx ny nz xs t noise w o q place w′ o′ q′ place′ → getD place′ 0 0 ≡ 4 → ⊥
+  pub start-told : (nx ny nz t noise : ℕ) (work state place state′ place′ : List ℕ) → StartTold nx ny nz t noise work state place state′ place′ → getD place′ 0 0 ≡ 4 → ⊥
   pub plane-told : (state plane work w : List ℕ) (o : List Float) (q place state′ work′ w′ : List ℕ) (o′ : List Float) (q′ place′ : List ℕ)
       → PlaneTold state plane work w o q place state′ work′ w′ o′ q′ place′ → getD place′ 0 0 ≡ 4 → ⊥
   pub end-told : (state place place′ : List ℕ) → EndTold state place place′ → getD place′ 0 0 ≡ 4 → ⊥

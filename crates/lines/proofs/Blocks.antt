@@ -47,12 +47,12 @@ pub record Front (n : Size) (s : List ℕ) (cut : Cut) (w : List ℕ) (o : List 
 
 module _ (nx ny nz t : ℕ) (s w : List ℕ) (o : List Float) (q : List ℕ) (r : Counted) (w′ : List ℕ) (o′ : List Float) (q′ : List ℕ)
     (read : Readable nx ny nz t) (count : length s ≡ nx * (ny * nz)) (lw : length w ≡ 2744) (lo : length o ≡ 4116) (lq : length q ≡ 3024)
-    (m : Meshed nx ny nz s (cutOf t) w o q r w′ o′ q′) where
+    (m : Meshed nx ny nz s (cutOf t 0) w o q r w′ o′ q′) where
   abbrev size : Size
   size = sizeOf nx ny nz
 
   abbrev cut : Cut
-  cut = cutOf t
+  cut = cutOf t 0
 
   abbrev verdict : Checked
   verdict = meshVerdict nx ny nz s cut (length w) (length o) (length q)

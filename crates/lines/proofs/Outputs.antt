@@ -42,27 +42,27 @@ abbrev outputFor : List ℕ → Size → Cut → List ℕ
 outputFor bytes n cut = printed (inOrder (inputRows bytes n cut)) (textFor bytes n cut)
 
 output-for : (bytes : List ℕ) (nx ny nz t : ℕ) → nx ≡ numberAt bytes 0 4 → ny ≡ numberAt bytes 4 4 → nz ≡ numberAt bytes 8 4 → t ≡ numberAt bytes 12 4
-    → outputOf bytes ≡ outputFor bytes (sizeOf nx ny nz) (record { t = t })
+    → outputOf bytes ≡ outputFor bytes (sizeOf nx ny nz) (record { t = t; noise = 0 })
 unfolding outputOf
 output-for bytes nx ny nz t ex ey ez et = rw (ex, ey, ez, et)
 
 module _ (bytes : List ℕ) (nx ny nz t : ℕ) (ex : nx ≡ numberAt bytes 0 4) (ey : ny ≡ numberAt bytes 4 4) (ez : nz ≡ numberAt bytes 8 4) (et : t ≡ numberAt bytes 12 4) where
   -- a row refuses
-  pub output-refused : (r : Refusal) → inOrder (inputRows bytes (sizeOf nx ny nz) (record { t = t })) ≡ Refuses r → refusalLine r ≡ outputOf bytes
+  pub output-refused : (r : Refusal) → inOrder (inputRows bytes (sizeOf nx ny nz) (record { t = t; noise = 0 })) ≡ Refuses r → refusalLine r ≡ outputOf bytes
   unfolding decided
   output-refused r e =
       sym (output-for bytes nx ny nz t ex ey ez et
-      ∙ ap (λ (k : Checked). printed k (textFor bytes (sizeOf nx ny nz) (record { t = t }))) e)
+      ∙ ap (λ (k : Checked). printed k (textFor bytes (sizeOf nx ny nz) (record { t = t; noise = 0 }))) e)
 
   -- none does
-  pub output-block : inOrder (inputRows bytes (sizeOf nx ny nz) (record { t = t })) ≡ Passes
-      → blockText (sizeOf nx ny nz) (samplesRead bytes (sizeOf nx ny nz)) (record { t = t }) ≡ outputOf bytes
+  pub output-block : inOrder (inputRows bytes (sizeOf nx ny nz) (record { t = t; noise = 0 })) ≡ Passes
+      → blockText (sizeOf nx ny nz) (samplesRead bytes (sizeOf nx ny nz)) (record { t = t; noise = 0 }) ≡ outputOf bytes
   unfolding decided
   output-block e =
       sym (output-for bytes nx ny nz t ex ey ez et
-      ∙ ap (λ (k : Checked). printed k (textFor bytes (sizeOf nx ny nz) (record { t = t }))) e)
+      ∙ ap (λ (k : Checked). printed k (textFor bytes (sizeOf nx ny nz) (record { t = t; noise = 0 }))) e)
 
-  pub readable : inOrder (inputRows bytes (sizeOf nx ny nz) (record { t = t })) ≡ Passes → Readable nx ny nz t
+  pub readable : inOrder (inputRows bytes (sizeOf nx ny nz) (record { t = t; noise = 0 })) ≡ Passes → Readable nx ny nz t
   readable e =
       let a = order-rest (firstLineRow bytes) _ e in
       let l = order-rest (axisRow nx ny nz) _ a in

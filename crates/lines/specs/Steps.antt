@@ -27,7 +27,7 @@ Numbers xs = (k : ℕ) → k < length xs → T (not (isNan (getD xs k nan)))
 pub record Readable (nx ny nz t : ℕ) : Type 0 where
   pub axes : axisRow nx ny nz ≡ Passes
   pub small : largeRow nx ny nz ≡ Passes
-  pub cut : thresholdRow (record { t = t }) ≡ Passes
+  pub cut : thresholdRow (record { t = t; noise = 0 }) ≡ Passes
 
 -- the line of a vertex, and of a quad, by its fields
 unfoldable pub vertexFields : ℕ → ℕ → Float → Float → Float → List ℕ

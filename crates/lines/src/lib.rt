@@ -212,7 +212,7 @@ fn put_front(out: &mut [u8], totals: Totals, words: &[u32], offsets: &[f64], qua
 fn put_block(out: &mut [u8], nx: u32, ny: u32, nz: u32, samples: &[u16], t: u16) -> usize
     requires { ⌜ Readable nx ny nz t × (length (now samples) ≡ nx * (ny * nz)) × SixteenBit (now samples) ⌝ }
     requires { ⌜ 112917 ≤ length (now out) ⌝ }
-    ensures { λ r. ⌜ Put (now (out .entry)) 0 (blockText (sizeOf nx ny nz) (now (samples .entry)) (record { t = t })) (now (out .exit)) r ⌝ }
+    ensures { λ r. ⌜ Put (now (out .entry)) 0 (blockText (sizeOf nx ny nz) (now (samples .entry)) (record { t = t; noise = 0 })) (now (out .exit)) r ⌝ }
 {
     let mut words = [0u32; 2744];
     let mut offsets = [0.0f64; 4116];
@@ -222,7 +222,7 @@ fn put_block(out: &mut [u8], nx: u32, ny: u32, nz: u32, samples: &[u16], t: u16)
         ny,
         nz,
         samples,
-        Cut { t: t },
+        Cut { t: t, noise: 0 },
         &mut words,
         &mut offsets,
         &mut quads,
@@ -238,7 +238,7 @@ fn put_block(out: &mut [u8], nx: u32, ny: u32, nz: u32, samples: &[u16], t: u16)
 fn answer(input: &[u8], nx: u32, ny: u32, nz: u32, t: u16, out: &mut [u8]) -> usize
     requires { ⌜ Readable nx ny nz t ⌝ }
     requires { ⌜ 112917 ≤ length (now out) ⌝ }
-    ensures { λ r. ⌜ Put (now (out .entry)) 0 (blockText (sizeOf nx ny nz) (samplesRead (now (input .entry)) (sizeOf nx ny nz)) (record { t = t })) (now (out .exit)) r ⌝ }
+    ensures { λ r. ⌜ Put (now (out .entry)) 0 (blockText (sizeOf nx ny nz) (samplesRead (now (input .entry)) (sizeOf nx ny nz)) (record { t = t; noise = 0 })) (now (out .exit)) r ⌝ }
 {
     let mut samples = [0u16; 512];
     let count = (nx * (ny * nz)) as usize;

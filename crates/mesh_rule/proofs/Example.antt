@@ -23,7 +23,7 @@ abbrev pub size : ℕ → Size
 size n = record { nx = n; ny = n; nz = n }
 
 abbrev pub cut : Cut
-cut = record { t = 100 }
+cut = record { t = 100; noise = 0 }
 
 abbrev vertex : ℕ → ℕ → Vertex
 vertex c m = record { cube = c; mask = m }

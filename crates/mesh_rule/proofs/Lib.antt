@@ -15,3 +15,4 @@ pub mod Example
 pub mod Words
 pub mod Offsets
 pub mod Small
+pub mod Noise

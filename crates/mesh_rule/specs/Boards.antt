@@ -11,7 +11,7 @@ use Rattle.block.specs.Grey.{cutOf}
 use Rattle.block.specs.Numbering.{sampleCount, atSample}
 
 abbrev pub cut : Cut
-cut = cutOf 100
+cut = cutOf 100 0
 
 -- 110 at an even number, 0 at an odd one
 abbrev pub shade : ℕ → ℕ

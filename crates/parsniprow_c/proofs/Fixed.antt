@@ -62,41 +62,41 @@ edge-told-fixed p q t fraction place a b x y =
 abbrev cubeFound : List ℕ → List Float → List ℕ → CubeAnswer → List ℕ × List Float × List ℕ
 cubeFound words offsets place r = (tellOver (r .words) words, tellOver (triples (r .offsets)) offsets, tellOver (toldNumber (saidCube (r .found))) place)
 
-is-cube-found : (corners : List ℕ) (t : ℕ) (words : List ℕ) (offsets : List Float) (place : List ℕ) (f : List ℕ × List Float × List ℕ)
-    (x : CubeTold corners t words offsets place (f .0) (f .1) (f .2)) → f ≡ cubeFound words offsets place (x .answer)
-is-cube-found corners t words offsets place f x =
+is-cube-found : (corners : List ℕ) (t noise : ℕ) (words : List ℕ) (offsets : List Float) (place : List ℕ) (f : List ℕ × List Float × List ℕ)
+    (x : CubeTold corners t noise words offsets place (f .0) (f .1) (f .2)) → f ≡ cubeFound words offsets place (x .answer)
+is-cube-found corners t noise words offsets place f x =
     ap₂ (λ (u : List ℕ) (v : List Float). (u, v, f .2)) (x .words-told) (x .offsets-told)
     ∙ ap (λ (u : List ℕ). (tellOver (x .answer .words) words, tellOver (triples (x .answer .offsets)) offsets, u)) (x .is-told)
 
-pub cube-told-fixed : (corners : List ℕ) (t : ℕ) (words : List ℕ) (offsets : List Float) (place : List ℕ)
-    → Fixes (λ (f : List ℕ × List Float × List ℕ). CubeTold corners t words offsets place (f .0) (f .1) (f .2))
-cube-told-fixed corners t words offsets place a b x y =
-    is-cube-found corners t words offsets place a x
-    ∙ ap (cubeFound words offsets place) (cube-fixed corners (cutOf t) (x .answer) (y .answer) (x .answered) (y .answered))
-    ∙ sym (is-cube-found corners t words offsets place b y)
+pub cube-told-fixed : (corners : List ℕ) (t noise : ℕ) (words : List ℕ) (offsets : List Float) (place : List ℕ)
+    → Fixes (λ (f : List ℕ × List Float × List ℕ). CubeTold corners t noise words offsets place (f .0) (f .1) (f .2))
+cube-told-fixed corners t noise words offsets place a b x y =
+    is-cube-found corners t noise words offsets place a x
+    ∙ ap (cubeFound words offsets place) (cube-fixed corners (cutOf t noise) (x .answer) (y .answer) (x .answered) (y .answered))
+    ∙ sym (is-cube-found corners t noise words offsets place b y)
 
 pub crossed-told-fixed : (nx ny nz : ℕ) (s : List ℕ) (t : ℕ) (place : List ℕ) → Fixes (CrossedTold nx ny nz s t place)
 crossed-told-fixed nx ny nz s t place a b p q =
     p .is-told
-    ∙ ap (λ (x : Edged). tellOver (toldNumber (saidCrossed x)) place) (crossed-fixed nx ny nz s (cutOf t) (p .answer) (q .answer) (p .answered) (q .answered))
+    ∙ ap (λ (x : Edged). tellOver (toldNumber (saidCrossed x)) place) (crossed-fixed nx ny nz s (cutOf t 0) (p .answer) (q .answer) (p .answered) (q .answered))
     ∙ sym (q .is-told)
 
 -- counts are told alike where they are the same
 told-alike : (place : List ℕ) {a b : List ℕ} {x y : Counted} → x ≡ y → a ≡ tellOver (toldCounts (saidCounts x)) place → b ≡ tellOver (toldCounts (saidCounts y)) place → a ≡ b
 told-alike place e p q = p ∙ ap (λ (x : Counted). tellOver (toldCounts (saidCounts x)) place) e ∙ sym q
 
-pub counts-told-fixed : (nx ny nz : ℕ) (s : List ℕ) (t : ℕ) (place : List ℕ) → Fixes (CountsTold nx ny nz s t place)
-counts-told-fixed nx ny nz s t place a b p q = told-alike place (counts-fixed nx ny nz s (cutOf t) (p .answer) (q .answer) (p .answered) (q .answered)) (p .is-told) (q .is-told)
+pub counts-told-fixed : (nx ny nz : ℕ) (s : List ℕ) (t noise : ℕ) (place : List ℕ) → Fixes (CountsTold nx ny nz s t noise place)
+counts-told-fixed nx ny nz s t noise place a b p q = told-alike place (counts-fixed nx ny nz s (cutOf t noise) (p .answer) (q .answer) (p .answered) (q .answered)) (p .is-told) (q .is-told)
 
-pub readings-counts-told-fixed : (nx ny nz : ℕ) (xs : List Float) (t : ℕ) (place : List ℕ) → Fixes (ReadingsCountsTold nx ny nz xs t place)
-readings-counts-told-fixed nx ny nz xs t place a b p q =
-    told-alike place (readings-counts-fixed nx ny nz xs (cutOf t) (p .answer) (q .answer) (p .answered) (q .answered)) (p .is-told) (q .is-told)
+pub readings-counts-told-fixed : (nx ny nz : ℕ) (xs : List Float) (t noise : ℕ) (place : List ℕ) → Fixes (ReadingsCountsTold nx ny nz xs t noise place)
+readings-counts-told-fixed nx ny nz xs t noise place a b p q =
+    told-alike place (readings-counts-fixed nx ny nz xs (cutOf t noise) (p .answer) (q .answer) (p .answered) (q .answered)) (p .is-told) (q .is-told)
 
 -- the buffer and the answer
-pub row-told-fixed : (nx ny nz : ℕ) (s ts b place : List ℕ) → Fixes (λ (f : List ℕ × List ℕ). RowTold nx ny nz s ts b place (f .0) (f .1))
-row-told-fixed nx ny nz s ts b place x y p q =
+pub row-told-fixed : (nx ny nz : ℕ) (s ts : List ℕ) (noise : ℕ) (b place : List ℕ) → Fixes (λ (f : List ℕ × List ℕ). RowTold nx ny nz s ts noise b place (f .0) (f .1))
+row-told-fixed nx ny nz s ts noise b place x y p q =
     ap (λ (u : List ℕ). (x .0, u)) (p .is-told)
-    ∙ ap (λ (r : RowAnswer × List ℕ). (r .1, tellOver (toldNothing (saidRow (r .0))) place)) (row-fixed nx ny nz s ts b (p .answer, x .0) (q .answer, y .0) (p .answered) (q .answered))
+    ∙ ap (λ (r : RowAnswer × List ℕ). (r .1, tellOver (toldNothing (saidRow (r .0))) place)) (row-fixed nx ny nz s ts noise b (p .answer, x .0) (q .answer, y .0) (p .answered) (q .answered))
     ∙ ap (λ (u : List ℕ). (y .0, u)) (sym (q .is-told))
 
 -- the three buffers and the answer
@@ -107,15 +107,15 @@ buffers-alike place {a} {b} {x} {y} e p q =
     ∙ ap (λ (z : Counted × List ℕ × List Float × List ℕ). (z .1, z .2, z .3, tellOver (toldCounts (saidCounts (z .0))) place)) e
     ∙ ap (λ (u : List ℕ). (b .0, b .1, b .2, u)) (sym q)
 
-pub mesh-told-fixed : (nx ny nz : ℕ) (s : List ℕ) (t : ℕ) (w : List ℕ) (o : List Float) (q place : List ℕ)
-    → Fixes (λ (f : List ℕ × List Float × List ℕ × List ℕ). MeshTold nx ny nz s t w o q place (f .0) (f .1) (f .2) (f .3))
-mesh-told-fixed nx ny nz s t w o q place a b p r =
-    buffers-alike place {a = a} {b = b} (mesh-fixed nx ny nz s (cutOf t) w o q (p .answer, a .0, a .1, a .2) (r .answer, b .0, b .1, b .2) (p .meshed) (r .meshed)) (p .is-told) (r .is-told)
+pub mesh-told-fixed : (nx ny nz : ℕ) (s : List ℕ) (t noise : ℕ) (w : List ℕ) (o : List Float) (q place : List ℕ)
+    → Fixes (λ (f : List ℕ × List Float × List ℕ × List ℕ). MeshTold nx ny nz s t noise w o q place (f .0) (f .1) (f .2) (f .3))
+mesh-told-fixed nx ny nz s t noise w o q place a b p r =
+    buffers-alike place {a = a} {b = b} (mesh-fixed nx ny nz s (cutOf t noise) w o q (p .answer, a .0, a .1, a .2) (r .answer, b .0, b .1, b .2) (p .meshed) (r .meshed)) (p .is-told) (r .is-told)
 
-pub readings-mesh-told-fixed : (nx ny nz : ℕ) (xs : List Float) (t : ℕ) (w : List ℕ) (o : List Float) (q place : List ℕ)
-    → Fixes (λ (f : List ℕ × List Float × List ℕ × List ℕ). ReadingsMeshTold nx ny nz xs t w o q place (f .0) (f .1) (f .2) (f .3))
-readings-mesh-told-fixed nx ny nz xs t w o q place a b p r =
-    buffers-alike place {a = a} {b = b} (readings-mesh-fixed nx ny nz xs (cutOf t) w o q (p .answer, a .0, a .1, a .2) (r .answer, b .0, b .1, b .2) (p .meshed) (r .meshed)) (p .is-told) (r .is-told)
+pub readings-mesh-told-fixed : (nx ny nz : ℕ) (xs : List Float) (t noise : ℕ) (w : List ℕ) (o : List Float) (q place : List ℕ)
+    → Fixes (λ (f : List ℕ × List Float × List ℕ × List ℕ). ReadingsMeshTold nx ny nz xs t noise w o q place (f .0) (f .1) (f .2) (f .3))
+readings-mesh-told-fixed nx ny nz xs t noise w o q place a b p r =
+    buffers-alike place {a = a} {b = b} (readings-mesh-fixed nx ny nz xs (cutOf t noise) w o q (p .answer, a .0, a .1, a .2) (r .answer, b .0, b .1, b .2) (p .meshed) (r .meshed)) (p .is-told) (r .is-told)
 
 pub closed-told-fixed : (quads place : List ℕ) → Fixes (ClosedTold quads place)
 closed-told-fixed quads place a b p q =
@@ -152,10 +152,10 @@ ply-told-fixed nx ny nz words offsets quads spacing file bytes place a b p q =
 -- ---- plane by plane
 
 -- the state and the answer
-pub start-told-fixed : (nx ny nz t : ℕ) (work state place : List ℕ) → Fixes (λ (f : List ℕ × List ℕ). StartTold nx ny nz t work state place (f .0) (f .1))
-start-told-fixed nx ny nz t work state place a b p q =
+pub start-told-fixed : (nx ny nz t noise : ℕ) (work state place : List ℕ) → Fixes (λ (f : List ℕ × List ℕ). StartTold nx ny nz t noise work state place (f .0) (f .1))
+start-told-fixed nx ny nz t noise work state place a b p q =
     ap₂ (λ (u v : List ℕ). (u, v)) (p .state-told) (p .is-told)
-    ∙ ap (λ (x : Started). (stateAfter (saidStart x) state, tellOver (toldNothing (saidStart x)) place)) (start-fixed nx ny nz (cutOf t) (length work) (p .answer) (q .answer) (p .answered) (q .answered))
+    ∙ ap (λ (x : Started). (stateAfter (saidStart x) state, tellOver (toldNothing (saidStart x)) place)) (start-fixed nx ny nz (cutOf t noise) (length work) (p .answer) (q .answer) (p .answered) (q .answered))
     ∙ sym (ap₂ (λ (u v : List ℕ). (u, v)) (q .state-told) (q .is-told))
 
 -- for a state and a work buffer as last left: the state, the three buffers and the answer

@@ -54,44 +54,45 @@ pub record EdgeTold (p q t : ℕ) (fraction : List Float) (place : List ℕ) (fr
   pub fraction-told : fraction′ ≡ tellOver (toldFraction (saidEdge answer)) fraction
   pub is-told : place′ ≡ tellOver (toldEdge (saidEdge answer)) place
 
-pub record CubeTold (corners : List ℕ) (t : ℕ) (words : List ℕ) (offsets : List Float) (place words′ : List ℕ) (offsets′ : List Float) (place′ : List ℕ) : Type 0 where
+pub record CubeTold (corners : List ℕ) (t noise : ℕ) (words : List ℕ) (offsets : List Float) (place words′ : List ℕ) (offsets′ : List Float) (place′ : List ℕ) : Type 0 where
   pub answer : CubeAnswer
-  pub answered : CubeAnswered corners (cutOf t) answer
+  pub answered : CubeAnswered corners (cutOf t noise) answer
   pub words-told : words′ ≡ tellOver (answer .words) words
   pub offsets-told : offsets′ ≡ tellOver (triples (answer .offsets)) offsets
   pub is-told : place′ ≡ tellOver (toldNumber (saidCube (answer .found))) place
 
+-- the count of crossed edges reads no noise figure (`crossed-reads-no-noise`)
 pub record CrossedTold (nx ny nz : ℕ) (s : List ℕ) (t : ℕ) (place place′ : List ℕ) : Type 0 where
   pub answer : Edged
-  pub answered : CrossedAnswered nx ny nz s (cutOf t) answer
+  pub answered : CrossedAnswered nx ny nz s (cutOf t 0) answer
   pub is-told : place′ ≡ tellOver (toldNumber (saidCrossed answer)) place
 
-pub record CountsTold (nx ny nz : ℕ) (s : List ℕ) (t : ℕ) (place place′ : List ℕ) : Type 0 where
+pub record CountsTold (nx ny nz : ℕ) (s : List ℕ) (t noise : ℕ) (place place′ : List ℕ) : Type 0 where
   pub answer : Counted
-  pub answered : CountsAnswered nx ny nz s (cutOf t) answer
+  pub answered : CountsAnswered nx ny nz s (cutOf t noise) answer
   pub is-told : place′ ≡ tellOver (toldCounts (saidCounts answer)) place
 
 -- the buffer is that of `counts_row`
-pub record RowTold (nx ny nz : ℕ) (s ts b place b′ place′ : List ℕ) : Type 0 where
+pub record RowTold (nx ny nz : ℕ) (s ts : List ℕ) (noise : ℕ) (b place b′ place′ : List ℕ) : Type 0 where
   pub answer : RowAnswer
-  pub answered : RowAnswered nx ny nz s ts b answer b′
+  pub answered : RowAnswered nx ny nz s ts noise b answer b′
   pub is-told : place′ ≡ tellOver (toldNothing (saidRow answer)) place
 
 -- the three buffers are those of `mesh`
-pub record MeshTold (nx ny nz : ℕ) (s : List ℕ) (t : ℕ) (w : List ℕ) (o : List Float) (q place w′ : List ℕ) (o′ : List Float) (q′ place′ : List ℕ) : Type 0 where
+pub record MeshTold (nx ny nz : ℕ) (s : List ℕ) (t noise : ℕ) (w : List ℕ) (o : List Float) (q place w′ : List ℕ) (o′ : List Float) (q′ place′ : List ℕ) : Type 0 where
   pub answer : Counted
-  pub meshed : Meshed nx ny nz s (cutOf t) w o q answer w′ o′ q′
+  pub meshed : Meshed nx ny nz s (cutOf t noise) w o q answer w′ o′ q′
   pub is-told : place′ ≡ tellOver (toldCounts (saidCounts answer)) place
 
 -- the answer and the three buffers are those of `counts` and `mesh` of readings
-pub record ReadingsCountsTold (nx ny nz : ℕ) (xs : List Float) (t : ℕ) (place place′ : List ℕ) : Type 0 where
+pub record ReadingsCountsTold (nx ny nz : ℕ) (xs : List Float) (t noise : ℕ) (place place′ : List ℕ) : Type 0 where
   pub answer : Counted
-  pub answered : ReadingsCounted nx ny nz xs (cutOf t) answer
+  pub answered : ReadingsCounted nx ny nz xs (cutOf t noise) answer
   pub is-told : place′ ≡ tellOver (toldCounts (saidCounts answer)) place
 
-pub record ReadingsMeshTold (nx ny nz : ℕ) (xs : List Float) (t : ℕ) (w : List ℕ) (o : List Float) (q place w′ : List ℕ) (o′ : List Float) (q′ place′ : List ℕ) : Type 0 where
+pub record ReadingsMeshTold (nx ny nz : ℕ) (xs : List Float) (t noise : ℕ) (w : List ℕ) (o : List Float) (q place w′ : List ℕ) (o′ : List Float) (q′ place′ : List ℕ) : Type 0 where
   pub answer : Counted
-  pub meshed : ReadingsMeshed nx ny nz xs (cutOf t) w o q answer w′ o′ q′
+  pub meshed : ReadingsMeshed nx ny nz xs (cutOf t noise) w o q answer w′ o′ q′
   pub is-told : place′ ≡ tellOver (toldCounts (saidCounts answer)) place
 
 -- a place for a state afterwards: the state, or what it held on refusal
@@ -103,9 +104,9 @@ abbrev pub growthAfter : Answer Growth → List ℕ → List ℕ
 growthAfter (accepted g) place = tellOver (stateNumbers (g .stream)) place
 growthAfter (refused r) place = place
 
-pub record StartTold (nx ny nz t : ℕ) (work state place state′ place′ : List ℕ) : Type 0 where
+pub record StartTold (nx ny nz t noise : ℕ) (work state place state′ place′ : List ℕ) : Type 0 where
   pub answer : Started
-  pub answered : StartAnswered nx ny nz (cutOf t) (length work) answer
+  pub answered : StartAnswered nx ny nz (cutOf t noise) (length work) answer
   pub state-told : state′ ≡ stateAfter (saidStart answer) state
   pub is-told : place′ ≡ tellOver (toldNothing (saidStart answer)) place
 

@@ -53,13 +53,14 @@ pub extern "C" fn parsniprow_cube(
     c6: u16,
     c7: u16,
     t: u16,
+    noise: u32,
     words: &mut [u32],
     offsets: &mut [f64],
     answer: &mut [u32],
 )
-    ensures { λ _. ⌜ CubeTold (c0 ∷ c1 ∷ c2 ∷ c3 ∷ c4 ∷ c5 ∷ c6 ∷ c7 ∷ []) t (now (words .entry)) (now (offsets .entry)) (now (answer .entry)) (now (words .exit)) (now (offsets .exit)) (now (answer .exit)) ⌝ }
+    ensures { λ _. ⌜ CubeTold (c0 ∷ c1 ∷ c2 ∷ c3 ∷ c4 ∷ c5 ∷ c6 ∷ c7 ∷ []) t noise (now (words .entry)) (now (offsets .entry)) (now (answer .entry)) (now (words .exit)) (now (offsets .exit)) (now (answer .exit)) ⌝ }
 {
-    let given = cell::cube([c0, c1, c2, c3, c4, c5, c6, c7], Cut { t: t });
+    let given = cell::cube([c0, c1, c2, c3, c4, c5, c6, c7], Cut { t: t, noise: noise });
     let four = given.words;
     put(words, &four);
     let places = given.offsets;
@@ -82,7 +83,7 @@ pub extern "C" fn parsniprow_crossed(
 )
     ensures { λ _. ⌜ CrossedTold nx ny nz (now (samples .entry)) t (now (answer .entry)) (now (answer .exit)) ⌝ }
 {
-    let edged = room::crossed(nx, ny, nz, samples, Cut { t: t });
+    let edged = room::crossed(nx, ny, nz, samples, Cut { t: t, noise: 0 });
     let told = told::tell_crossed(edged);
     put(answer, &told);
 }
@@ -95,11 +96,12 @@ pub extern "C" fn parsniprow_counts(
     nz: u32,
     samples: &[u16],
     t: u16,
+    noise: u32,
     answer: &mut [u32],
 )
-    ensures { λ _. ⌜ CountsTold nx ny nz (now (samples .entry)) t (now (answer .entry)) (now (answer .exit)) ⌝ }
+    ensures { λ _. ⌜ CountsTold nx ny nz (now (samples .entry)) t noise (now (answer .entry)) (now (answer .exit)) ⌝ }
 {
-    let counted = mesh::counts(nx, ny, nz, samples, Cut { t: t });
+    let counted = mesh::counts(nx, ny, nz, samples, Cut { t: t, noise: noise });
     let told = told::tell_counts(counted);
     put(answer, &told);
 }
@@ -112,12 +114,13 @@ pub extern "C" fn parsniprow_thresholds(
     nz: u32,
     samples: &[u16],
     thresholds: &[u16],
+    noise: u32,
     answers: &mut [u32],
     answer: &mut [u32],
 )
-    ensures { λ _. ⌜ RowTold nx ny nz (now (samples .entry)) (now (thresholds .entry)) (now (answers .entry)) (now (answer .entry)) (now (answers .exit)) (now (answer .exit)) ⌝ }
+    ensures { λ _. ⌜ RowTold nx ny nz (now (samples .entry)) (now (thresholds .entry)) noise (now (answers .entry)) (now (answer .entry)) (now (answers .exit)) (now (answer .exit)) ⌝ }
 {
-    let row = thresholds::counts_row(nx, ny, nz, samples, thresholds, answers);
+    let row = thresholds::counts_row(nx, ny, nz, samples, thresholds, noise, answers);
     let told = told::tell_row(row);
     put(answer, &told);
 }
@@ -130,14 +133,24 @@ pub extern "C" fn parsniprow_mesh(
     nz: u32,
     samples: &[u16],
     t: u16,
+    noise: u32,
     words: &mut [u32],
     offsets: &mut [f64],
     quads: &mut [u32],
     answer: &mut [u32],
 )
-    ensures { λ _. ⌜ MeshTold nx ny nz (now (samples .entry)) t (now (words .entry)) (now (offsets .entry)) (now (quads .entry)) (now (answer .entry)) (now (words .exit)) (now (offsets .exit)) (now (quads .exit)) (now (answer .exit)) ⌝ }
+    ensures { λ _. ⌜ MeshTold nx ny nz (now (samples .entry)) t noise (now (words .entry)) (now (offsets .entry)) (now (quads .entry)) (now (answer .entry)) (now (words .exit)) (now (offsets .exit)) (now (quads .exit)) (now (answer .exit)) ⌝ }
 {
-    let counted = mesh::mesh(nx, ny, nz, samples, Cut { t: t }, words, offsets, quads);
+    let counted = mesh::mesh(
+        nx,
+        ny,
+        nz,
+        samples,
+        Cut { t: t, noise: noise },
+        words,
+        offsets,
+        quads,
+    );
     let told = told::tell_counts(counted);
     put(answer, &told);
 }
@@ -150,11 +163,12 @@ pub extern "C" fn parsniprow_readings_counts(
     nz: u32,
     readings: &[f32],
     t: u16,
+    noise: u32,
     answer: &mut [u32],
 )
-    ensures { λ _. ⌜ ReadingsCountsTold nx ny nz (now (readings .entry)) t (now (answer .entry)) (now (answer .exit)) ⌝ }
+    ensures { λ _. ⌜ ReadingsCountsTold nx ny nz (now (readings .entry)) t noise (now (answer .entry)) (now (answer .exit)) ⌝ }
 {
-    let counted = readings_mesh::counts(nx, ny, nz, readings, Cut { t: t });
+    let counted = readings_mesh::counts(nx, ny, nz, readings, Cut { t: t, noise: noise });
     let told = told::tell_counts(counted);
     put(answer, &told);
 }
@@ -167,14 +181,24 @@ pub extern "C" fn parsniprow_readings_mesh(
     nz: u32,
     readings: &[f32],
     t: u16,
+    noise: u32,
     words: &mut [u32],
     offsets: &mut [f64],
     quads: &mut [u32],
     answer: &mut [u32],
 )
-    ensures { λ _. ⌜ ReadingsMeshTold nx ny nz (now (readings .entry)) t (now (words .entry)) (now (offsets .entry)) (now (quads .entry)) (now (answer .entry)) (now (words .exit)) (now (offsets .exit)) (now (quads .exit)) (now (answer .exit)) ⌝ }
+    ensures { λ _. ⌜ ReadingsMeshTold nx ny nz (now (readings .entry)) t noise (now (words .entry)) (now (offsets .entry)) (now (quads .entry)) (now (answer .entry)) (now (words .exit)) (now (offsets .exit)) (now (quads .exit)) (now (answer .exit)) ⌝ }
 {
-    let counted = readings_mesh::mesh(nx, ny, nz, readings, Cut { t: t }, words, offsets, quads);
+    let counted = readings_mesh::mesh(
+        nx,
+        ny,
+        nz,
+        readings,
+        Cut { t: t, noise: noise },
+        words,
+        offsets,
+        quads,
+    );
     let told = told::tell_counts(counted);
     put(answer, &told);
 }
@@ -186,13 +210,14 @@ pub extern "C" fn parsniprow_start(
     ny: u32,
     nz: u32,
     t: u16,
+    noise: u32,
     work: &[u32],
     state: &mut [u32],
     answer: &mut [u32],
 )
-    ensures { λ _. ⌜ StartTold nx ny nz t (now (work .entry)) (now (state .entry)) (now (answer .entry)) (now (state .exit)) (now (answer .exit)) ⌝ }
+    ensures { λ _. ⌜ StartTold nx ny nz t noise (now (work .entry)) (now (state .entry)) (now (answer .entry)) (now (state .exit)) (now (answer .exit)) ⌝ }
 {
-    let started = by_planes::start(nx, ny, nz, Cut { t: t }, work);
+    let started = by_planes::start(nx, ny, nz, Cut { t: t, noise: noise }, work);
     put_started(started, state);
     let told = told::tell_start(started);
     put(answer, &told);
@@ -234,8 +259,8 @@ fn put_started(started: Started, state: &mut [u32])
     ensures { λ _. ⌜ now (state .exit) ≡ stateAfter (saidStart started) (now (state .entry)) ⌝ }
 {
     if let Started::Begun(stream) = started {
-        let seven = told::tell_state(stream);
-        put(state, &seven);
+        let eight = told::tell_state(stream);
+        put(state, &eight);
     }
 }
 
@@ -245,8 +270,8 @@ fn put_taken(taken: Taken, state: &mut [u32])
 {
     if let Taken::Wrote(growth) = taken {
         let stream = growth.stream;
-        let seven = told::tell_state(stream);
-        put(state, &seven);
+        let eight = told::tell_state(stream);
+        put(state, &eight);
     }
 }
 

@@ -80,13 +80,13 @@ fraction-in-unit p q t f P Q said =
     (go (noThreshold cut) (apart cut p q) (fraction-within cut p q P Q) (said ∙ edge-answers p q t))
   where
     cut : Cut
-    cut = cutOf t
+    cut = cutOf t 0
 
-    go : (a d : Bool) → (d ≡ true → Within 1 (fraction (cutOf t) p q))
-        → accepted (f ∷ []) ≡ cond a (refusedBy 3 t) (cond d (accepted (fraction (cutOf t) p q ∷ [])) (accepted []))
+    go : (a d : Bool) → (d ≡ true → Within 1 (fraction (cutOf t 0) p q))
+        → accepted (f ∷ []) ≡ cond a (refusedBy 3 t) (cond d (accepted (fraction (cutOf t 0) p q ∷ [])) (accepted []))
         → Within 1 f
     go true d w e = let z : _≡_ {A = ℕ} 0 1 = cc in absurd (omega arith)
-    go false true w e = let is : fraction (cutOf t) p q ≡ f = cc in subst (Within 1) is (w refl)
+    go false true w e = let is : fraction (cutOf t 0) p q ≡ f = cc in subst (Within 1) is (w refl)
     go false false w e = let z : _≡_ {A = ℕ} 0 1 = cc in absurd (omega arith)
 
 -- ---- a place

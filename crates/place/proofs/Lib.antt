@@ -6,3 +6,4 @@ pub mod Visit
 pub mod Asked
 pub mod Steps
 pub mod Bounds
+pub mod Noise

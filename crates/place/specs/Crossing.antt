@@ -35,10 +35,11 @@ saidEdge Nothing = accepted []
 saidEdge (At f) = accepted (f ∷ [])
 saidEdge (Refused r) = refused r
 
--- two ends and a threshold have a crossing or none, or are refused by row 3
+-- two ends and a threshold have a crossing or none, or are refused by row 3. "Edge answers don't read n": it is 0 here, and with any other the answer is the same
+-- (`edge-reads-no-noise`)
 unfoldable pub edgeAnswer : ℕ → ℕ → ℕ → Answer (List Float)
 unfolding crossing
-edgeAnswer p q t = judged (inOrder (thresholdRow (cutOf t) ∷ [])) (crossing (cutOf t) p q)
+edgeAnswer p q t = judged (inOrder (thresholdRow (cutOf t 0) ∷ [])) (crossing (cutOf t 0) p q)
 
 -- the promise of `edge`
 abbrev pub EdgeAnswered : ℕ → ℕ → ℕ → Crossing → Type 0

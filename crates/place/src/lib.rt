@@ -34,7 +34,7 @@ pub fn edge(p: u16, q: u16, t: u16) -> Crossing
     if t == 65535 {
         return refuse(t);
     }
-    let cut = Cut { t: t };
+    let cut = Cut { t: t, noise: 0 };
     let lower_sign = is_positive(cut, p);
     let upper_sign = is_positive(cut, q);
     if lower_sign == upper_sign {

@@ -49,7 +49,7 @@ module _ (bytes : List ℕ) where
   sizeRead = record { nx = numberAt bytes 0 4; ny = numberAt bytes 4 4; nz = numberAt bytes 8 4 }
 
   abbrev pub cutRead : Cut
-  cutRead = cutOf (numberAt bytes 12 4)
+  cutRead = cutOf (numberAt bytes 12 4) 0
 
   -- "Line 1 is read, then refusals 1, 9, 3 are tried, then the rows, then the end of input"
   abbrev pub inputRows : Size → Cut → List Checked

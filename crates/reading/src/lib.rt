@@ -177,7 +177,7 @@ fn check_axes(nx: u32, ny: u32, nz: u32) -> Checked
 
 // All rows that the program tries, in 01's order.
 pub fn check(input: &[u8], nx: u32, ny: u32, nz: u32, t: u16) -> Checked
-    ensures { λ r. ⌜ r ≡ inOrder (inputRows (now (input .entry)) (record { nx = nx; ny = ny; nz = nz }) (record { t = t })) ⌝ }
+    ensures { λ r. ⌜ r ≡ inOrder (inputRows (now (input .entry)) (record { nx = nx; ny = ny; nz = nz }) (record { t = t; noise = 0 })) ⌝ }
 {
     let first = check_line(input, 1, 0, 16);
     if let Checked::Refuses(r) = first {
@@ -187,7 +187,7 @@ pub fn check(input: &[u8], nx: u32, ny: u32, nz: u32, t: u16) -> Checked
     if let Checked::Refuses(r) = axes {
         return Checked::Refuses(r);
     }
-    let threshold = block::check_threshold(Cut { t: t });
+    let threshold = block::check_threshold(Cut { t: t, noise: 0 });
     if let Checked::Refuses(r) = threshold {
         return Checked::Refuses(r);
     }

@@ -24,11 +24,19 @@ use Rattle.thresholds.specs.Answer.{rowVerdict, answersOf}
 abbrev seven : List ℕ
 seven = 100 ∷ 0 ∷ 65535 ∷ 400 ∷ 401 ∷ 1 ∷ 100 ∷ []
 
-pub the-answers : answersOf 3 3 3 samples seven ≡ 0 ∷ 8 ∷ 6 ∷ 3 ∷ 0 ∷ 0 ∷ 3 ∷ 65535 ∷ 0 ∷ 0 ∷ 8 ∷ 6 ∷ 0 ∷ 0 ∷ 0 ∷ 0 ∷ 8 ∷ 6 ∷ 0 ∷ 8 ∷ 6 ∷ []
+pub the-answers : answersOf 3 3 3 samples seven 0 ≡ 0 ∷ 8 ∷ 6 ∷ 3 ∷ 0 ∷ 0 ∷ 3 ∷ 65535 ∷ 0 ∷ 0 ∷ 8 ∷ 6 ∷ 0 ∷ 0 ∷ 0 ∷ 0 ∷ 8 ∷ 6 ∷ 0 ∷ 8 ∷ 6 ∷ []
 unfolding below filled decided inOrder lowestRow lowest vertices verticesBefore verticesOf quads quadsBefore quadAt vertexNumber cornersOf loopsBy joined patternOf crossedMask loopsFrom loopFrom grow maskOf trailingZeros
 the-answers = refl
 
--- they fit into 21 places and not into 20
+-- one noise figure for all thresholds: the cube of a tie at t = 100 has two vertices with 1, and at t = 50, where A·C is 20,000 more than B·D, it still has one
+abbrev tied : List ℕ
+tied = 200 ∷ 0 ∷ 0 ∷ 200 ∷ 0 ∷ 0 ∷ 0 ∷ 0 ∷ []
+
+pub the-noise : (answersOf 2 2 2 tied (100 ∷ 50 ∷ []) 0 ≡ 0 ∷ 1 ∷ 0 ∷ 0 ∷ 1 ∷ 0 ∷ []) × (answersOf 2 2 2 tied (100 ∷ 50 ∷ []) 1 ≡ 0 ∷ 2 ∷ 0 ∷ 0 ∷ 1 ∷ 0 ∷ []) × (answersOf 2 2 2 tied (100 ∷ 50 ∷ []) 20001 ≡ 0 ∷ 2 ∷ 0 ∷ 0 ∷ 2 ∷ 0 ∷ [])
+unfolding below filled decided inOrder lowestRow lowest vertices verticesBefore verticesOf quads quadsBefore quadAt vertexNumber cornersOf loopsBy joined patternOf crossedMask loopsFrom loopFrom grow maskOf trailingZeros
+the-noise = (refl, refl, refl)
+
+-- the seven answers fit into 21 places and not into 20
 pub the-verdict : rowVerdict 3 3 3 samples seven 21 ≡ Passes
 unfolding inOrder lowestRow lowest
 the-verdict = refl
@@ -60,7 +68,7 @@ unfolding inOrder lowestRow lowest
 count-last = refl
 
 -- an empty row: nothing is written over a good block, and a bad one is refused
-pub empty-good : (rowVerdict 3 3 3 samples [] 0 ≡ Passes) × (answersOf 3 3 3 samples [] ≡ [])
+pub empty-good : (rowVerdict 3 3 3 samples [] 0 ≡ Passes) × (answersOf 3 3 3 samples [] 0 ≡ [])
 unfolding inOrder lowestRow lowest below
 empty-good = (refl, refl)
 

@@ -16,6 +16,6 @@ said-row-injective row.Answered (row.Refused r) e = let z : _≡_ {A = ℕ} 0 1 
 said-row-injective (row.Refused r) row.Answered e = let z : _≡_ {A = ℕ} 0 1 = cc in absurd (omega arith)
 said-row-injective (row.Refused r) (row.Refused q) e = cc
 
-pub row-fixed : (nx ny nz : ℕ) (s ts b : List ℕ) → Fixes (λ (x : RowAnswer × List ℕ). RowAnswered nx ny nz s ts b (x .0) (x .1))
-row-fixed nx ny nz s ts b x y p q =
+pub row-fixed : (nx ny nz : ℕ) (s ts : List ℕ) (noise : ℕ) (b : List ℕ) → Fixes (λ (x : RowAnswer × List ℕ). RowAnswered nx ny nz s ts noise b (x .0) (x .1))
+row-fixed nx ny nz s ts noise b x y p q =
     ap₂ (λ (r : RowAnswer) (l : List ℕ). (r, l)) (said-row-injective (x .0) (y .0) (p .answer ∙ sym (q .answer))) (p .answers ∙ sym (q .answers))

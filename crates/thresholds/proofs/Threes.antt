@@ -53,17 +53,17 @@ module _ (ts : List ℕ) (ms : List Marks) (b : List ℕ) where
   Told i l = Put b 0 (threesBy ts ms i) l (3 * i)
 
   pub told-none : Told 0 b
-  told-none = puts-none (λ (i : ℕ). threeBy (cutAt ts i) (marksAt ms i)) b 0
+  told-none = puts-none (λ (i : ℕ). threeBy (cutAt ts 0 i) (marksAt ms i)) b 0
 
   -- one threshold more
-  pub told-more : (i : ℕ) (l l′ told : List ℕ) → Told i l → told ≡ threeBy (cutAt ts i) (marksAt ms i) → l′ ≡ sets l (3 * i) (getD told 0 0 ∷ getD told 1 0 ∷ getD told 2 0 ∷ [])
+  pub told-more : (i : ℕ) (l l′ told : List ℕ) → Told i l → told ≡ threeBy (cutAt ts 0 i) (marksAt ms i) → l′ ≡ sets l (3 * i) (getD told 0 0 ∷ getD told 1 0 ∷ getD told 2 0 ∷ [])
       → Told (i + 1) l′
   told-more i l l′ told p e f =
-      puts-more (λ (j : ℕ). threeBy (cutAt ts j) (marksAt ms j)) i p
+      puts-more (λ (j : ℕ). threeBy (cutAt ts 0 j) (marksAt ms j)) i p
       (record {
-        stored = f ∙ ap (λ (xs : List ℕ). sets l (3 * i) (getD xs 0 0 ∷ getD xs 1 0 ∷ getD xs 2 0 ∷ [])) e ∙ ap (sets l (3 * i)) (sym (three-of (judged (thresholdRow (cutAt ts i)) _)));
-        behind = omega (arith, three-long (cutAt ts i) (marksAt ms i));
+        stored = f ∙ ap (λ (xs : List ℕ). sets l (3 * i) (getD xs 0 0 ∷ getD xs 1 0 ∷ getD xs 2 0 ∷ [])) e ∙ ap (sets l (3 * i)) (sym (three-of (judged (thresholdRow (cutAt ts 0 i)) _)));
+        behind = omega (arith, three-long (cutAt ts 0 i) (marksAt ms i));
       })
 
   pub told-all : (m : ℕ) (l : List ℕ) → Told m l → 3 * m ≤ length b → l ≡ over (threesBy ts ms m) b
-  told-all m l p h = put-over p (omega (arith, length-constant (λ (i : ℕ). threeBy (cutAt ts i) (marksAt ms i)) 3 m (λ i _. three-long (cutAt ts i) (marksAt ms i))))
+  told-all m l p h = put-over p (omega (arith, length-constant (λ (i : ℕ). threeBy (cutAt ts 0 i) (marksAt ms i)) 3 m (λ i _. three-long (cutAt ts 0 i) (marksAt ms i))))

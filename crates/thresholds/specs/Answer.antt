@@ -31,9 +31,9 @@ wholeRows nx ny nz s ts room = manyRow (length ts) ∷ answersRow (length ts) ro
 abbrev pub rowVerdict : ℕ → ℕ → ℕ → List ℕ → List ℕ → ℕ → Checked
 rowVerdict nx ny nz s ts room = inOrder (wholeRows nx ny nz s ts room)
 
--- "for each its counts or its refusal, equal to asking one at a time": three numbers for each threshold, in the order of the row
-abbrev pub answersOf : ℕ → ℕ → ℕ → List ℕ → List ℕ → List ℕ
-answersOf nx ny nz s ts = below (λ (i : ℕ). toldCounts (countsAnswer nx ny nz s (cutOf (getD ts i 0)))) (length ts)
+-- "for each its counts or its refusal, equal to asking one at a time": three numbers for each threshold, in the order of the row. One noise figure is for all
+abbrev pub answersOf : ℕ → ℕ → ℕ → List ℕ → List ℕ → ℕ → List ℕ
+answersOf nx ny nz s ts noise = below (λ (i : ℕ). toldCounts (countsAnswer nx ny nz s (cutOf (getD ts i 0) noise))) (length ts)
 
 -- 02's number and values of each case; a row that is answered has no value of its own
 abbrev pub saidRow : RowAnswer → Answer Unit
@@ -46,5 +46,5 @@ pub record RowBy (k : Checked) (xs b : List ℕ) (r : RowAnswer) (b′ : List �
   pub answers : b′ ≡ written k xs b
 
 -- the promise of `counts_row`
-abbrev pub RowAnswered : ℕ → ℕ → ℕ → List ℕ → List ℕ → List ℕ → RowAnswer → List ℕ → Type 0
-RowAnswered nx ny nz s ts b r b′ = RowBy (rowVerdict nx ny nz s ts (length b)) (answersOf nx ny nz s ts) b r b′
+abbrev pub RowAnswered : ℕ → ℕ → ℕ → List ℕ → List ℕ → ℕ → List ℕ → RowAnswer → List ℕ → Type 0
+RowAnswered nx ny nz s ts noise b r b′ = RowBy (rowVerdict nx ny nz s ts (length b)) (answersOf nx ny nz s ts noise) b r b′

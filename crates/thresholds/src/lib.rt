@@ -45,16 +45,20 @@ fn each_with_layers(
     size: Size,
     samples: &[u16],
     thresholds: &[u16],
+    noise: u32,
     from: usize,
     to: usize,
 ) -> [Marks; 16]
-    requires { ⌜ Sampled size (now samples) × (length (now thresholds) ≤ 16) × (from ≤ to) × (to + 1 ≤ size .nz) × CountedFrom size (now samples) (now thresholds) marks 0 (length (now thresholds)) from ⌝ }
-    ensures { λ r. ⌜ CountedFrom size (now (samples .entry)) (now (thresholds .entry)) r 0 (length (now (thresholds .entry))) to ⌝ }
+    requires { ⌜ Sampled size (now samples) × (length (now thresholds) ≤ 16) × (from ≤ to) × (to + 1 ≤ size .nz) × CountedFrom size (now samples) (now thresholds) noise marks 0 (length (now thresholds)) from ⌝ }
+    ensures { λ r. ⌜ CountedFrom size (now (samples .entry)) (now (thresholds .entry)) noise r 0 (length (now (thresholds .entry))) to ⌝ }
 {
     let mut w = marks;
     let mut i: usize = 0;
     while i < thresholds.len() {
-        let cut = Cut { t: thresholds[i] };
+        let cut = Cut {
+            t: thresholds[i],
+            noise: noise,
+        };
         w[i] = mesh::with_layers(w[i], size, samples, cut, from, to);
         i += 1;
     }
@@ -75,9 +79,9 @@ fn run_end(k: usize, last: usize) -> usize
 
 // The marks of each threshold moved to the end of the block. The layers go in runs, and each threshold counts a run before the next one begins, so the samples of a
 // run are still near at hand for all thresholds but the first.
-fn tally_each(size: Size, samples: &[u16], thresholds: &[u16]) -> [Marks; 16]
+fn tally_each(size: Size, samples: &[u16], thresholds: &[u16], noise: u32) -> [Marks; 16]
     requires { ⌜ Sampled size (now samples) × (length (now thresholds) ≤ 16) ⌝ }
-    ensures { λ r. ⌜ EachTallied size (now (samples .entry)) (now (thresholds .entry)) r ⌝ }
+    ensures { λ r. ⌜ EachTallied size (now (samples .entry)) (now (thresholds .entry)) noise r ⌝ }
 {
     let none = Marks {
         v: 0,
@@ -90,7 +94,7 @@ fn tally_each(size: Size, samples: &[u16], thresholds: &[u16]) -> [Marks; 16]
     let mut k: usize = 0;
     while k < last {
         let end = run_end(k, last);
-        let moved = each_with_layers(w, size, samples, thresholds, k, end);
+        let moved = each_with_layers(w, size, samples, thresholds, noise, k, end);
         w = moved;
         k = end;
     }
@@ -100,9 +104,9 @@ fn tally_each(size: Size, samples: &[u16], thresholds: &[u16]) -> [Marks; 16]
 // What a threshold is told by the marks of the whole block: 0, vertices, quads; or number and value of row 3, and 0.
 fn three(t: u16, m: Marks) -> [u32; 3]
     requires { ⌜ Few m ⌝ }
-    ensures { λ r. ⌜ r ≡ threeBy (cutOf t) m ⌝ }
+    ensures { λ r. ⌜ r ≡ threeBy (cutOf t 0) m ⌝ }
 {
-    let checked = block::check_threshold(Cut { t: t });
+    let checked = block::check_threshold(Cut { t: t, noise: 0 });
     if let Checked::Refuses(r) = checked {
         return [r.number, r.value, 0];
     }
@@ -134,30 +138,37 @@ fn put_each(marks: [Marks; 16], thresholds: &[u16], answers: &mut [u32])
 }
 
 // The answers of a row that is short enough, into a buffer that is long enough, of a block whose size is made. The buffer is touched only when row 2 passes.
-fn counts_in(size: Size, samples: &[u16], thresholds: &[u16], answers: &mut [u32]) -> RowAnswer
+fn counts_in(
+    size: Size,
+    samples: &[u16],
+    thresholds: &[u16],
+    noise: u32,
+    answers: &mut [u32],
+) -> RowAnswer
     requires { ⌜ Limits size × (length (now thresholds) ≤ 16) × (3 * length (now thresholds) ≤ length (now answers)) ⌝ }
-    ensures { λ r. ⌜ RowBy (countRow size (length (now (samples .entry)))) (answersIn size (now (samples .entry)) (now (thresholds .entry))) (now (answers .entry)) r (now (answers .exit)) ⌝ }
+    ensures { λ r. ⌜ RowBy (countRow size (length (now (samples .entry)))) (answersIn size (now (samples .entry)) (now (thresholds .entry)) noise) (now (answers .entry)) r (now (answers .exit)) ⌝ }
 {
     let checked = block::check_count(size, samples.len());
     if let Checked::Refuses(r) = checked {
         return RowAnswer::Refused(r);
     }
-    let marks = tally_each(size, samples, thresholds);
+    let marks = tally_each(size, samples, thresholds, noise);
     put_each(marks, thresholds, answers);
     RowAnswer::Answered
 }
 
-// How many vertices and quads the mesh of a block has by each of up to 16 thresholds: three places of the buffer for each. Any axis lengths, samples, thresholds and
-// buffer may be given; a refusal leaves the buffer as it was.
+// How many vertices and quads the mesh of a block has by each of up to 16 thresholds and one noise figure: three places of the buffer for each threshold. Any axis
+// lengths, samples, thresholds, noise figure and buffer may be given; a refusal leaves the buffer as it was.
 pub fn counts_row(
     nx: u32,
     ny: u32,
     nz: u32,
     samples: &[u16],
     thresholds: &[u16],
+    noise: u32,
     answers: &mut [u32],
 ) -> RowAnswer
-    ensures { λ r. ⌜ RowAnswered nx ny nz (now (samples .entry)) (now (thresholds .entry)) (now (answers .entry)) r (now (answers .exit)) ⌝ }
+    ensures { λ r. ⌜ RowAnswered nx ny nz (now (samples .entry)) (now (thresholds .entry)) noise (now (answers .entry)) r (now (answers .exit)) ⌝ }
 {
     let checked = check_row(thresholds.len(), answers.len());
     if let Checked::Refuses(r) = checked {
@@ -169,6 +180,6 @@ pub fn counts_row(
             number: 1,
             value: axis,
         }),
-        Sized::Made(size) => counts_in(size, samples, thresholds, answers),
+        Sized::Made(size) => counts_in(size, samples, thresholds, noise, answers),
     }
 }

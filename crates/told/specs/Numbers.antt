@@ -57,10 +57,10 @@ toldNothing = told 3 (λ _. [])
 abbrev pub toldGrowth : Answer Growth → List ℕ
 toldGrowth = told 3 (λ g. g .counts .vertices ∷ g .counts .quads ∷ [])
 
--- a state in seven numbers; how many planes were taken stands last, so a place that is too short holds none
+-- a state in eight numbers; how many planes were taken stands last, so a place that is too short holds none
 abbrev pub stateNumbers : Stream → List ℕ
-stateNumbers st = st .nx ∷ st .ny ∷ st .nz ∷ st .cut .t ∷ st .vertices ∷ st .quads ∷ st .planes ∷ []
+stateNumbers st = st .nx ∷ st .ny ∷ st .nz ∷ st .cut .t ∷ st .cut .noise ∷ st .vertices ∷ st .quads ∷ st .planes ∷ []
 
--- the state that seven numbers are: a missing one is 0, and the threshold is taken modulo 65,536
+-- the state that eight numbers are: a missing one is 0, and the threshold is taken modulo 65,536
 abbrev pub stateOf : List ℕ → Stream
-stateOf l = record { nx = getD l 0 0; ny = getD l 1 0; nz = getD l 2 0; cut = cutOf (getD l 3 0 % 65536); vertices = getD l 4 0; quads = getD l 5 0; planes = getD l 6 0 }
+stateOf l = record { nx = getD l 0 0; ny = getD l 1 0; nz = getD l 2 0; cut = cutOf (getD l 3 0 % 65536) (getD l 4 0); vertices = getD l 5 0; quads = getD l 6 0; planes = getD l 7 0 }

@@ -193,8 +193,8 @@ pub fn tell_taken(taken: Taken) -> [u32; 3]
     }
 }
 
-// A state in seven numbers.
-pub fn tell_state(stream: Stream) -> [u32; 7]
+// A state in eight numbers.
+pub fn tell_state(stream: Stream) -> [u32; 8]
     ensures { λ r. ⌜ r ≡ stateNumbers stream ⌝ }
 {
     [
@@ -202,6 +202,7 @@ pub fn tell_state(stream: Stream) -> [u32; 7]
         stream.ny,
         stream.nz,
         stream.cut.t as u32,
+        stream.cut.noise,
         stream.vertices,
         stream.quads,
         stream.planes,
@@ -218,10 +219,11 @@ pub fn read_state(place: &[u32]) -> Stream
         nz: item(place, 2),
         cut: Cut {
             t: (item(place, 3) % 65536) as u16,
+            noise: item(place, 4),
         },
-        vertices: item(place, 4),
-        quads: item(place, 5),
-        planes: item(place, 6),
+        vertices: item(place, 5),
+        quads: item(place, 6),
+        planes: item(place, 7),
     }
 }
 

@@ -11,6 +11,7 @@ use lib.ListN.{length}
 use lib.Seq.{sets}
 use Rattle.laws.specs.Filled.{filled}
 use Rattle.cube_rule.specs.Decider.{joined, loopsOf}
+use Rattle.cube_rule.specs.Edges.{patternOf}
 use Rattle.cube_rule.proofs.Laws.{cube-laws}
 use Rattle.place.specs.Place.{placeOf}
 use Rattle.place.specs.Steps.{Placeable}
@@ -70,6 +71,7 @@ abbrev begin : tie.After-cube-by → tie.Start
 begin d = d .before .before .before .before .before
 
 cube-by-requires : tie.Need-cube-by-requires
+unfolding patternOf
 cube-by-requires c κs = c .before .before .before .before .pre .0 .edges
 
 -- and answers its loops

@@ -73,7 +73,7 @@ returns c =
     let at-fill = at-put .before .before .before .before in
     let a = at-fill .before .before .before .before in
     let n = sizeOf (a .args .nx) (a .args .ny) (a .args .nz) in
-    subst (λ (s : List ℕ). Put (a .args .out .now) 0 (blockText n s (record { t = a .args .t })) (at-put .put-block .last .0) (at-put .put-block .result))
+    subst (λ (s : List ℕ). Put (a .args .out .now) 0 (blockText n s (record { t = a .args .t; noise = 0 })) (at-put .put-block .last .0) (at-put .put-block .result))
     (samples-front (a .args .input .now) n _ _ (at-fill .fill .ensures)) (at-put .put-block .ensures)
 
 pub answer-spec : {M : Type 1} → statement M

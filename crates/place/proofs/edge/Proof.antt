@@ -15,7 +15,7 @@ use Rattle.place.proofs.edge.Tie as tie
 abbrev start : tie.Else2 → tie.Start
 start e = e .before .before
 
-good : (e : tie.Else2) → noThreshold (cutOf (start e .args .t)) ≡ false
+good : (e : tie.Else2) → noThreshold (cutOf (start e .args .t) 0) ≡ false
 good e = good-threshold (start e .args .t) (e .before .if1 .left) (e .if2 .left)
 
 refuse-requires : tie.Need-refuse-requires

@@ -24,7 +24,7 @@ returns : tie.Need-returns
 returns c =
     let first = c .before .before .before in
     let a = first .before .before .args in
-    sym (first-refuses (a .input .now) (record { nx = a .nx; ny = a .ny; nz = a .nz }) (record { t = a .t }) _ (sym (first .check-line .ensures) ∙ c .before .first .given .1))
+    sym (first-refuses (a .input .now) (record { nx = a .nx; ny = a .ny; nz = a .nz }) (record { t = a .t; noise = 0 }) _ (sym (first .check-line .ensures) ∙ c .before .first .given .1))
 
 enum-told : tie.Need-enum-told
 enum-told c = search needs
@@ -40,7 +40,7 @@ returns-2 c =
     let axes = c .before .before .before in
     let first = axes .before .before .before in
     let a = first .before .before .args in
-    sym (axes-refuse (a .input .now) (record { nx = a .nx; ny = a .ny; nz = a .nz }) (record { t = a .t })
+    sym (axes-refuse (a .input .now) (record { nx = a .nx; ny = a .ny; nz = a .nz }) (record { t = a .t; noise = 0 })
     (sym (first .check-line .ensures) ∙ axes .before .enum-told .given .1) _ (sym (axes .check-axes .ensures) ∙ c .before .axes .given .1))
 
 enum-told-2 : tie.Need-enum-told-2
@@ -58,7 +58,7 @@ returns-3 c =
     let axes = threshold .before .before .before in
     let first = axes .before .before .before in
     let a = first .before .before .args in
-    sym (threshold-refuses (a .input .now) (record { nx = a .nx; ny = a .ny; nz = a .nz }) (record { t = a .t })
+    sym (threshold-refuses (a .input .now) (record { nx = a .nx; ny = a .ny; nz = a .nz }) (record { t = a .t; noise = 0 })
     (sym (first .check-line .ensures) ∙ axes .before .enum-told .given .1)
     (sym (axes .check-axes .ensures) ∙ threshold .before .enum-told2 .given .1) _ (sym (threshold .check-threshold .ensures) ∙ c .before .threshold .given .1))
 
@@ -85,7 +85,7 @@ returns-4 c =
     let axes = threshold .before .before .before in
     let first = axes .before .before .before in
     let a = first .before .before .args in
-    sym (lines-decide (a .input .now) (record { nx = a .nx; ny = a .ny; nz = a .nz }) (record { t = a .t })
+    sym (lines-decide (a .input .now) (record { nx = a .nx; ny = a .ny; nz = a .nz }) (record { t = a .t; noise = 0 })
     (sym (first .check-line .ensures) ∙ axes .before .enum-told .given .1)
     (sym (axes .check-axes .ensures) ∙ threshold .before .enum-told2 .given .1)
     (sym (threshold .check-threshold .ensures) ∙ c .before .enum-told3 .given .1)

@@ -48,7 +48,7 @@ put-each-requires : tie.Need-put-each-requires
 put-each-requires c κs =
     let t = c .before in
     let a = start (t .before) in
-    (a .pre .1, a .pre .2, each-few (a .args .size) (a .args .samples .now) (a .args .thresholds .now) (t .tally-each .result) (t .tally-each .ensures) (a .pre .0))
+    (a .pre .1, a .pre .2, each-few (a .args .size) (a .args .samples .now) (a .args .thresholds .now) (a .args .noise) (t .tally-each .result) (t .tally-each .ensures) (a .pre .0))
 
 same-length : tie.Need-same-length
 same-length c = search needs
@@ -60,7 +60,7 @@ returns-2 c =
     let a = start (t .before) in
     answered-by _ _ (a .args .answers .now) _ (passed (t .before))
     (p .put-each .ensures
-    ∙ ap (λ (xs : List ℕ). over xs (a .args .answers .now)) (answers-are (a .args .size) (a .args .samples .now) (a .args .thresholds .now) (t .tally-each .result) (t .tally-each .ensures)))
+    ∙ ap (λ (xs : List ℕ). over xs (a .args .answers .now)) (answers-are (a .args .size) (a .args .samples .now) (a .args .thresholds .now) (a .args .noise) (t .tally-each .result) (t .tally-each .ensures)))
 
 pub counts-in-spec : {M : Type 1} → statement M
 counts-in-spec =

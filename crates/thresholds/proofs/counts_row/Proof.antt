@@ -29,7 +29,7 @@ returns : tie.Need-returns
 returns c =
     let r = c .before .before .before in
     let a = r .before .before .before .before .args in
-    early (a .nx) (a .ny) (a .nz) (a .samples .now) (a .thresholds .now) (a .answers .now) _ (sym (r .check-row .ensures) ∙ c .before .checked .given .1)
+    early (a .nx) (a .ny) (a .nz) (a .samples .now) (a .thresholds .now) (a .noise) (a .answers .now) _ (sym (r .check-row .ensures) ∙ c .before .checked .given .1)
 
 enum-told : tie.Need-enum-told
 enum-told c = search needs
@@ -65,7 +65,7 @@ returns-2 c =
     let m = c .before in
     let n = m .before .before in
     let a = start (n .before) .args in
-    bad-axis (a .nx) (a .ny) (a .nz) (a .samples .now) (a .thresholds .now) (a .answers .now) (passed (n .before)) _
+    bad-axis (a .nx) (a .ny) (a .nz) (a .samples .now) (a .thresholds .now) (a .noise) (a .answers .now) (passed (n .before)) _
     (subst (SizeMade (a .nx) (a .ny) (a .nz)) (m .made .given .1) (n .new .ensures))
 
 same-length : tie.Need-same-length
@@ -77,7 +77,7 @@ returns-3 c =
     let m = i .before .before .before in
     let n = m .before .before in
     let a = start (n .before) .args in
-    made (a .nx) (a .ny) (a .nz) (a .samples .now) (a .thresholds .now) (a .answers .now) (passed (n .before)) _ _ _
+    made (a .nx) (a .ny) (a .nz) (a .samples .now) (a .thresholds .now) (a .noise) (a .answers .now) (passed (n .before)) _ _ _
     (subst (SizeMade (a .nx) (a .ny) (a .nz)) (m .made2 .given .1) (n .new .ensures)) (i .counts-in .ensures)
 
 pub counts-row-spec : {M : Type 1} → statement M

@@ -14,11 +14,11 @@ use Rattle.thresholds.proofs.each_with_layers.Lts as lts
 use Rattle.mesh.proofs.with_layers.Reads as with-layers-reads
 
 abbrev Inv-loop : tie.InvT-loop
-Inv-loop size samples thresholds from to w₀ i₀ w i =
-    (i ≤ length thresholds) × (length w ≡ 16) × CountedFrom size samples thresholds w 0 i to × CountedFrom size samples thresholds w i (length thresholds) from
+Inv-loop size samples thresholds noise from to w₀ i₀ w i =
+    (i ≤ length thresholds) × (length w ≡ 16) × CountedFrom size samples thresholds noise w 0 i to × CountedFrom size samples thresholds noise w i (length thresholds) from
 
 abbrev μ-loop : tie.MeasureT-loop
-μ-loop size samples thresholds from to w₀ i₀ w i = length thresholds - i
+μ-loop size samples thresholds noise from to w₀ i₀ w i = length thresholds - i
 
 -- the entry
 abbrev start : tie.At-loop Inv-loop μ-loop → tie.Start Inv-loop μ-loop
@@ -29,11 +29,11 @@ loop-holds c =
     let a = c .before .before in
     (omega arith, search needs, λ p l h. absurd (omega (arith, h)), a .pre .4)
 
-mul-t10 : tie.Need-mul-t10 Inv-loop μ-loop
-mul-t10 c = search needs
+mul-t11 : tie.Need-mul-t11 Inv-loop μ-loop
+mul-t11 c = search needs
 
-shared-slice-read-t13 : tie.Need-shared-slice-read-t13 Inv-loop μ-loop
-shared-slice-read-t13 c = search needs
+shared-slice-read-t14 : tie.Need-shared-slice-read-t14 Inv-loop μ-loop
+shared-slice-read-t14 c = search needs
 
 mul-with-layers : tie.Need-mul-with-layers Inv-loop μ-loop
 mul-with-layers c = search needs
@@ -69,8 +69,8 @@ loop-again c =
     let ts = a .args .thresholds .now in (
       omega arith,
       simp length-set (l .loop .inv .1),
-      counted-next n s ts (l .loop .w) (l .loop .i) (c .with-layers .result) room (a .args .to) (l .loop .inv .2) (c .with-layers .ensures),
-      counted-rest n s ts (l .loop .w) (l .loop .i) (c .with-layers .result) room (length ts) (a .args .from) (l .loop .inv .3),
+      counted-next n s ts (a .args .noise) (l .loop .w) (l .loop .i) (c .with-layers .result) room (a .args .to) (l .loop .inv .2) (c .with-layers .ensures),
+      counted-rest n s ts (a .args .noise) (l .loop .w) (l .loop .i) (c .with-layers .result) room (length ts) (a .args .from) (l .loop .inv .3),
     )
 
 returns : tie.Need-returns Inv-loop μ-loop
@@ -83,8 +83,8 @@ each-with-layers-spec =
     Inv-loop
     μ-loop
     loop-holds
-    mul-t10
-    shared-slice-read-t13
+    mul-t11
+    shared-slice-read-t14
     mul-with-layers
     array-copy-out-with-layers
     with-layers-requires

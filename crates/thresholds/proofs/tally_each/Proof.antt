@@ -16,10 +16,10 @@ use Rattle.thresholds.proofs.each_with_layers.Reads as each-with-layers
 use Rattle.thresholds.proofs.run_end.Reads as run-end-reads
 
 abbrev Inv-loop : tie.InvT-loop
-Inv-loop size samples thresholds last w₀ k₀ w k = CountedFrom size samples thresholds w 0 (length thresholds) k × (k ≤ last) × (length w ≡ 16)
+Inv-loop size samples thresholds noise last w₀ k₀ w k = CountedFrom size samples thresholds noise w 0 (length thresholds) k × (k ≤ last) × (length w ≡ 16)
 
 abbrev μ-loop : tie.MeasureT-loop
-μ-loop size samples thresholds last w₀ k₀ w k = last - k
+μ-loop size samples thresholds noise last w₀ k₀ w k = last - k
 
 nz-requires : tie.Need-nz-requires Inv-loop μ-loop
 nz-requires c κs = search needs
@@ -30,7 +30,7 @@ sub-last c = search needs
 loop-holds : tie.Need-loop-holds Inv-loop μ-loop
 loop-holds c =
     let a = c .before .before .before in
-    (counted-start (a .args .size) (a .args .samples .now) (a .args .thresholds .now) _ 16 (a .pre .1), omega arith, refl)
+    (counted-start (a .args .size) (a .args .samples .now) (a .args .thresholds .now) (a .args .noise) _ 16 (a .pre .1), omega arith, refl)
 
 run-end-requires : tie.Need-run-end-requires Inv-loop μ-loop
 run-end-requires c κs =
@@ -61,7 +61,7 @@ returns c =
     let l = c .before in
     let z = l .before in
     let a = z .before .before .before in
-    counted-all (a .args .size) (a .args .samples .now) (a .args .thresholds .now) (l .loop .k) (l .loop .w)
+    counted-all (a .args .size) (a .args .samples .now) (a .args .thresholds .now) (a .args .noise) (l .loop .k) (l .loop .w)
     (omega (arith, z .nz .ensures, a .pre .0 .limits .z-low, l .loop .inv .1, c .loop-test .left)) (l .loop .inv .0)
 
 pub tally-each-spec : {M : Type 1} → statement M

@@ -1,7 +1,5 @@
 -- `read_state` meets its contract: item by item.
 -- Assumes nothing.
-use Prim.Native.Nat.{ℕ, _%_}
-use mathlib.Core.Path.{_≡_, refl, ap, sym, _∙_}
 use borrow.Author.Needs.{needs}
 use denote.Ref.{now}
 use Rattle.told.proofs.States.{state-same}
@@ -9,7 +7,7 @@ use Rattle.told.proofs.read_state.Statement.{statement}
 use Rattle.told.proofs.read_state.Tie as tie
 
 returns : tie.Need-returns
-returns c = state-same (now (c .before .before .before .before .before .before .before .before .args .place)) (c .before .before .before .before .before .before .item .ensures) (c .before .before .before .before .before .item2 .ensures) (c .before .before .before .before .item3 .ensures) (c .before .before .before .item4 .ensures) (c .before .before .item5 .ensures) (c .before .item6 .ensures) (c .item7 .ensures)
+returns c = state-same (now (c .before .before .before .before .before .before .before .before .before .args .place)) (c .before .before .before .before .before .before .before .item .ensures) (c .before .before .before .before .before .before .item2 .ensures) (c .before .before .before .before .before .item3 .ensures) (c .before .before .before .before .item4 .ensures) (c .before .before .before .item5 .ensures) (c .before .before .item6 .ensures) (c .before .item7 .ensures) (c .item8 .ensures)
 
 pub read-state-spec : {M : Type 1} → statement M
 read-state-spec =
@@ -20,6 +18,7 @@ read-state-spec =
     (λ c κs. search needs)
     (λ c κs. search needs)
     (λ c. search needs)
+    (λ c κs. search needs)
     (λ c κs. search needs)
     (λ c κs. search needs)
     (λ c κs. search needs)
