@@ -4,7 +4,7 @@
    the pieces, and how many vertices and quads there are at other thresholds. Or it reads the block plane by plane, so
    that it never holds more than a layer of the mesh. Or it makes no mesh, and writes how much room one takes at most.
    Usage: scan FILE NX NY NZ THRESHOLD BYTE-ORDER [--noise N] [--mesh OUT] [--ply OUT --spacing X Y Z [--piece NUMBER]]
-   [--pieces OUT] [--thresholds LIST | --float], or scan FILE NX NY NZ THRESHOLD BYTE-ORDER --by-planes [--noise N]
+   [--pieces OUT] [--thresholds LIST | --float], or scan FILE NX NY NZ THRESHOLD BYTE-ORDER [--noise N] --by-planes
    [--ply OUT --spacing X Y Z], or scan FILE NX NY NZ THRESHOLD BYTE-ORDER --room; "scan --help" says what each is.
    Assumes a POSIX system, a float that is an IEEE 754 single, and the library linked in (include/parsniprow.h).
 
@@ -382,7 +382,7 @@ static void help(void)
          "  target/scan housing.raw 256 256 200 23000 little --ply housing.ply --spacing 0.125 0.125 0.2\n"
          "  target/scan housing.raw 256 256 200 23000 little --pieces housing-pieces.csv\n"
          "  target/scan housing.raw 256 256 200 23000 little --thresholds 21000,22000,23000,24000,25000\n"
-         "  target/scan housing.raw 256 256 200 23000 little --noise 2500 --pieces housing-pieces.csv\n"
+         "  target/scan housing.raw 256 256 200 23000 little --noise 34000000 --pieces housing-pieces.csv\n"
          "  target/scan housing.raw 256 256 200 23000 little --float --pieces housing-pieces.csv\n"
          "  target/scan housing.raw 256 256 200 23000 little --by-planes --ply housing.ply --spacing 0.1 0.1 0.1\n"
          "  target/scan housing.raw 256 256 200 23000 little --room\n"

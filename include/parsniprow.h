@@ -111,9 +111,10 @@
    noise figure n goes with the threshold: the metal corners are joined only if their product is at least that of the
    hollow ones and n together. So a larger n parts metal, and the hollows of such a face join; no n does the reverse. n
    may be any 32-bit number. With 0 the rule is the plain one, and every answer is that of a library without noise
-   figures. Above 4294705155 every such face is parted. n is compared with products of two grey values, so it is in
-   squares of grey values: 2500 is what two differences of 50 make. Which edges are crossed and where does not depend on
-   it, nor does the number of quads, nor any refusal but 5. A block without such a face has one mesh, whatever n is.
+   figures. Above 4294705155 every such face is parted. n is compared with products of two differences from t, so it is
+   in squares of grey values: 2500 is what two differences of 50 make. Which edges are crossed and where does not depend
+   on it, and neither does the number of quads. Of the refusals only 5 depends on it, and 6 in so far as 5 is tried
+   before it. A block without such a face has one mesh, whatever n is.
 
    THE MESH
    An edge joins two samples that are neighbours along x, y or z; its lower end has the smaller coordinate. It is
@@ -146,7 +147,7 @@ void parsniprow_edge(uint16_t p, uint16_t q, uint16_t t, double *fraction, size_
 /* The loops of crossed edges in a cube, each of which is a vertex.
      c0 to c7  the samples at the corners; corner x + 2 * y + 4 * z is at (x, y, z)
      t         the threshold
-     noise     the noise figure, any number
+     noise     the noise figure, any number; 0 for none
      words     answer place, 4 items: a word for each loop, in the order of their lowest edges: bits 0 to 11 are its
                mask, bit e for edge e; bit 12 is the mark, set if a corner is 65535. 0 where there is no loop, on
                refusal too

@@ -514,6 +514,14 @@ uint32_t choose_noise(struct chance *chance, const uint32_t length[3], uint16_t 
     return (uint32_t)chance_below(chance, (uint64_t)UINT32_MAX + 1);
 }
 
+uint32_t choose_any_noise(struct chance *chance, int is_wrong, const uint32_t length[3], uint16_t t,
+                          const uint16_t *samples)
+{
+    if (!is_wrong)
+        return choose_noise(chance, length, t, samples);
+    return chance_in_100(chance, 25) ? 0 : (uint32_t)chance_below(chance, (uint64_t)UINT32_MAX + 1);
+}
+
 uint32_t choose_cube_noise(struct chance *chance, const uint16_t corner[CUBE_CORNERS], uint16_t t)
 {
     static const uint32_t two[3] = {2, 2, 2};

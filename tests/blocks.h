@@ -107,7 +107,11 @@ struct noise_effect effect_of(const uint32_t length[3], uint16_t t, uint32_t noi
    65534. */
 uint32_t choose_noise(struct chance *chance, const uint32_t length[3], uint16_t t, const uint16_t *samples);
 
-/* The same for a single cube. */
+/* The same where something may be wrong about the block or the threshold: then 0 or any. */
+uint32_t choose_any_noise(struct chance *chance, int is_wrong, const uint32_t length[3], uint16_t t,
+                          const uint16_t *samples);
+
+/* The same for a single cube, about which nothing is wrong. */
 uint32_t choose_cube_noise(struct chance *chance, const uint16_t corner[CUBE_CORNERS], uint16_t t);
 
 #endif

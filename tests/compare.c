@@ -161,6 +161,34 @@ void tally_block_faults(const struct block_faults *faults)
     tally_case("one more", faults->one_more);
 }
 
+void count_figure(struct noise_tally *tally, uint32_t noise)
+{
+    tally->none += noise == 0;
+    tally->some += noise > 0;
+}
+
+void count_effect(struct noise_tally *tally, const struct noise_effect *effect)
+{
+    tally->at_limit += effect->at_limit > 0;
+    tally->one_above += effect->one_above > 0;
+    tally->parted += effect->parted > 0;
+}
+
+void tally_noise(const struct noise_tally *tally)
+{
+    tally_case("0", tally->none);
+    tally_case("above", tally->some);
+    tally_case("noise at the limit of a face", tally->at_limit);
+    tally_case("one above", tally->one_above);
+    tally_case("a face parted by noise alone", tally->parted);
+}
+
+int first_to_change(const struct noise_effect *effect, const uint32_t *without, const uint32_t *with)
+{
+    int is_right = without[0] == 0 && without[2] == with[2] && (effect->parted > 0 || without[1] == with[1]);
+    return !is_right && first_to_fail("a noise figure changes quads, or vertices where it parts no face");
+}
+
 static void tally_asked(void)
 {
     for (unsigned function = 0; function < FUNCTIONS; function++) {

@@ -97,6 +97,22 @@ void count_block_fault(struct block_faults *faults, const uint32_t *answer, cons
                        size_t samples_len);
 void tally_block_faults(const struct block_faults *faults);
 
+/* The noise figures of accepted blocks: how many are 0 and how many above; and how many have a face at whose limit they
+   are, one above whose limit they are, and one that they part. These are of blocks so short that each face is looked
+   at. */
+struct noise_tally {
+    uint64_t none, some, at_limit, one_above, parted;
+};
+
+/* Counts a noise figure, and what it does to the faces of a block. */
+void count_figure(struct noise_tally *tally, uint32_t noise);
+void count_effect(struct noise_tally *tally, const struct noise_effect *effect);
+void tally_noise(const struct noise_tally *tally);
+
+/* As first_to_fail, for what is answered to the counts of a block without a noise figure and with one of this effect:
+   both must have as many quads, and as many vertices too where no face is parted. */
+int first_to_change(const struct noise_effect *effect, const uint32_t *without, const uint32_t *with);
+
 /* ---- the parts ---- */
 
 /* A block, and the random numbers from which it and all that goes with it is made. */

@@ -1,9 +1,9 @@
 /* Compares the counts and the mesh of random blocks with the plain implementation: good blocks, and blocks about which
    one thing or several are wrong, so that every refusal and every order of two refusals occurs. A third of the blocks
    have samples at the ceiling, and three quarters have a noise figure. Of the short ones that are accepted the library
-   is also asked with noise 0: the mesh must be that of the old rule, and where no face is doubtful that with the noise
-   figure too. Some small blocks are asked once, and rows of cubes in which every sign pattern stands at every place of
-   a word.
+   is also asked with noise 0: the mesh must be that of the old rule, and where no face is parted by noise that with the
+   noise figure too. Some small blocks are asked once, and rows of cubes in which every sign pattern stands at every
+   place of a word.
    Assumes nothing more than compare.h. */
 #include "compare.h"
 
@@ -192,8 +192,9 @@ static struct {
     uint64_t words_alone, offsets_alone, both_short, rooms_exact, rooms_longer;
     uint64_t bench_alone[BENCH_CUBES], bench_within[BENCH_CUBES];
     uint64_t patterns[SIGN_PATTERNS][WORD_SAMPLES];
-    uint64_t no_noise, noise, refused_noise[LAST_REFUSAL + 1], old_rule, old_doubtful, not_doubtful;
-    uint64_t at_limit, one_above, parted, changed, more_vertices, fewer_vertices, as_many, not_changed;
+    struct noise_tally noise;
+    uint64_t refused_noise[LAST_REFUSAL + 1], old_rule, old_doubtful, not_doubtful;
+    uint64_t changed, more_vertices, fewer_vertices, as_many, not_changed;
 } tally;
 
 static size_t index_of(const uint32_t length[3], size_t i, size_t j, size_t k)
@@ -267,8 +268,7 @@ static void count_accepted(const struct call *call)
         tally.longest[axis] += quads > 0 && call->length[axis] == LONGEST_AXIS;
     tally.lowest += call->t == 1;
     tally.highest += call->t == HIGHEST;
-    tally.no_noise += call->noise == 0;
-    tally.noise += call->noise > 0;
+    count_figure(&tally.noise, call->noise);
     tally.rooms_exact += quads > 0 && call->words_len == 2 * vertices && call->offsets_len == 3 * vertices &&
                          call->quads_len == 4 * quads;
     tally.rooms_longer += quads > 0 && call->words_len > 2 * vertices && call->offsets_len > 3 * vertices &&
@@ -413,13 +413,11 @@ static int is_as_with_noise(size_t vertices, size_t quads)
            memcmp(start(&old_quads), start(&plain_quads), 4 * quads * sizeof(uint32_t)) == 0;
 }
 
-static void count_effect(const struct noise_effect *effect, uint32_t noise, size_t vertices, int is_same)
+static void count_change(const struct noise_effect *effect, uint32_t noise, size_t vertices, int is_same)
 {
+    count_effect(&tally.noise, effect);
     tally.old_rule++;
     tally.old_doubtful += effect->has_doubtful;
-    tally.at_limit += effect->at_limit > 0;
-    tally.one_above += effect->one_above > 0;
-    tally.parted += effect->parted > 0;
     tally.not_doubtful += noise > 0 && !effect->has_doubtful && vertices > 0;
     tally.not_changed += noise > 0 && effect->has_doubtful && is_same;
     tally.changed += !is_same;
@@ -429,7 +427,7 @@ static void count_effect(const struct noise_effect *effect, uint32_t noise, size
 }
 
 /* The mesh of an accepted block with noise 0, beside the old rule's; and beside the mesh with the noise figure, which
-   is the same where no face is doubtful. The rooms are exact by the old rule, which plain says first. */
+   is the same where that parts no face. The rooms are exact by the old rule, which plain says first. */
 static void try_old_rule(const struct call *c)
 {
     const uint32_t *n = c->length;
@@ -468,10 +466,10 @@ static void try_old_rule(const struct call *c)
         print_call(c);
     }
     is_same = is_as_with_noise(vertices, quads);
-    if ((!effect.has_doubtful || effect.parted == 0) && !is_same &&
+    if (effect.parted == 0 && !is_same &&
         first_to_fail("a noise figure changes a mesh whose faces it does not part"))
         print_call(c);
-    count_effect(&effect, c->noise, vertices, is_same);
+    count_change(&effect, c->noise, vertices, is_same);
 }
 
 void try_block(struct trial *trial)
@@ -720,17 +718,13 @@ static void tally_accepted(void)
 }
 
 /* The last figures are of the blocks that were asked with noise 0 too. */
-static void tally_noise(void)
+static void tally_with_noise(void)
 {
     tally_title("blocks with a noise figure");
-    tally_case("0", tally.no_noise);
-    tally_case("above", tally.noise);
+    tally_noise(&tally.noise);
     tally_given(tally.refused_noise, REFUSALS);
     tally_case("held against the old rule", tally.old_rule);
     tally_case("and doubtful", tally.old_doubtful);
-    tally_case("noise at the limit of a face", tally.at_limit);
-    tally_case("one above", tally.one_above);
-    tally_case("a face parted by noise alone", tally.parted);
     tally_case("mesh changed against noise 0", tally.changed);
     tally_case("more vertices", tally.more_vertices);
     tally_case("fewer", tally.fewer_vertices);
@@ -747,7 +741,7 @@ void tally_blocks(void)
     tally_refusals();
     tally_with_ceilings();
     tally_accepted();
-    tally_noise();
+    tally_with_noise();
     tally_reaches(&counted_place);
     tally_reaches(&answer_place);
     tally_title("compared of meshes");

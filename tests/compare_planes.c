@@ -41,7 +41,8 @@ static struct lent answer_place = LENT("answer of the plane", sizeof(uint32_t), 
 static struct {
     uint64_t by_hand, fixed, large, largest, no_memory;
     uint64_t alone, two, three, same_block, same_threshold, other_mesh, turns;
-    uint64_t no_noise, noise, at_limit, one_above, parted, changed, changed_first, changed_later;
+    struct noise_tally noise;
+    uint64_t changed, changed_first, changed_later;
     uint64_t first, further, with_vertices, with_quads, only_vertices, nothing, marked, along[3], many_in_cube, last;
     uint64_t exact, longer, longer_work, longer_state;
     uint64_t answers[ROWS + 1], orders[ROWS][ROWS], gone_on[ROWS], refused_first[ROWS];
@@ -719,22 +720,19 @@ static int have_same_words(const struct run *a, const struct run *b, uint32_t fr
 static void count_noise(const struct run *run)
 {
     struct noise_effect effect;
-    struct run plainly;
-    tally.no_noise += run->noise == 0;
-    tally.noise += run->noise > 0;
+    struct run without;
+    count_figure(&tally.noise, run->noise);
     if (run->noise == 0 || sample_product(run->length) > SHORT_PLANE)
         return;
     effect = effect_of(run->length, run->t, run->noise, run->samples);
-    tally.at_limit += effect.at_limit > 0;
-    tally.one_above += effect.one_above > 0;
-    tally.parted += effect.parted > 0;
+    count_effect(&tally.noise, &effect);
     if (effect.parted == 0)
         return;
-    plainly = new_run(run->name, run->length, run->t, 0, run->samples);
-    tally.changed += !have_same_words(run, &plainly, 0);
-    tally.changed_first += run->vertices_of[1] != plainly.vertices_of[1];
-    tally.changed_later += !have_same_words(run, &plainly, 2);
-    end_run(&plainly);
+    without = new_run(run->name, run->length, run->t, 0, run->samples);
+    tally.changed += !have_same_words(run, &without, 0);
+    tally.changed_first += run->vertices_of[1] != without.vertices_of[1];
+    tally.changed_later += !have_same_words(run, &without, 2);
+    end_run(&without);
 }
 
 /* Patterns and pages beside the buffers take turns. */
@@ -1279,11 +1277,7 @@ static void tally_runs(void)
     tally_case("another run than before", tally.turns);
     tally_case("held against the mesh", tally.whole_meshes);
     tally_title("runs with a noise figure");
-    tally_case("0", tally.no_noise);
-    tally_case("above", tally.noise);
-    tally_case("at the limit of a face", tally.at_limit);
-    tally_case("one above", tally.one_above);
-    tally_case("a face parted by noise alone", tally.parted);
+    tally_noise(&tally.noise);
     tally_case("vertices changed against noise 0", tally.changed);
     tally_case("in the first layer", tally.changed_first);
     tally_case("in a further one", tally.changed_later);

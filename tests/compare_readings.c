@@ -80,7 +80,8 @@ static struct {
     uint64_t minus_zero, subnormal, fraction, at_t, step_above_t, step_below_t, half_below_t;
     uint64_t at_ceiling, above_ceiling, greatest, step_below_ceiling, marked, some_marked, none_marked;
     uint64_t no_vertex, no_quad, quads, held, long_row, longest[3];
-    uint64_t noise, no_noise, noise_fault, noise_room[2], at_limit, one_above, parted, changed;
+    struct noise_tally noise;
+    uint64_t noise_fault, noise_room[2], changed;
 } tally;
 
 /* ---- one reading ---- */
@@ -521,27 +522,23 @@ static void count_values(const struct question *q)
     tally.step_below_ceiling += below_ceiling > 0;
 }
 
-/* What a noise figure does to an accepted block of some length, beside noise 0. */
-static void count_noise(const struct question *q)
+/* What the noise figure does to a short block that is accepted, beside noise 0. */
+static void check_noise(const struct question *q)
 {
-    uint32_t plainly[ANSWER];
+    uint32_t without[ANSWER];
     struct noise_effect effect;
-    tally.no_noise += q->noise == 0;
-    tally.noise += q->noise > 0;
+    count_figure(&tally.noise, q->noise);
     if (q->noise == 0 || !q->greys || q->readings_len > SHORT_BLOCK)
         return;
     effect = effect_of(q->length, q->t, q->noise, q->greys);
-    tally.at_limit += effect.at_limit > 0;
-    tally.one_above += effect.one_above > 0;
-    tally.parted += effect.parted > 0;
+    count_effect(&tally.noise, &effect);
     asking("parsniprow_readings_counts");
-    parsniprow_readings_counts(q->length[0], q->length[1], q->length[2], q->readings, q->readings_len, q->t, 0, plainly,
+    parsniprow_readings_counts(q->length[0], q->length[1], q->length[2], q->readings, q->readings_len, q->t, 0, without,
                                ANSWER);
     asking("the comparison");
-    tally.changed += plainly[1] != answer[1];
-    if ((plainly[0] != 0 || plainly[2] != answer[2] || (effect.parted == 0 && plainly[1] != answer[1])) &&
-        first_to_fail("a noise figure changes quads of readings, or vertices where it parts no face"))
+    if (first_to_change(&effect, without, answer))
         print_question(q);
+    tally.changed += without[1] != answer[1];
 }
 
 static void count_accepted(const struct question *q)
@@ -566,7 +563,7 @@ static void count_accepted(const struct question *q)
     tally.longer += quads > 0 && q->words_len > 2 * vertices && q->offsets_len > 3 * vertices &&
                     q->quads_len > 4 * quads;
     count_values(q);
-    count_noise(q);
+    check_noise(q);
 }
 
 static unsigned row_of(const uint32_t *said)
@@ -1273,14 +1270,10 @@ static void tally_accepted(void)
     tally_case("all rooms longer", tally.longer);
     tally_case("held against their grey values", tally.held);
     tally_title("blocks of readings with a noise figure");
-    tally_case("0", tally.no_noise);
-    tally_case("above", tally.noise);
+    tally_noise(&tally.noise);
     tally_case("a reading at fault", tally.noise_fault);
     tally_case("refusal 5", tally.noise_room[0]);
     tally_case("refusal 6", tally.noise_room[1]);
-    tally_case("noise at the limit of a face", tally.at_limit);
-    tally_case("one above", tally.one_above);
-    tally_case("a face parted by noise alone", tally.parted);
     tally_case("vertices changed against noise 0", tally.changed);
 }
 

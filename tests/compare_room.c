@@ -57,7 +57,8 @@ static struct {
     uint64_t last_sample[2], last_row[2], last_plane[2]; /* where ny is under 256, and where it is 256 */
     uint64_t none, all_on_faces, some_on_faces, no_multiple, ceilings, long_axes[3][LONG_AXES];
     uint64_t most_vertices, most_of_many, most_quads, fewer_vertices, fewer_quads, meshed, asked_after;
-    uint64_t noise, at_limit, one_above, more_by_noise, fewer_by_noise, most_by_noise;
+    struct noise_tally noise;
+    uint64_t held, more_by_noise, fewer_by_noise, most_by_noise;
     uint64_t answers[REFUSALS + 1], orders[REFUSALS + 1][REFUSALS + 1], all_three;
     uint64_t zero, top;
     struct block_faults faults;
@@ -173,26 +174,25 @@ static void check_bounds(const struct question *q)
             print_question(q);
 }
 
-/* Of a block with a noise figure that has been counted: how it stands beside noise 0. */
-static void count_noise(const struct question *q)
+/* What the noise figure does to a short block that has been counted, beside noise 0. */
+static void check_noise(const struct question *q)
 {
-    uint32_t plainly[ANSWER];
+    uint32_t without[ANSWER];
     struct noise_effect effect;
+    count_figure(&tally.noise, q->noise);
     if (q->noise == 0 || q->samples_len > SHORT_BLOCK)
         return;
-    asking("parsniprow_counts");
-    parsniprow_counts(q->length[0], q->length[1], q->length[2], q->samples, q->samples_len, q->t, 0, plainly, ANSWER);
-    asking("the comparison");
     effect = effect_of(q->length, q->t, q->noise, q->samples);
-    if ((plainly[0] != 0 || plainly[2] != counted[2] || (effect.parted == 0 && plainly[1] != counted[1])) &&
-        first_to_fail("a noise figure changes quads, or vertices where it parts no face"))
+    count_effect(&tally.noise, &effect);
+    asking("parsniprow_counts");
+    parsniprow_counts(q->length[0], q->length[1], q->length[2], q->samples, q->samples_len, q->t, 0, without, ANSWER);
+    asking("the comparison");
+    if (first_to_change(&effect, without, counted))
         print_question(q);
-    tally.noise++;
-    tally.at_limit += effect.at_limit > 0;
-    tally.one_above += effect.one_above > 0;
-    tally.more_by_noise += counted[1] > plainly[1];
-    tally.fewer_by_noise += counted[1] < plainly[1];
-    tally.most_by_noise += counted[1] > plainly[1] && 3 * (uint64_t)counted[1] == 4 * (uint64_t)answer[1];
+    tally.held++;
+    tally.more_by_noise += counted[1] > without[1];
+    tally.fewer_by_noise += counted[1] < without[1];
+    tally.most_by_noise += counted[1] > without[1] && 3 * (uint64_t)counted[1] == 4 * (uint64_t)answer[1];
 }
 
 /* As a caller does who knows the crossed edges and nothing else of the mesh. */
@@ -262,7 +262,7 @@ static void try_question(const struct question *question)
     tally.blocks++;
     if (answer[0] == 0 && holds(&answer_place, answer, ANSWER)) {
         check_bounds(question);
-        count_noise(question);
+        check_noise(question);
         if (question->samples_len <= MESHED_SAMPLES) {
             reserve_rooms(question);
             run_mesh(question);
@@ -484,17 +484,11 @@ void try_largest_blocks(void)
 
 /* ---- blocks with a block ---- */
 
-/* The noise figure, where the block and its threshold are good ones; else any. */
-static uint32_t noise_for(struct chance *chance, const struct question *question)
-{
-    if (due(question) == 0)
-        return choose_noise(chance, question->length, question->t, question->samples);
-    return (uint32_t)chance_below(chance, (uint64_t)UINT32_MAX + 1);
-}
-
+/* What is still open about a question whose block and threshold stand fast. */
 static void choose_places(struct chance *chance, struct question *question)
 {
-    question->noise = noise_for(chance, question);
+    int is_wrong = due(question) != 0;
+    question->noise = choose_any_noise(chance, is_wrong, question->length, question->t, question->samples);
     question->answer_len = choose_reach(chance, ANSWER);
     question->lying = choose_lying(chance);
     question->ceilings_beside = chance_in_100(chance, 50);
@@ -608,11 +602,10 @@ static void tally_answered(void)
     tally_case("fewer quads", tally.fewer_quads);
     tally_case("meshes in reserved rooms", tally.meshed);
     tally_case("and asked about", tally.asked_after);
-    tally_title("vertices with a noise figure");
-    tally_case("blocks", tally.noise);
-    tally_case("noise at the limit of a face", tally.at_limit);
-    tally_case("one above", tally.one_above);
-    tally_case("more than with noise 0", tally.more_by_noise);
+    tally_title("blocks for room with a noise figure");
+    tally_noise(&tally.noise);
+    tally_case("held against noise 0", tally.held);
+    tally_case("more vertices than with noise 0", tally.more_by_noise);
     tally_case("as many as there can be", tally.most_by_noise);
     tally_case("fewer than with noise 0", tally.fewer_by_noise);
 }

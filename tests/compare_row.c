@@ -4,7 +4,7 @@
    16 layers at a time; and a row for a block about which one thing or several may be wrong, so that every refusal and
    every order of two refusals occurs. A row has one noise figure for all its thresholds. Where the row is accepted,
    what stands there for each threshold must also be what the library's counts answer for this threshold alone, with the
-   same noise figure.
+   same noise figure; and beside noise 0 it must have as many quads, and vertices too where no face is parted.
    Assumes nothing more than compare.h. */
 #include "compare.h"
 
@@ -76,7 +76,8 @@ static struct {
     uint64_t side_by_side, apart, again_counted, again_refused, all_alike, all_different, falling;
     uint64_t at_sample, above_sample, nothing, no_quad, quads, different;
     uint64_t under_17, plane_counts[PLANE_COUNTS], other_planes;
-    uint64_t by_noise, no_noise, noise, at_limit, one_above, changed, some_changed, noise_refused[REFUSALS];
+    struct noise_tally noise;
+    uint64_t by_noise, changed, some_changed, noise_refused[REFUSALS];
 } tally;
 
 /* How the numbers 3 stand in an accepted row. */
@@ -324,33 +325,37 @@ static void ask_one_by_one(const struct question *q)
     asking("the comparison");
 }
 
-/* How many thresholds of an accepted row have other counts than with noise 0, and which limits they meet. */
-static void count_noise(const struct question *q)
+/* What the noise figure does to a short block by each threshold of an accepted row, beside noise 0. For the row the
+   effects by all its thresholds count together. */
+static void check_noise(const struct question *q)
 {
-    uint64_t changed = 0, at_limit = 0, one_above = 0, counted = 0;
-    tally.no_noise += q->noise == 0;
-    tally.noise += q->noise > 0;
+    const uint32_t *written = start(&answers_place);
+    struct noise_effect together = {0, 0, 0, 0};
+    uint64_t changed = 0, counted = 0;
+    count_figure(&tally.noise, q->noise);
     if (q->noise == 0 || q->samples_len > SCANNED_SAMPLES)
         return;
     asking("parsniprow_counts");
     for (size_t i = 0; i < q->thresholds_len; i++) {
-        uint32_t plainly[ANSWER];
+        uint32_t without[ANSWER];
         struct noise_effect effect;
         if (is_refused(q->thresholds[i]))
             continue;
         parsniprow_counts(q->length[0], q->length[1], q->length[2], q->samples, q->samples_len, q->thresholds[i], 0,
-                          plainly, ANSWER);
+                          without, ANSWER);
         effect = effect_of(q->length, q->thresholds[i], q->noise, q->samples);
+        if (first_to_change(&effect, without, written + ANSWER * i))
+            print_question(q);
+        together.at_limit += effect.at_limit;
+        together.one_above += effect.one_above;
+        together.parted += effect.parted;
         counted++;
-        changed += plainly[1] != three(i)[1];
-        at_limit += effect.at_limit > 0;
-        one_above += effect.one_above > 0;
+        changed += without[1] != three(i)[1];
     }
     asking("the comparison");
+    count_effect(&tally.noise, &together);
     tally.changed += changed > 0;
     tally.some_changed += changed > 0 && changed < counted;
-    tally.at_limit += at_limit > 0;
-    tally.one_above += one_above > 0;
 }
 
 /* After a long block its place is given back, so that with short ones no long pages are opened and closed. */
@@ -360,7 +365,7 @@ static void try_question(const struct question *q)
     run_row(q);
     if (answer[0] == 0) {
         ask_one_by_one(q);
-        count_noise(q);
+        check_noise(q);
     }
     count_question(q);
     if (q->samples_len > SHORT_BLOCK)
@@ -745,13 +750,12 @@ static size_t choose_answers(struct chance *chance, int is_short, size_t thresho
     return how < 4 ? need : how < 8 ? need + 1 + how % 3 : need + (size_t)chance_below(chance, LONGER_ROOM);
 }
 
-/* The noise figure, where the block is a good one: it goes with one of the thresholds. Else any. */
-static uint32_t noise_for(struct chance *chance, const struct question *q)
+/* The noise figure goes with one of the thresholds. */
+static uint32_t choose_row_noise(struct chance *chance, const struct question *q)
 {
     uint16_t t = q->thresholds_len > 0 ? q->thresholds[chance_below(chance, q->thresholds_len)] : 0;
-    if ((due(q) & (1u << AXIS | 1u << COUNT)) == 0 && !is_refused(t))
-        return choose_noise(chance, q->length, t, q->samples);
-    return chance_in_100(chance, 25) ? 0 : (uint32_t)chance_below(chance, (uint64_t)UINT32_MAX + 1);
+    int is_wrong = is_refused(t) || (due(q) & (1u << AXIS | 1u << COUNT)) != 0;
+    return choose_any_noise(chance, is_wrong, q->length, t, q->samples);
 }
 
 /* Asks about a block, of which only the thresholds, the noise figure and the lengths of the places are open yet. */
@@ -759,7 +763,7 @@ static void ask_row(struct chance *chance, struct question *q, uint16_t t, int i
 {
     q->thresholds_len = is_many ? choose_many(chance) : choose_few(chance, q->samples_len);
     choose_thresholds(chance, q, t);
-    q->noise = noise_for(chance, q);
+    q->noise = choose_row_noise(chance, q);
     q->answers_len = choose_answers(chance, is_short, q->thresholds_len);
     q->answer_len = choose_reach(chance, ANSWER);
     q->lying = choose_lying(chance);
@@ -879,10 +883,7 @@ static void tally_counts(void)
     tally_case("quads", tally.quads);
     tally_case("different counts in a row", tally.different);
     tally_title("noise figures of accepted rows");
-    tally_case("0", tally.no_noise);
-    tally_case("above", tally.noise);
-    tally_case("at the limit of a face", tally.at_limit);
-    tally_case("one above", tally.one_above);
+    tally_noise(&tally.noise);
     tally_case("counts changed against noise 0", tally.changed);
     tally_case("by some thresholds and not by others", tally.some_changed);
     tally_title("planes of blocks with quads");

@@ -26,7 +26,7 @@ use Rattle.cube_rule.proofs.Laws.{pattern-sign}
 use Rattle.cube_rule.proofs.Tables.{ring-corner-lt}
 use Rattle.cube_rule.proofs.Saddle.{Alternate}
 
--- "with n = 0": the decider is 01's own sentence
+-- with n = 0 the decider is 01's own sentence
 pub no-noise : (t p q r s : ℕ) → joined (cutOf t 0) p q r s ≡ noiseless (cutOf t 0) p q r s
 unfolding joined noiseless
 no-noise t p q r s = ap₂ (cond (leb t p)) (plain (d q *ℤ d s) (d p *ℤ d r)) (plain (d p *ℤ d r) (d q *ℤ d s))

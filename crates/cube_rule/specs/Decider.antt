@@ -33,6 +33,6 @@ noiseless cut p q r s =
 abbrev pub divisor : Cut → ℕ → ℕ → ℕ → ℕ → ℕ
 divisor cut p q r s = cond (positive cut p) ((p + r) - (q + s)) ((q + s) - (p + r))
 
--- the loops of a cube, as 01 has them: by this decider
+-- the loops of a cube, as 01 has them, with its doubtful faces decided by `joined`
 abbrev pub loopsOf : Cut → List ℕ → List ℕ
 loopsOf cut corners = loopsBy joined cut corners

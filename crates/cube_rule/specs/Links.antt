@@ -37,8 +37,8 @@ module _ (a b c d : Bool) where
       ringCrossed i && ringCrossed k && not (eqb i k)
       && (eqb ringCount 2 || eqb ringCount 4 && meetAt (not joined) i k)
 
--- What decides a face with four crossed edges: from the threshold and the samples round the face, whether its positive corners are
--- joined. What is proved of links and loops holds for any decider; 01's own is `joined`.
+-- What decides a face with four crossed edges: from the threshold, the noise figure and the samples round the face, whether its positive
+-- corners are joined. What is proved of links and loops holds for any decider; the one of 01 and 02 is `joined`.
 abbrev pub Decider : Type 0
 Decider = Cut → ℕ → ℕ → ℕ → ℕ → Bool
 

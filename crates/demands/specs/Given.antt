@@ -35,9 +35,9 @@ module _ {nx ny nz : ℕ} {s : List ℕ} {cut : Cut} (a : MeshCall nx ny nz s cu
   abbrev round : ℕ → ℕ → ℕ → ℕ
   round c f i = cornerSample (cornersOf size s c) (ringCorner f i)
 
-  -- the divisor of its saddle
-  abbrev S : ℕ → ℕ → ℕ
-  S c f = divisor cut (round c f 0) (round c f 1) (round c f 2) (round c f 3)
+  -- the divisor of the saddle of the face f of the cube with number c
+  abbrev divisorAt : ℕ → ℕ → ℕ
+  divisorAt c f = divisor cut (round c f 0) (round c f 1) (round c f 2) (round c f 3)
 
   pub record MeshGiven : Type 0 where
     -- the vertices, one for each loop of each cube, in order: cube number and word. What stood behind them is kept
@@ -52,12 +52,13 @@ module _ {nx ny nz : ℕ} {s : List ℕ} {cut : Cut} (a : MeshCall nx ny nz s cu
     -- the loops of a cube are those of THE RULE, its doubtful faces being decided by `joined`
     pub loops : (c : ℕ) → Rule (patternOf cut (cornersOf size s c)) (decisions joined cut (cornersOf size s c)) (cubeLoops loopsOf size s cut c)
     -- and that is by the saddle: where all four edges of a face are crossed, its positive corners are joined exactly if the form there is at least t + n/S, with the
-    -- noise figure n and the divisor S, which is above 0; so without noise exactly if it is at least t
+    -- noise figure n and the divisor S, which is above 0
     pub noisy-saddles : (c f u w v x : ℕ)
         → ringCount (positive cut (round c f 0)) (positive cut (round c f 1)) (positive cut (round c f 2)) (positive cut (round c f 3)) ≡ 4
         → 0 < u + w → 0 < v + x → Saddle (round c f 0) (round c f 1) (round c f 2) (round c f 3) u w v x
-        → (0 < S c f) × ((decisions joined cut (cornersOf size s c) f ≡ true)
-        ↔ ((cut .t * S c f + cut .noise) * ((u + w) * (v + x)) ≤ S c f * form (round c f 0) (round c f 1) (round c f 2) (round c f 3) u w v x))
+        → (0 < divisorAt c f) × ((decisions joined cut (cornersOf size s c) f ≡ true)
+        ↔ ((cut .t * divisorAt c f + cut .noise) * ((u + w) * (v + x)) ≤ divisorAt c f * form (round c f 0) (round c f 1) (round c f 2) (round c f 3) u w v x))
+    -- so without noise exactly if it is at least t
     pub saddles : cut .noise ≡ 0 → (c f u w v x : ℕ)
         → ringCount (positive cut (round c f 0)) (positive cut (round c f 1)) (positive cut (round c f 2)) (positive cut (round c f 3)) ≡ 4
         → 0 < u + w → 0 < v + x → Saddle (round c f 0) (round c f 1) (round c f 2) (round c f 3) u w v x

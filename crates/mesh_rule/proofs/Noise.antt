@@ -1,5 +1,5 @@
 -- The mesh of a block reads the noise figure by the loops of its cubes alone. Where two deciders, or one with two noise figures, give each cube the same loops, they give
--- the same mesh: so without noise it is 01's, and a block without a doubtful face has one mesh under all noise figures.
+-- the same mesh: so without noise it is 01's, and noise figures that decide each doubtful face alike give one mesh.
 -- Assumes nothing.
 use Prim.Native.Nat.{ℕ, _+_, _-_, _≤_, _<_}
 use mathlib.Core.Path.{_≡_, refl, ap, ap₂}
@@ -13,10 +13,11 @@ use Rattle.block.specs.declared.Size.{Size}
 use Rattle.block.specs.Grey.{cutOf}
 use Rattle.block.specs.Numbering.{Axis, X, Y, Z, cubeNumber, cubeCount, sampleCount}
 use Rattle.laws.proofs.Index.{index-lt}
-use Rattle.cube_rule.specs.Decider.{noiseless, loopsOf}
+use Rattle.cube_rule.specs.Decider.{joined, noiseless, loopsOf}
+use Rattle.cube_rule.specs.Links.{decisions}
 use Rattle.cube_rule.specs.Loops.{loopsBy}
 use Rattle.cube_rule.specs.Rule.{firstHolder}
-use Rattle.cube_rule.proofs.Noise.{DoubtfulAt, sure-cube, no-noise-loops}
+use Rattle.cube_rule.proofs.Noise.{DoubtfulAt, decided-alike, no-noise-loops}
 use Rattle.place.specs.declared.Offset.{Offset}
 use Rattle.place.specs.Place.{placeOf}
 use Rattle.place.proofs.Noise.{place-reads-no-noise}
@@ -109,10 +110,16 @@ one-mesh f g n s t a b alike = record {
   numbers-same = quad-words-alike f g n s t a b alike;
 }
 
--- "with n = 0": the mesh is that of 01's own decider
+-- with n = 0 the mesh is that of 01's own decider
 pub no-noise-mesh : (n : Size) (s : List ℕ) (t : ℕ) → OneMesh loopsOf (loopsBy noiseless) n s (cutOf t 0) (cutOf t 0)
 no-noise-mesh n s t = one-mesh loopsOf (loopsBy noiseless) n s t 0 0 (λ c h. no-noise-loops t (cornersOf n s c))
 
--- a block no face of whose cubes is doubtful has one mesh under all noise figures
+-- two noise figures that decide each doubtful face of a block alike give it one mesh: nothing else reads them
+pub decided-mesh : (n : Size) (s : List ℕ) (t a b : ℕ)
+    → ((c f : ℕ) → c < cubeCount n → f < 6 → DoubtfulAt t (cornersOf n s c) f → decisions joined (cutOf t a) (cornersOf n s c) f ≡ decisions joined (cutOf t b) (cornersOf n s c) f)
+    → OneMesh loopsOf loopsOf n s (cutOf t a) (cutOf t b)
+decided-mesh n s t a b same = one-mesh loopsOf loopsOf n s t a b (λ c h. decided-alike joined joined t a b (cornersOf n s c) (λ f l. same c f h l))
+
+-- so a block no face of whose cubes is doubtful has one mesh under all of them
 pub sure-mesh : (n : Size) (s : List ℕ) (t : ℕ) → ((c f : ℕ) → c < cubeCount n → f < 6 → ¬ DoubtfulAt t (cornersOf n s c) f) → (a b : ℕ) → OneMesh loopsOf loopsOf n s (cutOf t a) (cutOf t b)
-sure-mesh n s t none a b = one-mesh loopsOf loopsOf n s t a b (λ c h. sure-cube t a b (cornersOf n s c) (λ f l. none c f h l))
+sure-mesh n s t none a b = decided-mesh n s t a b (λ c f h l four. absurd (none c f h l four))

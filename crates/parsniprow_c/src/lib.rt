@@ -141,16 +141,8 @@ pub extern "C" fn parsniprow_mesh(
 )
     ensures { λ _. ⌜ MeshTold nx ny nz (now (samples .entry)) t noise (now (words .entry)) (now (offsets .entry)) (now (quads .entry)) (now (answer .entry)) (now (words .exit)) (now (offsets .exit)) (now (quads .exit)) (now (answer .exit)) ⌝ }
 {
-    let counted = mesh::mesh(
-        nx,
-        ny,
-        nz,
-        samples,
-        Cut { t: t, noise: noise },
-        words,
-        offsets,
-        quads,
-    );
+    let cut = Cut { t: t, noise: noise };
+    let counted = mesh::mesh(nx, ny, nz, samples, cut, words, offsets, quads);
     let told = told::tell_counts(counted);
     put(answer, &told);
 }
@@ -189,16 +181,8 @@ pub extern "C" fn parsniprow_readings_mesh(
 )
     ensures { λ _. ⌜ ReadingsMeshTold nx ny nz (now (readings .entry)) t noise (now (words .entry)) (now (offsets .entry)) (now (quads .entry)) (now (answer .entry)) (now (words .exit)) (now (offsets .exit)) (now (quads .exit)) (now (answer .exit)) ⌝ }
 {
-    let counted = readings_mesh::mesh(
-        nx,
-        ny,
-        nz,
-        readings,
-        Cut { t: t, noise: noise },
-        words,
-        offsets,
-        quads,
-    );
+    let cut = Cut { t: t, noise: noise };
+    let counted = readings_mesh::mesh(nx, ny, nz, readings, cut, words, offsets, quads);
     let told = told::tell_counts(counted);
     put(answer, &told);
 }
