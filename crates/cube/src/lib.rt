@@ -131,7 +131,7 @@ fn raised(x: i32, y: i32, n: u32) -> i64
 }
 
 // Whether the positive corners of a face with four crossed edges are joined: whether their product is at least that of the negative corners and the noise figure
-// together. p, q, r, s are the samples round the face.
+// together. p, q, r, s are the samples round the face. (Both sides are worked out before the choice: a jump that chance decides costs more than a sum.)
 pub fn decide(cut: Cut, p: u16, q: u16, r: u16, s: u16) -> bool
     ensures { λ j. ⌜ j ≡ joined cut p q r s ⌝ }
 {
@@ -139,10 +139,14 @@ pub fn decide(cut: Cut, p: u16, q: u16, r: u16, s: u16) -> bool
     let dq = difference(cut, q);
     let dr = difference(cut, r);
     let ds = difference(cut, s);
+    let pr = product(dp, dr);
+    let qs = product(dq, ds);
+    let pr_raised = raised(dp, dr, cut.noise);
+    let qs_raised = raised(dq, ds, cut.noise);
     if cut.t <= p {
-        raised(dq, ds, cut.noise) <= product(dp, dr)
+        qs_raised <= pr
     } else {
-        raised(dp, dr, cut.noise) <= product(dq, ds)
+        pr_raised <= qs
     }
 }
 

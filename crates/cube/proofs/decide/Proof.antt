@@ -28,42 +28,49 @@ module _ (cut : Cut) (p q r s : ℕ) (low high : ℤ) where
   unfolding joined
   first-negative l g h = ap₂ leZ l g ∙ simp (lt-leb (cut .t) p h)
 
-abbrev start : tie.After-struct-known → tie.Start
-start k = k .before .before .before .before .before
+abbrev start : tie.After-difference4 → tie.Start
+start d = d .before .before .before .before
 
-pr-is : (k : tie.After-struct-known)
-    → toZ w32 (ofZ w32 (k .before .before .before .before .difference .result)) *ℤ toZ w32 (ofZ w32 (k .before .before .difference3 .result))
-    ≡ differenceOf (start k .args .cut) (start k .args .p) *ℤ differenceOf (start k .args .cut) (start k .args .r)
-pr-is k =
-    let p = k .before .before .before .before .difference in
-    let r = k .before .before .difference3 in
+pr-is : (d : tie.After-difference4)
+    → toZ w32 (ofZ w32 (d .before .before .before .difference .result)) *ℤ toZ w32 (ofZ w32 (d .before .difference3 .result))
+    ≡ differenceOf (start d .args .cut) (start d .args .p) *ℤ differenceOf (start d .args .cut) (start d .args .r)
+pr-is d =
+    let p = d .before .before .before .difference in
+    let r = d .before .difference3 in
     product-is _ _ _ _ (back w32 (p .ok)) (p .ensures) (back w32 (r .ok)) (r .ensures)
 
-qs-is : (k : tie.After-struct-known)
-    → toZ w32 (ofZ w32 (k .before .before .before .difference2 .result)) *ℤ toZ w32 (ofZ w32 (k .before .difference4 .result))
-    ≡ differenceOf (start k .args .cut) (start k .args .q) *ℤ differenceOf (start k .args .cut) (start k .args .s)
-qs-is k =
-    let q = k .before .before .before .difference2 in
-    let s = k .before .difference4 in
+qs-is : (d : tie.After-difference4)
+    → toZ w32 (ofZ w32 (d .before .before .difference2 .result)) *ℤ toZ w32 (ofZ w32 (d .difference4 .result))
+    ≡ differenceOf (start d .args .cut) (start d .args .q) *ℤ differenceOf (start d .args .cut) (start d .args .s)
+qs-is d =
+    let q = d .before .before .difference2 in
+    let s = d .difference4 in
     product-is _ _ _ _ (back w32 (q .ok)) (q .ensures) (back w32 (s .ok)) (s .ensures)
+
+-- all four sides are worked out
+abbrev differences : tie.After-raised2 → tie.After-difference4
+differences k = k .before .before .before .before
 
 returns : tie.Need-returns
 returns c =
-    let l = c .before in
-    let k = l .before .before in
-    let a = start k .args in
+    let k = c .before .before in
+    let d = differences k in
+    let a = start d .args in
+    let pr = k .before .before .before .product in
     first-positive (a .cut) (a .p) (a .q) (a .r) (a .s) _ _
-    (back w64 (l .raised .ok) ∙ l .raised .ensures ∙ ap (λ (z : ℤ). z +ℤ pos (a .cut .noise)) (qs-is k))
-    (back w64 (c .product .ok) ∙ c .product .ensures ∙ pr-is k) (l .before .if1 .taken)
+    (back w64 (k .raised2 .ok) ∙ k .raised2 .ensures ∙ ap (λ (z : ℤ). z +ℤ pos (a .cut .noise)) (qs-is d))
+    (back w64 (pr .ok) ∙ pr .ensures ∙ pr-is d) (c .if1 .taken)
 
 returns-2 : tie.Need-returns-2
 returns-2 c =
-    let l = c .before in
-    let k = l .before .before in
-    let a = start k .args in
+    let k = c .before .before in
+    let d = differences k in
+    let a = start d .args in
+    let pr = k .before .raised in
+    let qs = k .before .before .product2 in
     first-negative (a .cut) (a .p) (a .q) (a .r) (a .s) _ _
-    (back w64 (l .raised2 .ok) ∙ l .raised2 .ensures ∙ ap (λ (z : ℤ). z +ℤ pos (a .cut .noise)) (pr-is k))
-    (back w64 (c .product2 .ok) ∙ c .product2 .ensures ∙ qs-is k) (l .before .if1 .left)
+    (back w64 (pr .ok) ∙ pr .ensures ∙ ap (λ (z : ℤ). z +ℤ pos (a .cut .noise)) (pr-is d))
+    (back w64 (qs .ok) ∙ qs .ensures ∙ qs-is d) (c .if1 .left)
 
 pub decide-spec : {M : Type 1} → statement M
 decide-spec =
