@@ -131,7 +131,7 @@ fn raised(x: i32, y: i32, n: u32) -> i64
 }
 
 // Whether the positive corners of a face with four crossed edges are joined: whether their product is at least that of the negative corners and the noise figure
-// together. p, q, r, s are the samples round the face. (Both sides are worked out before the choice: a jump that chance decides costs more than a sum.)
+// together. p, q, r, s are the samples round the face.
 pub fn decide(cut: Cut, p: u16, q: u16, r: u16, s: u16) -> bool
     ensures { λ j. ⌜ j ≡ joined cut p q r s ⌝ }
 {
