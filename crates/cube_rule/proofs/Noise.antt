@@ -108,15 +108,15 @@ links-alike a b c d j k same = go (eqb (ringMask a b c d) 15) refl
 
 module _ (p : ℕ) (j k : ℕ → Bool)
     (same : (f : ℕ) → f < 6 → ringCount (holds p (ringCorner f 0)) (holds p (ringCorner f 1)) (holds p (ringCorner f 2)) (holds p (ringCorner f 3)) ≡ 4 → j f ≡ k f) where
-  face-alike : (f : ℕ) → f < 6 → (faceLink firstLink p f (j f) ≡ faceLink firstLink p f (k f)) × (faceLink secondLink p f (j f) ≡ faceLink secondLink p f (k f))
-  face-alike f h =
+  face-same : (f : ℕ) → f < 6 → (faceLink firstLink p f (j f) ≡ faceLink firstLink p f (k f)) × (faceLink secondLink p f (j f) ≡ faceLink secondLink p f (k f))
+  face-same f h =
       let l = links-alike (holds p (ringCorner f 0)) (holds p (ringCorner f 1)) (holds p (ringCorner f 2)) (holds p (ringCorner f 3)) (j f) (k f) (same f h) in
       (ap (placed f) (l .0), ap (placed f) (l .1))
 
   next : (f : ℕ) → f < 6 → {xs ys : List ℕ} → xs ≡ ys
       → faceLink firstLink p f (j f) ∷ faceLink secondLink p f (j f) ∷ xs ≡ faceLink firstLink p f (k f) ∷ faceLink secondLink p f (k f) ∷ ys
   next f h e =
-      let l = face-alike f h in
+      let l = face-same f h in
       ap₂ (λ (x : ℕ) (xs : List ℕ). x ∷ xs) (l .0) (ap₂ (λ (x : ℕ) (xs : List ℕ). x ∷ xs) (l .1) e)
 
   loops-alike : loopsIn p j ≡ loopsIn p k

@@ -35,9 +35,19 @@ module _ {nx ny nz : ℕ} {s : List ℕ} {cut : Cut} (a : MeshCall nx ny nz s cu
   abbrev round : ℕ → ℕ → ℕ → ℕ
   round c f i = cornerSample (cornersOf size s c) (ringCorner f i)
 
-  -- the divisor of the saddle of the face f of the cube with number c
+  -- of the face f of the cube with number c: that all its four edges are crossed, the divisor of its saddle, and at the point u of u + w along its first side and v of
+  -- v + x along its second, that this is the saddle, and the form there
+  abbrev Doubtful : ℕ → ℕ → Type 0
+  Doubtful c f = ringCount (positive cut (round c f 0)) (positive cut (round c f 1)) (positive cut (round c f 2)) (positive cut (round c f 3)) ≡ 4
+
   abbrev divisorAt : ℕ → ℕ → ℕ
   divisorAt c f = divisor cut (round c f 0) (round c f 1) (round c f 2) (round c f 3)
+
+  abbrev SaddleAt : ℕ → ℕ → ℕ → ℕ → ℕ → ℕ → Type 0
+  SaddleAt c f = Saddle (round c f 0) (round c f 1) (round c f 2) (round c f 3)
+
+  abbrev formAt : ℕ → ℕ → ℕ → ℕ → ℕ → ℕ → ℕ
+  formAt c f = form (round c f 0) (round c f 1) (round c f 2) (round c f 3)
 
   pub record MeshGiven : Type 0 where
     -- the vertices, one for each loop of each cube, in order: cube number and word. What stood behind them is kept
@@ -53,16 +63,12 @@ module _ {nx ny nz : ℕ} {s : List ℕ} {cut : Cut} (a : MeshCall nx ny nz s cu
     pub loops : (c : ℕ) → Rule (patternOf cut (cornersOf size s c)) (decisions joined cut (cornersOf size s c)) (cubeLoops loopsOf size s cut c)
     -- and that is by the saddle: where all four edges of a face are crossed, its positive corners are joined exactly if the form there is at least t + n/S, with the
     -- noise figure n and the divisor S, which is above 0
-    pub noisy-saddles : (c f u w v x : ℕ)
-        → ringCount (positive cut (round c f 0)) (positive cut (round c f 1)) (positive cut (round c f 2)) (positive cut (round c f 3)) ≡ 4
-        → 0 < u + w → 0 < v + x → Saddle (round c f 0) (round c f 1) (round c f 2) (round c f 3) u w v x
+    pub noisy-saddles : (c f u w v x : ℕ) → Doubtful c f → 0 < u + w → 0 < v + x → SaddleAt c f u w v x
         → (0 < divisorAt c f) × ((decisions joined cut (cornersOf size s c) f ≡ true)
-        ↔ ((cut .t * divisorAt c f + cut .noise) * ((u + w) * (v + x)) ≤ divisorAt c f * form (round c f 0) (round c f 1) (round c f 2) (round c f 3) u w v x))
+        ↔ ((cut .t * divisorAt c f + cut .noise) * ((u + w) * (v + x)) ≤ divisorAt c f * formAt c f u w v x))
     -- so without noise exactly if it is at least t
-    pub saddles : cut .noise ≡ 0 → (c f u w v x : ℕ)
-        → ringCount (positive cut (round c f 0)) (positive cut (round c f 1)) (positive cut (round c f 2)) (positive cut (round c f 3)) ≡ 4
-        → 0 < u + w → 0 < v + x → Saddle (round c f 0) (round c f 1) (round c f 2) (round c f 3) u w v x
-        → (decisions joined cut (cornersOf size s c) f ≡ true) ↔ (cut .t * ((u + w) * (v + x)) ≤ form (round c f 0) (round c f 1) (round c f 2) (round c f 3) u w v x)
+    pub saddles : cut .noise ≡ 0 → (c f u w v x : ℕ) → Doubtful c f → 0 < u + w → 0 < v + x → SaddleAt c f u w v x
+        → (decisions joined cut (cornersOf size s c) f ≡ true) ↔ (cut .t * ((u + w) * (v + x)) ≤ formAt c f u w v x)
     -- the places of the loops, each coordinate from 0 to 1 with the sign plus
     pub offsets : a .offsets-after ≡ over (meshOffsets loopsOf size s cut) (a .offsets)
     pub in-unit : SixteenBit s → (k : ℕ) → k < 3 * a .counts .vertices → InUnit (getD (a .offsets-after) k nan)
