@@ -1,10 +1,11 @@
 /* Times the library and the plain implementation on one block. Usage: bench file nx ny nz t mesh.ply sealed.ply, the
    file raw little-endian 16-bit numbers, x fastest; or bench room file nx ny nz t, see room_... below; or bench
    thresholds file nx ny nz t, see row_... below; or bench planes file nx ny nz t, see planes_... below; or bench
-   readings file nx ny nz t readings, see readings_... below; or bench worst, see worst_... below. Writes the mesh to
-   mesh.ply, with a spacing of 0.1 millimetres along each axis. Where a sample on the six faces of the box is metal, the
-   block is then sealed: all samples there become 0. The mesh of the sealed block is written to sealed.ply; of a block
-   that needs no sealing there is no such file. Prints a line for each figure, its name and its value:
+   readings file nx ny nz t readings, see readings_... below; or bench judge file nx ny nz t, see judge_... below; or
+   bench worst, see worst_... below. Writes the mesh to mesh.ply, with a spacing of 0.1 millimetres along each axis.
+   Where a sample on the six faces of the box is metal, the block is then sealed: all samples there become 0. The mesh
+   of the sealed block is written to sealed.ply; of a block that needs no sealing there is no such file. Prints a line
+   for each figure, its name and its value:
      crossed, rim, doubtful  crossed edges, steps out of the block from metal samples, faces with four crossed edges
      vertices, quads         of the mesh
      counts, mesh            seconds of the library's two calls; mesh writes into memory that was written to before
@@ -58,6 +59,14 @@
                              was written to before
      readings_whole, grey_whole, readings_whole_ratio
                              the same of counts, of taking memory of that size by malloc, and of mesh, in one go
+     judge_written           seconds of the library's call judge on the mesh as the library's call mesh wrote it;
+                             bench judge prints this and the next four, with vertices and quads, and nothing else
+     judge_shuffled          the same on that mesh with its vertices and its quads in random order, each quad begun at
+                             a random one of its vertices
+     judge_mesh              seconds of the library's call mesh, into memory of its own that was written to before
+     judge_written_ratio     the first divided by the third, of one run; a run is the first, the second and the third;
+                             there is a line for each run, of this and the next
+     judge_shuffled_ratio    the second divided by the third
      worst_...               vertices, quads, pieces, piece_count and longest of a list of quads that makes the longest
                              search as long as it can be; bench worst prints these alone. They are of no block, so
                              bench/run asks once
@@ -70,7 +79,8 @@
    the crossed edges, nor the quads more than they are. In each run the one call for the thresholds and the 12 calls
    must give the same counts. The parts that the planes give must be the mesh when they are put together. Each reading
    must be its sample and a fraction below 1, and the counts and the meshes of the readings must be those of the
-   samples, bit by bit. */
+   samples, bit by bit. Both meshes must be judged the same. The shuffled one must not be when its last quad goes the
+   other way round, or is left out, or when its last vertex has another mark, and the verdict must say what it is. */
 #define _POSIX_C_SOURCE 199309L
 
 #include "../include/parsniprow.h"
@@ -95,12 +105,14 @@
 
 /* The noise figure of every call, which is none. */
 enum { NOISE = 0 };
-enum { MOST_RUNS = 15, LEAST_RUNS = 2, ANSWER = 3, CLOSED_ANSWER = 4, SHORT_FILE = 15 };
+enum { MOST_RUNS = 15, LEAST_RUNS = 2, ANSWER = 3, CLOSED_ANSWER = 4, JUDGE_ANSWER = 4, SHORT_FILE = 15 };
 /* The links of the longest search of the worst list, which has 2 to this power vertices and as many quads. With 24 it
    takes a second and 450 MB in all; noise of 128 samples an axis takes 620 MB. Each link more would double both. */
 enum { WORST_LINKS = 24 };
 /* The thresholds of a row lie around that of the block. A cache line has 64 bytes wherever there is clflush. */
 enum { ROW = 12, ROW_STEP = 1000, ROW_BELOW = 5500, CACHE_LINE = 64 };
+/* What the third number of a verdict says, and the bit of a word that is the mark. */
+enum { AT_VERTEX = 1, AT_QUAD, SOME_MISSING, MARK = 1 << 12 };
 static const double long_enough = 0.5, spacing = 0.1;
 
 typedef void crossed_function(uint32_t, uint32_t, uint32_t, const uint16_t *, size_t, uint16_t, uint32_t *, size_t);
@@ -953,6 +965,140 @@ static void print_readings(const float *values)
     give_back(&readings.grey.left);
 }
 
+/* A number below a limit. The same numbers come in each process, so that each has the same work. */
+static size_t random_below(size_t limit)
+{
+    static uint64_t state = UINT64_C(0x9E3779B97F4A7C15);
+    state ^= state << 13;
+    state ^= state >> 7;
+    state ^= state << 17;
+    return (size_t)(state % limit);
+}
+
+/* The numbers from 0 on, in random order. */
+static uint32_t *random_order(size_t count)
+{
+    uint32_t *order = taken(count * sizeof *order);
+    for (size_t n = 0; n < count; n++) {
+        size_t other = random_below(n + 1);
+        order[n] = order[other];
+        order[other] = (uint32_t)n;
+    }
+    return order;
+}
+
+/* The mesh with its vertices and its quads in random order, each quad begun at a random one of its vertices. */
+static struct mesh shuffled(const struct mesh *mesh)
+{
+    uint32_t counted[ANSWER] = {0, (uint32_t)mesh->vertex_count, (uint32_t)mesh->quad_count};
+    uint32_t *vertices = random_order(mesh->vertex_count), *quads = random_order(mesh->quad_count);
+    struct mesh other = room_for(counted);
+    for (size_t old = 0; old < mesh->vertex_count; old++) {
+        size_t now_at = vertices[old];
+        memcpy(other.words + 2 * now_at, mesh->words + 2 * old, 2 * sizeof *other.words);
+        memcpy(other.offsets + 3 * now_at, mesh->offsets + 3 * old, 3 * sizeof *other.offsets);
+    }
+    for (size_t old = 0; old < mesh->quad_count; old++) {
+        size_t turn = random_below(4);
+        for (size_t corner = 0; corner < 4; corner++)
+            other.quads[4 * (size_t)quads[old] + corner] = vertices[mesh->quads[4 * old + (corner + turn) % 4]];
+    }
+    free(vertices);
+    free(quads);
+    return other;
+}
+
+/* The mesh as it was written and shuffled, and memory in which it is made anew. */
+struct judged {
+    struct mesh written, shuffled, lent;
+};
+
+static void ask_judge(const struct mesh *mesh, uint32_t *answer)
+{
+    parsniprow_judge(block.length[0], block.length[1], block.length[2], block.samples, block.sample_count, block.t,
+                     NOISE, mesh->words, 2 * mesh->vertex_count, mesh->offsets, 3 * mesh->vertex_count, mesh->quads,
+                     4 * mesh->quad_count, answer, JUDGE_ANSWER);
+    if (answer[0] != 0)
+        stop("the mesh was not judged but refused");
+}
+
+static double judge_seconds(const struct mesh *mesh)
+{
+    uint32_t answer[JUDGE_ANSWER];
+    double from = now();
+    ask_judge(mesh, answer);
+    if (answer[1] != 1 || answer[2] != 0 || answer[3] != 0)
+        stop("the library's own mesh is not judged the same");
+    return now() - from;
+}
+
+static void want_verdict(const struct mesh *mesh, uint32_t what, size_t number)
+{
+    uint32_t answer[JUDGE_ANSWER];
+    ask_judge(mesh, answer);
+    if (answer[1] != 0 || answer[2] != what || answer[3] != number)
+        stop("a mesh that is not the library's gets another verdict");
+}
+
+static void swap(uint32_t *one, uint32_t *other)
+{
+    uint32_t kept = *one;
+    *one = *other;
+    *other = kept;
+}
+
+/* Three faults, each at the end of a list, so that the whole list is gone through. */
+static void check_faults(struct mesh *mesh)
+{
+    size_t last_vertex = mesh->vertex_count - 1, last_quad = mesh->quad_count - 1;
+    if (mesh->vertex_count == 0 || mesh->quad_count == 0)
+        return;
+    swap(mesh->quads + 4 * last_quad, mesh->quads + 4 * last_quad + 2);
+    want_verdict(mesh, AT_QUAD, last_quad);
+    mesh->words[2 * last_vertex + 1] ^= MARK;
+    want_verdict(mesh, AT_VERTEX, last_vertex);
+    mesh->words[2 * last_vertex + 1] ^= MARK;
+    swap(mesh->quads + 4 * last_quad, mesh->quads + 4 * last_quad + 2);
+    mesh->quad_count--;
+    want_verdict(mesh, SOME_MISSING, 0);
+    mesh->quad_count++;
+}
+
+/* The three are asked by turns, as two are by by_turns. */
+static void print_judged(void)
+{
+    uint32_t counted[ANSWER];
+    struct judged judged;
+    double written = 1e9, mixed = 1e9, mesh = 1e9, spent = 0.0, ratios[2][MOST_RUNS];
+    int runs = 0;
+    ask_counts(parsniprow_counts, counted);
+    judged.written = room_for(counted);
+    judged.lent = room_for(counted);
+    fill(&judged.lent);
+    ask_mesh(parsniprow_mesh, &judged.written);
+    judged.shuffled = shuffled(&judged.written);
+    for (; runs_again(runs, spent); runs++) {
+        double written_took = judge_seconds(&judged.written), mixed_took = judge_seconds(&judged.shuffled);
+        double mesh_took = mesh_seconds(&judged.lent);
+        spent += written_took + mixed_took + mesh_took;
+        ratios[0][runs] = written_took / mesh_took;
+        ratios[1][runs] = mixed_took / mesh_took;
+        written = written_took < written ? written_took : written;
+        mixed = mixed_took < mixed ? mixed_took : mixed;
+        mesh = mesh_took < mesh ? mesh_took : mesh;
+    }
+    if (!same(&judged.lent, &judged.written))
+        stop("the mesh differs from one call to the next");
+    check_faults(&judged.shuffled);
+    printf("vertices %u\nquads %u\n", (unsigned)counted[1], (unsigned)counted[2]);
+    printf("judge_written %.9f\njudge_shuffled %.9f\njudge_mesh %.9f\n", written, mixed, mesh);
+    for (int run = 0; run < runs; run++)
+        printf("judge_written_ratio %.6f\njudge_shuffled_ratio %.6f\n", ratios[0][run], ratios[1][run]);
+    give_back(&judged.written);
+    give_back(&judged.shuffled);
+    give_back(&judged.lent);
+}
+
 /* Puts a quad of one vertex and, three times, another. */
 static void put_pair(struct mesh *list, uint32_t first, uint32_t other)
 {
@@ -1058,6 +1204,12 @@ int main(int argc, char **argv)
         free(block.samples);
         return 0;
     }
+    if (argc == 7 && strcmp(argv[1], "judge") == 0) {
+        block = read_block(argv + 2);
+        print_judged();
+        free(block.samples);
+        return 0;
+    }
     if (argc == 8 && strcmp(argv[1], "readings") == 0) {
         float *readings;
         block = read_block(argv + 2);
@@ -1071,7 +1223,7 @@ int main(int argc, char **argv)
     if (argc != 8)
         stop("usage: bench file nx ny nz t mesh.ply sealed.ply, or bench room file nx ny nz t, "
              "or bench thresholds file nx ny nz t, or bench planes file nx ny nz t, "
-             "or bench readings file nx ny nz t readings, or bench worst");
+             "or bench readings file nx ny nz t readings, or bench judge file nx ny nz t, or bench worst");
     block = read_block(argv + 1);
     shape = shape_of_block();
     printf("crossed %zu\nrim %zu\ndoubtful %zu\n", shape.crossed, shape.rim, shape.doubtful);

@@ -1,6 +1,6 @@
 #!/usr/bin/python3
 """Prints the results of one run of the benchmark as Markdown. Usage: tables.py results part, the file that bench/run
-writes, and all, room, thresholds, planes or readings, which is what it has timed.
+writes, and all, room, thresholds, planes, readings or judge, which is what it has timed.
 
 Its lines, with tabs between the words: processor, compiler, library (the machine that its module was compiled for, or
 none); peer, key, name, package, version, and block, readings or mesh, which is what it works on; figure, kind, size,
@@ -67,7 +67,7 @@ def with_ratio(block, seconds, time="whole", unit=1.0):
     return f"{shown} ({block[time] / seconds:.2f})" if time in block else shown
 
 
-# ---- the twelve tables ----
+# ---- the thirteen tables ----
 
 def module_mark(words):
     """What the head of a column says of a library that is not the one that ships."""
@@ -334,6 +334,21 @@ def print_readings_sizes(blocks):
         print_table(["block", "crossed edges", "VTK Flying Edges of floats: points / triangles"], rows)
 
 
+def print_judge_times(words, blocks):
+    mark = module_mark(words)
+    rows = []
+    for (kind, size), block in blocks.items():
+        mesh = block["judge_mesh"]
+        row = [f"{kind} {size}", whole(block["vertices"]), whole(block["quads"]), three_digits(1e3 * mesh)]
+        for word in ("judge_written", "judge_shuffled"):
+            row += [f"**{three_digits(1e3 * block[word])}**", f"{block[word] / mesh:.2f}",
+                    spread_of(block[f"{word}_ratios"])]
+        rows.append(row)
+    print_table(["block", "vertices", "quads", f"mesh{mark}, ms", f"judge, as written{mark}, ms", "as written / mesh",
+                 "of the runs: lowest / middle / highest", f"judge, shuffled{mark}, ms", "shuffled / mesh",
+                 "of the runs: lowest / middle / highest"], rows)
+
+
 # ---- what the meshes must have in common ----
 
 def size_wanted(key, block):
@@ -558,6 +573,22 @@ block of grey values, which are counted from the samples alone. Where all parts 
 just as many triangles as it makes of the block of grey values.
 """
 
+JUDGE_TEXT = """
+A mesh from the foundry. All times here are milliseconds. `judge` is the library's call `parsniprow_judge`, which says
+whether a mesh is ours. `as written` is the mesh as `parsniprow_mesh` wrote it. `shuffled` is the same mesh with its
+vertices and its quads in random order, each quad begun at a random one of its vertices. `mesh` is the call
+`parsniprow_mesh` alone, into memory of its own that was written to before.
+
+- The three are asked by turns in one process, as `crossed` and `counts` are. A run is one of each. A round is 15 runs,
+  or as many as begin within half a second, at least 2. Each round is a process of its own. A time is the best of two
+  rounds.
+- A ratio of two columns is the best time of the one divided by the best time of the other. Each run has ratios of its
+  own too: the lowest, the middle and the highest are those of all runs of both rounds.
+- Checked: in each run both are judged the same. With its last quad the other way round, with another mark at its last
+  vertex, and without its last quad the shuffled mesh gets the verdict that it should. These were not timed.
+- No time makes the benchmark fail.
+"""
+
 SIZES_TEXT = """
 What each program made. A doubtful face is one with four crossed edges. Checked: Flying Edges has a point for each
 crossed edge, OpenVDB a quad for each crossed edge and for each step out of the block from metal, Marching Cubes 99 to
@@ -594,7 +625,13 @@ def print_readings(words, blocks):
         print_readings_sizes(blocks)
 
 
-PARTS = {"room": print_room, "thresholds": print_thresholds, "planes": print_planes, "readings": print_readings}
+def print_judge(words, blocks):
+    print_text(JUDGE_TEXT)
+    print_judge_times(words, blocks)
+
+
+PARTS = {"room": print_room, "thresholds": print_thresholds, "planes": print_planes, "readings": print_readings,
+         "judge": print_judge}
 
 
 def end_by_faults(wrong, is_checked):

@@ -1,5 +1,5 @@
 /* A caller of the installed library, in the words that C and C++ share: the paper's samples through each of the
-   seventeen functions, in a thread with a stack of 64 KiB, which the header says is enough. Prints what is wrong and
+   eighteen functions, in a thread with a stack of 64 KiB, which the header says is enough. Prints what is wrong and
    ends with status 1, or ends with status 0.
    Assumes the installed header and archive, and POSIX threads. */
 #define _POSIX_C_SOURCE 200809L
@@ -406,6 +406,62 @@ static void ask_ply(void)
     expect("a spacing of 0", answers(answer, 13, 1, 0) && length[0] == 0);
 }
 
+static int judged(const uint32_t *answer, uint32_t a, uint32_t b, uint32_t c, uint32_t d)
+{
+    return answers(answer, a, b, c) && answer[3] == d;
+}
+
+/* The paper's mesh and the same backwards, as a foreign one of a block whose other samples are hollow. */
+static void ask_judge_of(uint32_t axis, const uint16_t *samples, size_t samples_len)
+{
+    uint32_t words[2 * VERTICES + 2], backwards[2 * VERTICES], quads[4 * QUADS], renamed[4 * QUADS];
+    uint32_t answer[5] = {9, 9, 9, 9, 9};
+    double offsets[3 * VERTICES + 3];
+    parsniprow_mesh(axis, axis, axis, samples, samples_len, 100, 7, words, 2 * VERTICES, offsets, 3 * VERTICES, quads,
+                    4 * QUADS, answer, 3);
+    for (size_t at = 0; at < VERTICES; at++) {
+        backwards[2 * at] = words[2 * (VERTICES - 1 - at)];
+        backwards[2 * at + 1] = words[2 * (VERTICES - 1 - at) + 1];
+    }
+    for (size_t at = 0; at < 4 * QUADS; at++) /* and each begun one vertex later */
+        renamed[at] = VERTICES - 1 - quads[at / 4 * 4 + (at + 1) % 4];
+    parsniprow_judge(axis, axis, axis, samples, samples_len, 100, 7, words, 2 * VERTICES, offsets, 3 * VERTICES, quads,
+                     4 * QUADS, answer, 4);
+    expect("our own mesh", judged(answer, 0, 1, 0, 0) && answer[4] == 9);
+    parsniprow_judge(axis, axis, axis, samples, samples_len, 100, 7, backwards, 2 * VERTICES, offsets, 3 * VERTICES,
+                     renamed, 4 * QUADS, answer, 4);
+    expect("our own mesh backwards", judged(answer, 0, 1, 0, 0));
+    parsniprow_judge(axis, axis, axis, samples, samples_len, 100, 7, backwards, 2 * VERTICES, offsets, 3 * VERTICES,
+                     quads, 4 * QUADS, answer, 4);
+    expect("quads that are not renamed", judged(answer, 0, 0, 2, 0));
+    parsniprow_judge(axis, axis, axis, samples, samples_len, 100, 7, words, 2 * VERTICES, offsets, 3 * VERTICES, quads,
+                     4 * QUADS - 4, answer, 4);
+    expect("the last quad left out", judged(answer, 0, 0, 3, 0));
+    words[2 * VERTICES] = words[0];
+    words[2 * VERTICES + 1] = words[1];
+    offsets[3 * VERTICES] = offsets[3 * VERTICES + 1] = offsets[3 * VERTICES + 2] = -0.0;
+    parsniprow_judge(axis, axis, axis, samples, samples_len, 100, 7, words, 2 * VERTICES + 2, offsets, 3 * VERTICES + 3,
+                     quads, 4 * QUADS, answer, 4);
+    expect("a vertex again", judged(answer, 0, 0, 1, VERTICES));
+    offsets[2] = NAN;
+    parsniprow_judge(axis, axis, axis, samples, samples_len, 100, 7, words, 2 * VERTICES, offsets, 3 * VERTICES, quads,
+                     4 * QUADS, answer, 4);
+    expect("an offset that is no number", judged(answer, 0, 0, 1, 0));
+    parsniprow_judge(axis, axis, axis, samples, samples_len, 100, 7, words, 2 * VERTICES - 2, offsets, 3 * VERTICES - 3,
+                     quads, 4 * QUADS, answer, 4);
+    expect("a quad of a vertex that is left out", judged(answer, 14, 1, 0, 0));
+    parsniprow_judge(axis, axis, axis, samples, samples_len, 100, 7, words, 2 * VERTICES, offsets, 3 * VERTICES - 1,
+                     quads, 4 * QUADS - 1, answer, 4);
+    expect("offsets that are too few", judged(answer, 22, 2 * VERTICES, 0, 0));
+}
+
+static void ask_judge(void)
+{
+    uint16_t samples[SAMPLES] = {0};
+    samples[13] = 400;
+    ask_judge_of(3, samples, SAMPLES);
+}
+
 /* A block of 256 samples an axis: the mesh, which counts first, has the deepest stack. Sixteen thresholds are the
    most. */
 static void ask_large(void)
@@ -426,6 +482,7 @@ static void ask_large(void)
                           answer, 3);
     expect("16 thresholds of a large block", answers(answer, 0, 0, 0) && answers(row, 0, VERTICES, QUADS) &&
                                                  answers(row + 3, 0, 0, 0) && answers(row + 45, 3, 0, 0));
+    ask_judge_of(256, samples, count);
 }
 
 /* Planes of 256 by 256 samples, one of metal in the second. */
@@ -488,6 +545,7 @@ static void *ask(void *unused)
     ask_closed_with(quads);
     ask_pieces(quads);
     ask_ply();
+    ask_judge();
     ask_large();
     ask_large_planes();
     ask_large_readings();

@@ -1,8 +1,8 @@
 /* Compares the library with the plain implementation on many random blocks, their crossed edges and rows of thresholds,
    on blocks that are handed over plane by plane, on readings and blocks of them, on edges, cubes, lists of quads and
-   their pieces, lists of samples and meshes that become files: the answers, and every byte of every lent buffer, with
-   what is beside it. With a threshold goes a random noise figure, often one at which a face of the block is just joined
-   or just parted. Of blocks that have a margin of one sign the mesh must be closed.
+   their pieces, lists of samples, meshes that become files and foreign meshes: the answers, and every byte of every
+   lent buffer, with what is beside it. With a threshold goes a random noise figure, often one at which a face of the
+   block is just joined or just parted. Of blocks that have a margin of one sign the mesh must be closed.
    Usage: compare [blocks [seed [first block]]], or compare all.
    From 20,000 blocks on it also tries what takes seconds, and fails if something that it should try never occurred.
    With the word all it asks each of the 2^32 readings there are and nothing else, which takes a minute or more. The
@@ -24,7 +24,7 @@ static const char *const function_names[FUNCTIONS] = {
     "parsniprow_thresholds",    "parsniprow_mesh",        "parsniprow_reading", "parsniprow_readings_counts",
     "parsniprow_readings_mesh", "parsniprow_start",       "parsniprow_plane",   "parsniprow_end",
     "parsniprow_closed",        "parsniprow_closed_with", "parsniprow_pieces",  "parsniprow_ceilings",
-    "parsniprow_ply",
+    "parsniprow_ply",           "parsniprow_judge",
 };
 
 static uint64_t asked[FUNCTIONS][BESIDES], differences;
@@ -226,6 +226,8 @@ static void try_fixed(void)
     try_fixed_planes();
     working_on(strcpy(occasion, "among the readings that are asked once"));
     try_fixed_readings();
+    working_on(strcpy(occasion, "among the foreign meshes that are asked once"));
+    try_fixed_judged();
 }
 
 static void try_with_block(uint64_t seed, uint64_t block)
@@ -251,6 +253,7 @@ static void try_with_block(uint64_t seed, uint64_t block)
         try_planes(&trial);
     else
         try_readings(&trial);
+    try_judged(&trial);
 }
 
 static void print_missing(void)
@@ -261,7 +264,7 @@ static void print_missing(void)
 
 static int report(uint64_t blocks)
 {
-    uint64_t edges, cubes, lists, ceilings, files, margins, pieces, rooms, rows, planes, readings;
+    uint64_t edges, cubes, lists, ceilings, files, margins, pieces, rooms, rows, planes, readings, judged;
     char of_missing[40] = "";
     int enough = blocks >= ENOUGH_BLOCKS;
     tally_blocks();
@@ -276,6 +279,7 @@ static int report(uint64_t blocks)
     rows = tally_rows();
     planes = tally_planes();
     readings = tally_readings();
+    judged = tally_judged();
     tally_asked();
     printf("\n");
     if (enough) {
@@ -284,11 +288,11 @@ static int report(uint64_t blocks)
     }
     printf("compare: %llu blocks, %llu edges, %llu cubes, %llu lists of quads, %llu of samples, %llu files, "
            "%llu blocks with a margin, %llu lists for pieces, %llu blocks for room, %llu rows of thresholds, "
-           "%llu blocks plane by plane, %llu blocks of readings, %s%llu differences\n",
+           "%llu blocks plane by plane, %llu blocks of readings, %llu foreign meshes, %s%llu differences\n",
            (unsigned long long)blocks, (unsigned long long)edges, (unsigned long long)cubes, (unsigned long long)lists,
            (unsigned long long)ceilings, (unsigned long long)files, (unsigned long long)margins,
            (unsigned long long)pieces, (unsigned long long)rooms, (unsigned long long)rows,
-           (unsigned long long)planes, (unsigned long long)readings, of_missing,
+           (unsigned long long)planes, (unsigned long long)readings, (unsigned long long)judged, of_missing,
            (unsigned long long)differences);
     return differences > 0 || (enough && missing_count > 0);
 }
@@ -347,6 +351,8 @@ int main(int argc, char **argv)
         try_largest_planes();
         working_on(strcpy(occasion, "with many readings and the largest block of them"));
         try_largest_readings();
+        working_on(strcpy(occasion, "with large foreign meshes"));
+        try_largest_judged();
     }
     for (uint64_t block = first; block - first < blocks; block++)
         try_with_block(seed, block);

@@ -26,6 +26,7 @@
 #define parsniprow_pieces plain_pieces
 #define parsniprow_ceilings plain_ceilings
 #define parsniprow_ply plain_ply
+#define parsniprow_judge plain_judge
 #endif
 
 enum { ANSWER = 3, CLOSED_ANSWER = 4, LOOPS = 4, COORDINATES = 12, MOST_SHIFT = 8 };
@@ -51,6 +52,7 @@ enum function {
     PIECES,
     CEILINGS,
     PLY,
+    JUDGE,
     FUNCTIONS
 };
 
@@ -129,8 +131,8 @@ struct trial {
 /* Asks the counts and the mesh of a block and fills in the trial but for its chance; then what goes with the block:
    some edges, some of its cubes, some lists of quads, its samples at the ceiling, some files, another block, whose
    samples on the faces of the box are all of one sign, the pieces of some lists, its crossed edges with those of some
-   other blocks, its counts by rows of thresholds with those of some other blocks, some other blocks plane by plane, and
-   some readings with a block of readings. */
+   other blocks, its counts by rows of thresholds with those of some other blocks, some other blocks plane by plane,
+   some readings with a block of readings, and some foreign meshes with a block of their own. */
 void try_block(struct trial *trial);
 void try_edges(struct trial *trial);
 void try_cubes(struct trial *trial);
@@ -143,6 +145,7 @@ void try_room(struct trial *trial);
 void try_rows(struct trial *trial);
 void try_planes(struct trial *trial);
 void try_readings(struct trial *trial);
+void try_judged(struct trial *trial);
 
 /* The closed question takes the square of a list without work, so it is asked so only up to this many quads. */
 enum { SQUARE_QUADS = 352 };
@@ -171,6 +174,7 @@ void try_fixed_rooms(void);
 void try_fixed_rows(void);
 void try_fixed_planes(void);
 void try_fixed_readings(void);
+void try_fixed_judged(void);
 
 /* What takes seconds, and is asked only with enough blocks. */
 void try_longest_file(void);
@@ -178,6 +182,7 @@ void try_largest_blocks(void);
 void try_largest_rows(void);
 void try_largest_planes(void);
 void try_largest_readings(void);
+void try_largest_judged(void);
 
 /* What takes minutes: all 2^32 readings. Gives how many were asked. */
 uint64_t try_all_readings(void);
@@ -195,5 +200,6 @@ uint64_t tally_rooms(void);
 uint64_t tally_rows(void);
 uint64_t tally_planes(void);
 uint64_t tally_readings(void);
+uint64_t tally_judged(void);
 
 #endif

@@ -3,7 +3,7 @@
 into=target/tests
 archive=target/staticlib/libparsniprow_c.a
 flags="-std=c99 -Wall -Wextra -Wpedantic -ffp-contract=off"
-comparison=(tests/compare{,_mesh,_edge,_cube,_closed,_ceilings,_ply,_ply_once,_margin,_pieces,_room,_row,_planes,_readings}.c tests/{lent,crash,blocks,lists,bench_cubes,hand_lists,hand_blocks,hand_readings,plain}.c)
+comparison=(tests/compare{,_mesh,_edge,_cube,_closed,_ceilings,_ply,_ply_once,_margin,_pieces,_room,_row,_planes,_readings,_judge,_judge_once}.c tests/{lent,crash,blocks,lists,foreign,bench_cubes,hand_lists,hand_blocks,hand_readings,hand_judge,plain}.c)
 
 mkdir -p "$into"
 

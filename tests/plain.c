@@ -6,7 +6,8 @@
    the last two planes and nothing of the mesh: with the next plane they are a block of their own, meshed as any other.
    Of a reading only the bits are looked at, with no float arithmetic, and the block of its grey values is put together
    before it is meshed. Whether metal is joined across a doubtful face is asked with a noise figure; beside that stands
-   the old rule, which has none.
+   the old rule, which has none. A foreign mesh is judged by sorting: its vertices and ours by cube and word, then its
+   quads and ours, each begun where its numbers are least; then both lists are gone through side by side.
    Assumes doubles rounded to nearest, each operation by itself (-ffp-contract=off), and floats of 32 bits by IEEE 754
    whose bytes stand as those of a uint32_t. */
 #include "plain.h"
@@ -16,7 +17,7 @@
 #include <string.h>
 
 enum { AXES = 3, CORNERS = 8, EDGES = 12, FACES = 6, MOST_LOOPS = 4, CEILING = 65535, MARK = 4096 };
-enum { SHORTEST_AXIS = 2, LONGEST_AXIS = 256, WORDS = 2, SIDES = 4, ANSWER = 3, CLOSED_ANSWER = 4 };
+enum { SHORTEST_AXIS = 2, LONGEST_AXIS = 256, WORDS = 2, SIDES = 4, ANSWER = 3, CLOSED_ANSWER = 4, JUDGE_ANSWER = 4 };
 enum { MOST_THRESHOLDS = 16, STATE = 8, WORK_PLANES = 6, KEPT_PLANES = 2 };
 enum { FRACTION_BITS = 23, EXPONENT_BITS = 8, NO_EXPONENT = 255, BIAS = 127 };
 enum { MOST_VERTICES = 66325500, WIDEST_SPACING = 1000, MOST_HEAD = 256, DOUBLE_BYTES = 8, INT_BYTES = 4 };
@@ -726,9 +727,10 @@ static uint32_t longest_search(uint32_t n, const uint32_t *quads, size_t quads_l
 
 /* ---- the PLY file ---- */
 
-/* A mesh that is to be drawn, with the axes of its block and the spacing along each. */
+/* A mesh that is to be drawn, with the axes of its block and the spacing along each; or one that is to be judged, with
+   its block. */
 struct drawing {
-    struct block block; /* its samples, threshold and noise figure are not used */
+    struct block block; /* its samples, threshold and noise figure are not used to draw */
     const uint32_t *words, *quads;
     const double *offsets;
     size_t words_len, offsets_len, quads_len;
@@ -762,13 +764,20 @@ static struct refusal check_cubes(const struct drawing *drawing)
     return accepted;
 }
 
-/* What is no number is not at least 0. */
-static struct refusal check_offsets(const struct drawing *drawing)
+/* The first vertex with an offset that is not from 0 to 1, or the number of vertices where there is none. What is no
+   number is not at least 0. */
+static size_t first_bad_offset(const struct drawing *drawing)
 {
     for (size_t at = 0; at < drawing->offsets_len; at++)
         if (!(drawing->offsets[at] >= 0.0 && drawing->offsets[at] <= 1.0))
-            return refuse(24, (uint32_t)(at / AXES));
-    return accepted;
+            return at / AXES;
+    return drawn_vertices(drawing);
+}
+
+static struct refusal check_offsets(const struct drawing *drawing)
+{
+    size_t bad = first_bad_offset(drawing);
+    return bad < drawn_vertices(drawing) ? refuse(24, (uint32_t)bad) : accepted;
 }
 
 static struct refusal check_list(const struct drawing *drawing)
@@ -864,6 +873,168 @@ static void draw(const struct drawing *drawing, uint8_t *file)
             to = put_bytes(to, SIDES, 1);
         to = put_bytes(to, drawing->quads[at], INT_BYTES);
     }
+}
+
+/* ---- judging a foreign mesh ---- */
+
+/* A vertex or a quad as four numbers, and where it stands in its list. A vertex has its cube, its word and two
+   zeros. */
+struct entry {
+    uint32_t number[SIDES];
+    size_t at;
+};
+
+static int by_four(const uint32_t a[SIDES], const uint32_t b[SIDES])
+{
+    for (unsigned i = 0; i < SIDES; i++)
+        if (a[i] != b[i])
+            return by_number(a[i], b[i]);
+    return 0;
+}
+
+/* Equal ones as they stand in their list. */
+static int by_entry(const void *a, const void *b)
+{
+    const struct entry *x = a, *y = b;
+    int by_numbers = by_four(x->number, y->number);
+    return by_numbers != 0 ? by_numbers : by_number(x->at, y->at);
+}
+
+static void sort_entries(struct entry *entries, size_t count)
+{
+    qsort(entries, count, sizeof *entries, by_entry);
+}
+
+/* All vertices of a list, sorted. The caller frees them. */
+static struct entry *sorted_vertices(const uint32_t *words, size_t count)
+{
+    struct entry *entries = room_for(count, sizeof *entries);
+    for (size_t at = 0; at < count; at++) {
+        struct entry entry = {{words[WORDS * at], words[WORDS * at + 1], 0, 0}, at};
+        entries[at] = entry;
+    }
+    sort_entries(entries, count);
+    return entries;
+}
+
+/* All quads of a list, sorted. Where names is given, it has another number for each vertex. Of the four ways to begin a
+   quad the one with the least numbers is taken, so that quads are equal if one is the other begun elsewhere. The caller
+   frees them. */
+static struct entry *sorted_quads(const uint32_t *quads, size_t count, const uint32_t *names)
+{
+    struct entry *entries = room_for(count, sizeof *entries);
+    for (size_t at = 0; at < count; at++)
+        for (size_t begin = 0; begin < SIDES; begin++) {
+            struct entry entry = {{0}, at};
+            for (size_t side = 0; side < SIDES; side++) {
+                uint32_t vertex = quads[SIDES * at + (begin + side) % SIDES];
+                entry.number[side] = names ? names[vertex] : vertex;
+            }
+            if (begin == 0 || by_four(entry.number, entries[at].number) < 0)
+                entries[at] = entry;
+        }
+    sort_entries(entries, count);
+    return entries;
+}
+
+/* Where the first entry of theirs stands that is none of ours or equal to an earlier one; count where there is none.
+   Where names is given, it gets for each of theirs that is ours where that one stands. */
+static size_t first_stray(const struct entry *theirs, size_t count, const struct entry *ours, size_t our_count,
+                          uint32_t *names)
+{
+    size_t stray = count, other = 0;
+    for (size_t i = 0; i < count; i++) {
+        int is_again = i > 0 && by_four(theirs[i - 1].number, theirs[i].number) == 0, is_ours;
+        while (other < our_count && by_four(ours[other].number, theirs[i].number) < 0)
+            other++;
+        is_ours = other < our_count && by_four(ours[other].number, theirs[i].number) == 0;
+        if (is_ours && names)
+            names[theirs[i].at] = (uint32_t)ours[other].at;
+        if ((is_again || !is_ours) && theirs[i].at < stray)
+            stray = theirs[i].at;
+    }
+    return stray;
+}
+
+/* Our own mesh of a block. */
+struct own {
+    uint32_t vertex_count, quad_count, *words, *quads;
+};
+
+/* The caller frees what it holds. */
+static struct own own_mesh(const struct block *block)
+{
+    uint32_t *first = room_for(cubes(block) + 1, sizeof *first);
+    struct own own;
+    double *offsets;
+    own.vertex_count = number_vertices(block, first);
+    own.quad_count = number_quads(block, NULL, NULL, NULL);
+    own.words = room_for(WORDS * (size_t)own.vertex_count, sizeof *own.words);
+    own.quads = room_for(SIDES * (size_t)own.quad_count, sizeof *own.quads);
+    offsets = room_for(AXES * (size_t)own.vertex_count, sizeof *offsets);
+    write_vertices(block, own.words, offsets);
+    number_quads(block, first, own.words, own.quads);
+    free(offsets);
+    free(first);
+    return own;
+}
+
+/* What is refused of a foreign mesh is refused of one that is to be drawn, but its cubes and offsets are faults. */
+static struct refusal check_foreign(const struct drawing *foreign)
+{
+    struct refusal refusal = check_lengths(foreign);
+    if (!refusal.number)
+        refusal = check_list(foreign);
+    return refusal.number ? refusal : check_quads(foreign);
+}
+
+/* The first vertex at fault, or how many there are. Each vertex gets its number in our mesh. */
+static size_t first_vertex_at_fault(const struct drawing *foreign, const struct own *own, uint32_t *names)
+{
+    size_t count = drawn_vertices(foreign), stray, bad_offset = first_bad_offset(foreign);
+    struct entry *theirs = sorted_vertices(foreign->words, count);
+    struct entry *ours = sorted_vertices(own->words, own->vertex_count);
+    stray = first_stray(theirs, count, ours, own->vertex_count, names);
+    free(theirs);
+    free(ours);
+    return bad_offset < stray ? bad_offset : stray;
+}
+
+/* The first quad at fault, or how many there are. No vertex is at fault, so each has a name. */
+static size_t first_quad_at_fault(const struct drawing *foreign, const struct own *own, const uint32_t *names)
+{
+    size_t count = drawn_quads(foreign), stray;
+    struct entry *theirs = sorted_quads(foreign->quads, count, names);
+    struct entry *ours = sorted_quads(own->quads, own->quad_count, NULL);
+    stray = first_stray(theirs, count, ours, own->quad_count, NULL);
+    free(theirs);
+    free(ours);
+    return stray;
+}
+
+/* The three items that stand behind the first of the answer. */
+static void find_fault(const struct drawing *foreign, uint32_t found[3])
+{
+    struct own own = own_mesh(&foreign->block);
+    size_t vertices = drawn_vertices(foreign), quads = drawn_quads(foreign), vertex, quad;
+    uint32_t *names = room_for(vertices, sizeof *names);
+    found[0] = found[1] = found[2] = 0;
+    vertex = first_vertex_at_fault(foreign, &own, names);
+    quad = vertex < vertices ? quads : first_quad_at_fault(foreign, &own, names);
+    if (vertex < vertices) {
+        found[1] = 1;
+        found[2] = cut_to_u32(vertex);
+    } else if (quad < quads) {
+        found[1] = 2;
+        found[2] = cut_to_u32(quad);
+    } else if (vertices != own.vertex_count || quads != own.quad_count) {
+        found[1] = 3;
+    } else {
+        found[0] = 1;
+    }
+    free(names);
+    free(own.words);
+    free(own.quads);
 }
 
 /* ---- planes ---- */
@@ -1399,4 +1570,27 @@ void plain_ply(uint32_t nx, uint32_t ny, uint32_t nz, const uint32_t *words, siz
     if (length_len > 0)
         length[0] = refusal.number ? 0 : file_bytes(&drawing);
     say_refused(answer, answer_len, refusal);
+}
+
+void plain_judge(uint32_t nx, uint32_t ny, uint32_t nz, const uint16_t *samples, size_t samples_len, uint16_t t,
+                 uint32_t noise, const uint32_t *words, size_t words_len, const double *offsets, size_t offsets_len,
+                 const uint32_t *quads, size_t quads_len, uint32_t *answer, size_t answer_len)
+{
+    struct drawing foreign = {block_of(nx, ny, nz, samples, t, noise),
+                              words,
+                              quads,
+                              offsets,
+                              words_len,
+                              offsets_len,
+                              quads_len,
+                              {0.0, 0.0, 0.0}};
+    struct refusal refusal = check_block(nx, ny, nz, samples_len, t);
+    uint32_t items[JUDGE_ANSWER] = {0};
+    if (!refusal.number)
+        refusal = check_foreign(&foreign);
+    items[0] = refusal.number;
+    items[1] = refusal.value;
+    if (!refusal.number)
+        find_fault(&foreign, items + 1);
+    put_words(answer, answer_len, items, JUDGE_ANSWER);
 }

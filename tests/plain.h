@@ -2,8 +2,9 @@
    signature of the library's function of that name in include/parsniprow.h and can stand in for it.
    Assumes that no pointer is null and that every length counts items.
 
-   An answer is three words, of the closed question four: number of refusal, value, 0 on refusal; otherwise 0 and what
-   the function says below. Answer places are always written, as far as they reach, and what lies behind is kept. */
+   An answer is three words, of the closed question and of a judged mesh four: number of refusal, value, 0 on refusal;
+   otherwise 0 and what the function says below. Answer places are always written, as far as they reach, and what lies
+   behind is kept. */
 #ifndef PARSNIPROW_PLAIN_H
 #define PARSNIPROW_PLAIN_H
 
@@ -123,6 +124,15 @@ void plain_ceilings(const uint16_t *samples, size_t samples_len, uint32_t *answe
 void plain_ply(uint32_t nx, uint32_t ny, uint32_t nz, const uint32_t *words, size_t words_len, const double *offsets,
                size_t offsets_len, const uint32_t *quads, size_t quads_len, double x, double y, double z, uint8_t *file,
                size_t file_len, uint64_t *length, size_t length_len, uint32_t *answer, size_t answer_len);
+
+/* Whether a foreign mesh is that of a block. Answer: 0, 1, 0, 0 where it is; 0, 0, 1, vertex of the first vertex at
+   fault; else 0, 0, 2, quad of the first quad at fault; else 0, 0, 3, 0 where some of our vertices or quads are
+   missing; or refusal, its value, 0, 0. A vertex is at fault if no vertex of ours has its cube and word, an earlier one
+   has both or one of its offsets is not from 0 to 1; a quad, if it is none of ours, wherever it is begun, or an earlier
+   one again. Refusals 1, 2, 3, 22, 7, 14, tried in this order. */
+void plain_judge(uint32_t nx, uint32_t ny, uint32_t nz, const uint16_t *samples, size_t samples_len, uint16_t t,
+                 uint32_t noise, const uint32_t *words, size_t words_len, const double *offsets, size_t offsets_len,
+                 const uint32_t *quads, size_t quads_len, uint32_t *answer, size_t answer_len);
 
 /* The edges of a face as a mask, worked out from the corners. Faces x=0, x=1, y=0, y=1, z=0, z=1 are 0 to 5. */
 uint32_t plain_face(unsigned face);

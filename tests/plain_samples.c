@@ -3,12 +3,13 @@
    at the ceiling, which are metal and leave a mark; on rows of thresholds for the example block; on that block plane by
    plane; on readings and small blocks of them that were worked out by hand; on blocks whose crossed edges were worked
    out by hand or come from a formula; on two samples that are joined across a face, whose mesh is closed; on the work
-   of the closed question; on the pieces of small lists that were worked out by hand and of the example's mesh; and on
-   files of that mesh and of the empty one.
+   of the closed question; on the pieces of small lists that were worked out by hand and of the example's mesh; on files
+   of that mesh and of the empty one; and on small foreign meshes that were judged by hand.
    Prints each sample and its verdict; exits with 1 if one differs.
    Assumes nothing of the library. */
 #include "bench_cubes.h"
 #include "hand_blocks.h"
+#include "hand_judge.h"
 #include "hand_lists.h"
 #include "hand_readings.h"
 #include "plain.h"
@@ -16,7 +17,7 @@
 #include <stdio.h>
 #include <string.h>
 
-enum { ANSWER = 3, CLOSED_ANSWER = 4, CEILING = 65535 };
+enum { ANSWER = 3, CLOSED_ANSWER = 4, JUDGE_ANSWER = 4, CEILING = 65535 };
 /* the example block has 8 vertices, and one more where its last sample is at the ceiling */
 enum { EXAMPLE_SAMPLES = 27, EXAMPLE_VERTICES = 8, MOST_VERTICES = 9, EXAMPLE_QUADS = 6 };
 
@@ -943,6 +944,42 @@ static void files(void)
             file_says(answer, 0, 0, length, EMPTY_FILE) && memcmp(file, empty_file, EMPTY_FILE) == 0);
 }
 
+/* ---- foreign meshes ---- */
+
+static void foreign_meshes(void)
+{
+    for (size_t i = 0; i < HAND_JUDGED; i++) {
+        const struct hand_judged *judged = &hand_judged[i];
+        uint16_t samples[MOST_JUDGED_SAMPLES];
+        double offsets[3 * MOST_JUDGED_VERTICES];
+        uint32_t answer[JUDGE_ANSWER + 1] = {9, 9, 9, 9, 9};
+        fill_judged_samples(judged, samples);
+        fill_judged_offsets(judged, offsets);
+        plain_judge(judged->length[0], judged->length[1], judged->length[2], samples, judged->samples_len, judged->t,
+                    judged->noise, judged->words, judged->words_len, offsets, judged->offsets_len, judged->quads,
+                    judged->quads_len, answer, JUDGE_ANSWER);
+        verdict(judged->name, memcmp(answer, judged->answer, sizeof judged->answer) == 0 && answer[JUDGE_ANSWER] == 9);
+    }
+}
+
+/* What the mesher writes for the example passes, with and without a ceiling, and an answer place may be short. */
+static void own_meshes(void)
+{
+    uint16_t samples[EXAMPLE_SAMPLES];
+    uint32_t words[2 * MOST_VERTICES], quads[4 * EXAMPLE_QUADS], made[ANSWER], answer[JUDGE_ANSWER] = {9, 9, 9, 9};
+    double offsets[3 * MOST_VERTICES];
+    example_block(samples);
+    for (unsigned is_marked = 0; is_marked < 2; is_marked++) {
+        samples[EXAMPLE_SAMPLES - 1] = is_marked ? CEILING : 0;
+        plain_mesh(3, 3, 3, samples, EXAMPLE_SAMPLES, 100, 0, words, 2 * MOST_VERTICES, offsets, 3 * MOST_VERTICES,
+                   quads, 4 * EXAMPLE_QUADS, made, ANSWER);
+        plain_judge(3, 3, 3, samples, EXAMPLE_SAMPLES, 100, 0, words, 2 * made[1], offsets, 3 * made[1], quads,
+                    4 * made[2], answer, 2);
+        verdict(is_marked ? "the mesh of the example with a mark: same" : "the mesh of the example: same",
+                answer[0] == 0 && answer[1] == 1 && answer[2] == 9 && answer[3] == 9);
+    }
+}
+
 /* ---- faces ---- */
 
 static void faces(void)
@@ -989,6 +1026,8 @@ int main(void)
     pore_of_two("two samples of metal, noise 30000: closed", 300, 0, 30000, 1);
     pore_of_two("a pore of two that noise joins: closed", 90, 200, 9901, 2);
     files();
+    foreign_meshes();
+    own_meshes();
     example();
     printf("plain_samples: %u differences\n", failures);
     return failures ? 1 : 0;

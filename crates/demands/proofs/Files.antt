@@ -138,7 +138,7 @@ module _ (nx ny nz : ℕ) (s : List ℕ) (cut : Cut) (grey : SixteenBit s) (lim 
       let l : v < count = omega (arith, h, half) in
       lt-ltb (getD words (2 * v) 0) (cubeCount n) (rw (words-at loopsOf n s cut v l .0) (vertex-is-loop loopsOf n s cut v l .0))
 
-  offsets-pass : HoldsTo (offsetInside offsets) (length offsets / 3)
+  pub offsets-pass : HoldsTo (offsetInside offsets) (length offsets / 3)
   offsets-pass v h =
       let at : (k : ℕ) → k < length offsets → fromZeroToOne (getD offsets k nan) ≡ true = λ k l. unit-passes _ (offsets-in-unit n s cut grey k l) in
       rw (at (3 * v) (omega (arith, h)), at (3 * v + 1) (omega (arith, h)), at (3 * v + 2) (omega (arith, h)))

@@ -32,7 +32,10 @@ use Rattle.thresholds.specs.Answer.{saidRow, RowAnswered}
 use Rattle.reading.proofs.Verdicts.{run-numbers}
 use Rattle.demands.specs.Marks.{NotFour, FourNever}
 use Rattle.demands.proofs.Allowed.{counts-allows}
+use Rattle.foundry.specs.declared.Judgement.{Judgement}
+use Rattle.foundry.specs.Answer.{saidJudgement, MeshJudged}
 use Rattle.demands.proofs.Files.{PlyNumber, ply-numbers}
+use Rattle.demands.proofs.Foundry.{JudgeNumber, judge-numbers}
 use Rattle.demands.proofs.Numbers.{size-numbers, edge-numbers, cube-numbers, counts-numbers, mesh-numbers, closed-numbers, closed-with-numbers}
 use Rattle.demands.proofs.Pieces.{PiecesNumber, pieces-numbers}
 use Rattle.demands.proofs.Places.{four-untold}
@@ -148,6 +151,16 @@ readings-counts-other nx ny nz xs cut r m x e = of-faults (x .number) (readings-
 readings-mesh-other : (nx ny nz : ℕ) (xs : List Float) (cut : Cut) (w : List ℕ) (o : List Float) (q : List ℕ) (r : Counted) (w′ : List ℕ) (o′ : List Float) (q′ : List ℕ) → ReadingsMeshed nx ny nz xs cut w o q r w′ o′ q′ → NotFour (saidCounts r)
 readings-mesh-other nx ny nz xs cut w o q r w′ o′ q′ m x e = of-readings (x .number) (readings-mesh-numbers nx ny nz xs cut (length w) (length o) (length q) x (refused-exactly _ _ _ (m .answer) x .0 e))
 
+of-judge : (n : ℕ) → JudgeNumber n → n ≡ 4 → ⊥
+of-judge n (inl h) e = omega (arith, h .1, e)
+of-judge n (inr (inl h)) e = omega (arith, h, e)
+of-judge n (inr (inr (inl h))) e = omega (arith, h, e)
+of-judge n (inr (inr (inr h))) e = omega (arith, h, e)
+
+judge-other : (nx ny nz : ℕ) (s : List ℕ) (cut : Cut) (words : List ℕ) (offsets : List Float) (quads : List ℕ) (r : Judgement)
+    → MeshJudged nx ny nz s cut words offsets quads r → NotFour (saidJudgement r)
+judge-other nx ny nz s cut words offsets quads r m x e = of-judge (x .number) (judge-numbers nx ny nz s cut words offsets quads x (refused-exactly _ _ _ m x .0 e))
+
 pub four-never : FourNever
 four-never = record {
   size = λ nx ny nz r m x e f. omega (arith, f, size-numbers nx ny nz x (refused-exactly _ _ _ m x .0 e));
@@ -165,6 +178,7 @@ four-never = record {
   finish = finish-other;
   closed = λ quads r m x e f. omega (arith, f, closed-numbers quads x (refused-exactly _ _ _ m x .0 e));
   closed-with = closed-with-other;
+  judge = judge-other;
   pieces = pieces-other;
   ply = ply-other;
   run = λ bytes out r out′ m v h p. of-run 4 (run-numbers bytes _ (run-refuses bytes out r out′ m (record { number = 4; value = v }) (omega arith) h .0 p)) refl;
@@ -186,6 +200,7 @@ four-never = record {
   end-told = λ state place place′ m. four-untold 3 _ (saidCounts (m .answer)) place place′ (m .is-told) (finish-other (stateOf state) (m .answer) (m .answered));
   closed-told = λ quads place place′ m. four-untold 4 _ (saidClosure (m .answer)) place place′ (m .is-told) (λ x e f. omega (arith, f, closed-numbers quads x (refused-exactly _ _ _ (m .answered) x .0 e)));
   closed-with-told = λ quads work place work′ place′ m. four-untold 4 _ (saidClosure (m .answer)) place place′ (m .is-told) (closed-with-other quads work (m .answer) work′ (m .answered));
+  judge-told = λ nx ny nz s t noise words offsets quads place place′ m. four-untold 4 _ (saidJudgement (m .answer)) place place′ (m .is-told) (judge-other nx ny nz s (cutOf t noise) words offsets quads (m .answer) (m .answered));
   pieces-told = λ n quads piece size place piece′ size′ place′ m. four-untold 3 _ (saidPieces (m .answer)) place place′ (m .is-told) (pieces-other n quads piece size (m .answer) piece′ size′ (m .answered));
   ply-told = λ nx ny nz words offsets quads s file bytes place file′ bytes′ place′ m. four-untold 3 _ (saidFile (m .answer)) place place′ (m .is-told) (ply-other nx ny nz words offsets quads s file (m .answer) file′ (m .written));
 }

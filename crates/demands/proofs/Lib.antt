@@ -9,6 +9,7 @@ pub mod TextMarks
 pub mod Places
 pub mod Lists
 pub mod Files
+pub mod Foundry
 pub mod Pieces
 pub mod Told
 pub mod Room

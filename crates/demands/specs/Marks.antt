@@ -23,6 +23,8 @@ use Rattle.mesh.specs.Answer.{saidCounts, CountsAnswered, Meshed}
 use Rattle.closed.specs.declared.Closure.{Closure}
 use Rattle.closed.specs.Closed.{saidClosure, ClosedAnswered}
 use Rattle.closed.specs.Chains.{ClosedWith}
+use Rattle.foundry.specs.declared.Judgement.{Judgement}
+use Rattle.foundry.specs.Answer.{saidJudgement, MeshJudged}
 use Rattle.pieces.specs.declared.Pieced.{Pieced}
 use Rattle.pieces.specs.Answer.{saidPieces, PiecesFound}
 use Rattle.ply.specs.declared.Spacing.{Spacing}
@@ -40,7 +42,7 @@ use Rattle.thresholds.specs.Answer.{saidRow, RowAnswered}
 use Rattle.lines.specs.Output.{refusalLine, Prints, Ran}
 use Rattle.readings.specs.Reading.{readingOf, saidReading}
 use Rattle.readings_mesh.specs.Answer.{ReadingsCounted, ReadingsMeshed}
-use Rattle.parsniprow_c.specs.Told.{CeilingsTold, ReadingTold, ReadingsCountsTold, ReadingsMeshTold, EdgeTold, CubeTold, CrossedTold, CountsTold, RowTold, MeshTold, StartTold, PlaneTold, EndTold, ClosedTold, ClosedWithTold, PiecesTold, PlyTold}
+use Rattle.parsniprow_c.specs.Told.{CeilingsTold, ReadingTold, ReadingsCountsTold, ReadingsMeshTold, EdgeTold, CubeTold, CrossedTold, CountsTold, RowTold, MeshTold, StartTold, PlaneTold, EndTold, ClosedTold, ClosedWithTold, JudgeTold, PiecesTold, PlyTold}
 use Rattle.demands.specs.Answers.{MeshCall}
 
 -- the mark of a vertex is bit 12 of its word
@@ -95,6 +97,8 @@ pub record FourNever : Type 0 where
   pub finish : (st : Stream) (r : Counted) → FinishAnswered st r → NotFour (saidCounts r)
   pub closed : (quads : List ℕ) (r : Closure) → ClosedAnswered quads r → NotFour (saidClosure r)
   pub closed-with : (quads work : List ℕ) (r : Closure) (work′ : List ℕ) → ClosedWith quads work r work′ → NotFour (saidClosure r)
+  pub judge : (nx ny nz : ℕ) (s : List ℕ) (cut : Cut) (words : List ℕ) (offsets : List Float) (quads : List ℕ) (r : Judgement)
+      → MeshJudged nx ny nz s cut words offsets quads r → NotFour (saidJudgement r)
   pub pieces : (n : ℕ) (quads piece size : List ℕ) (r : Pieced) (piece′ size′ : List ℕ) → PiecesFound n quads piece size r piece′ size′ → NotFour (saidPieces r)
   pub ply : (nx ny nz : ℕ) (words : List ℕ) (offsets : List Float) (quads : List ℕ) (s : Spacing) (file : List ℕ) (r : Filed) (file′ : List ℕ)
       → PlyWritten nx ny nz words offsets quads s file r file′ → NotFour (saidFile r)
@@ -119,6 +123,8 @@ pub record FourNever : Type 0 where
   pub end-told : (state place place′ : List ℕ) → EndTold state place place′ → getD place′ 0 0 ≡ 4 → ⊥
   pub closed-told : (quads place place′ : List ℕ) → ClosedTold quads place place′ → getD place′ 0 0 ≡ 4 → ⊥
   pub closed-with-told : (quads work place work′ place′ : List ℕ) → ClosedWithTold quads work place work′ place′ → getD place′ 0 0 ≡ 4 → ⊥
+  pub judge-told : (nx ny nz : ℕ) (s : List ℕ) (t noise : ℕ) (words : List ℕ) (offsets : List Float) (quads place place′ : List ℕ)
+      → JudgeTold nx ny nz s t noise words offsets quads place place′ → getD place′ 0 0 ≡ 4 → ⊥
   pub pieces-told : (n : ℕ) (quads piece size place piece′ size′ place′ : List ℕ) → PiecesTold n quads piece size place piece′ size′ place′ → getD place′ 0 0 ≡ 4 → ⊥
   pub ply-told : (nx ny nz : ℕ) (words : List ℕ) (offsets : List Float) (quads : List ℕ) (s : Spacing) (file bytes place file′ bytes′ place′ : List ℕ)
       → PlyTold nx ny nz words offsets quads s file bytes place file′ bytes′ place′ → getD place′ 0 0 ≡ 4 → ⊥

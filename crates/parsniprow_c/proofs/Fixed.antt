@@ -33,6 +33,9 @@ use Rattle.readings.specs.Reading.{readingOf, saidReading}
 use Rattle.readings_mesh.proofs.Fixed.{readings-counts-fixed, readings-mesh-fixed}
 use Rattle.room.specs.declared.Edged.{Edged}
 use Rattle.room.specs.Answer.{saidCrossed}
+use Rattle.foundry.specs.declared.Judgement.{Judgement}
+use Rattle.foundry.specs.Answer.{saidJudgement}
+use Rattle.foundry.proofs.Fixed.{judge-fixed}
 use Rattle.room.proofs.Fixed.{crossed-fixed}
 use Rattle.by_planes.specs.declared.Started.{Started}
 use Rattle.by_planes.specs.declared.Taken.{Taken}
@@ -42,8 +45,8 @@ use Rattle.by_planes.proofs.Fixed.{start-fixed, finish-fixed, plane-fixed}
 use Rattle.thresholds.specs.declared.RowAnswer.{RowAnswer}
 use Rattle.thresholds.specs.Answer.{saidRow}
 use Rattle.thresholds.proofs.Fixed.{row-fixed}
-use Rattle.parsniprow_c.specs.Told.{tellOver, CeilingsTold, ReadingTold, EdgeTold, CubeTold, CrossedTold, CountsTold, RowTold, MeshTold, ReadingsCountsTold, ReadingsMeshTold, stateAfter, growthAfter, StartTold, PlaneTold, EndTold, ClosedTold, ClosedWithTold, PiecesTold, PlyTold}
-use Rattle.told.specs.Numbers.{toldCeilings, toldEdge, toldFraction, toldNumber, toldClosed, toldPieces, toldLength, toldNothing, toldGrowth, stateOf}
+use Rattle.parsniprow_c.specs.Told.{tellOver, CeilingsTold, ReadingTold, EdgeTold, CubeTold, CrossedTold, CountsTold, RowTold, MeshTold, ReadingsCountsTold, ReadingsMeshTold, stateAfter, growthAfter, StartTold, PlaneTold, EndTold, ClosedTold, ClosedWithTold, JudgeTold, PiecesTold, PlyTold}
+use Rattle.told.specs.Numbers.{toldCeilings, toldEdge, toldFraction, toldNumber, toldClosed, toldJudgement, toldPieces, toldLength, toldNothing, toldGrowth, stateOf}
 
 pub ceilings-told-fixed : (samples place : List ℕ) → Fixes (CeilingsTold samples place)
 ceilings-told-fixed samples place = equation-fixes (tellOver (toldCeilings (accepted (ceilingsIn samples))) place)
@@ -121,6 +124,13 @@ pub closed-told-fixed : (quads place : List ℕ) → Fixes (ClosedTold quads pla
 closed-told-fixed quads place a b p q =
     p .is-told
     ∙ ap (λ (x : Closure). tellOver (toldClosed (saidClosure x)) place) (closed-fixed quads (p .answer) (q .answer) (p .answered) (q .answered))
+    ∙ sym (q .is-told)
+
+pub judge-told-fixed : (nx ny nz : ℕ) (s : List ℕ) (t noise : ℕ) (words : List ℕ) (offsets : List Float) (quads place : List ℕ)
+    → Fixes (JudgeTold nx ny nz s t noise words offsets quads place)
+judge-told-fixed nx ny nz s t noise words offsets quads place a b p q =
+    p .is-told
+    ∙ ap (λ (x : Judgement). tellOver (toldJudgement (saidJudgement x)) place) (judge-fixed nx ny nz s (cutOf t noise) words offsets quads (p .answer) (q .answer) (p .answered) (q .answered))
     ∙ sym (q .is-told)
 
 -- the lent memory and the answer

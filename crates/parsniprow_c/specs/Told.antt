@@ -18,6 +18,8 @@ use Rattle.mesh.specs.Answer.{saidCounts, CountsAnswered, toldCounts, Meshed}
 use Rattle.closed.specs.declared.Closure.{Closure}
 use Rattle.closed.specs.Closed.{saidClosure, ClosedAnswered}
 use Rattle.closed.specs.Chains.{ClosedWith}
+use Rattle.foundry.specs.declared.Judgement.{Judgement}
+use Rattle.foundry.specs.Answer.{saidJudgement, MeshJudged}
 use Rattle.pieces.specs.declared.Pieced.{Pieced}
 use Rattle.pieces.specs.Answer.{saidPieces, PiecesFound}
 use Rattle.ply.specs.declared.Spacing.{Spacing}
@@ -35,7 +37,7 @@ use Rattle.by_planes.specs.Answer.{saidStart, saidTaken, StartAnswered, FinishA
 use Rattle.by_planes.specs.Left.{PlaneTaken}
 use Rattle.thresholds.specs.declared.RowAnswer.{RowAnswer}
 use Rattle.thresholds.specs.Answer.{saidRow, RowAnswered}
-use Rattle.told.specs.Numbers.{toldCeilings, toldEdge, toldFraction, toldNumber, toldClosed, toldPieces, toldLength, toldNothing, toldGrowth, stateNumbers, stateOf}
+use Rattle.told.specs.Numbers.{toldCeilings, toldEdge, toldFraction, toldNumber, toldClosed, toldJudgement, toldPieces, toldLength, toldNothing, toldGrowth, stateNumbers, stateOf}
 
 -- as many of these values as a place has room for; what is behind is kept
 abbrev pub tellOver : {A : Type 0} → List A → List A → List A
@@ -132,6 +134,11 @@ pub record ClosedWithTold (quads work place work′ place′ : List ℕ) : Type 
   pub answer : Closure
   pub answered : ClosedWith quads work answer work′
   pub is-told : place′ ≡ tellOver (toldClosed (saidClosure answer)) place
+
+pub record JudgeTold (nx ny nz : ℕ) (s : List ℕ) (t noise : ℕ) (words : List ℕ) (offsets : List Float) (quads place place′ : List ℕ) : Type 0 where
+  pub answer : Judgement
+  pub answered : MeshJudged nx ny nz s (cutOf t noise) words offsets quads answer
+  pub is-told : place′ ≡ tellOver (toldJudgement (saidJudgement answer)) place
 
 -- the two buffers are those of `pieces`
 pub record PiecesTold (n : ℕ) (quads piece size place piece′ size′ place′ : List ℕ) : Type 0 where

@@ -7,7 +7,7 @@ use ply::Spacing;
 ghost use mathlib.Core.Path.{_≡_};
 ghost use mathlib.Core.List.{[], _∷_};
 ghost use Rattle.by_planes.specs.Answer.{saidStart, saidTaken};
-ghost use Rattle.parsniprow_c.specs.Told.{tellOver, CeilingsTold, ReadingTold, EdgeTold, CubeTold, CrossedTold, CountsTold, RowTold, MeshTold, ReadingsCountsTold, ReadingsMeshTold, StartTold, PlaneTold, EndTold, stateAfter, growthAfter, ClosedTold, ClosedWithTold, PiecesTold, PlyTold};
+ghost use Rattle.parsniprow_c.specs.Told.{tellOver, CeilingsTold, ReadingTold, EdgeTold, CubeTold, CrossedTold, CountsTold, RowTold, MeshTold, ReadingsCountsTold, ReadingsMeshTold, StartTold, PlaneTold, EndTold, stateAfter, growthAfter, ClosedTold, ClosedWithTold, JudgeTold, PiecesTold, PlyTold};
 
 // How many samples are at the detector's ceiling, and the lowest index of one.
 #[no_mangle]
@@ -276,6 +276,36 @@ pub extern "C" fn parsniprow_closed_with(quads: &[u32], work: &mut [u64], answer
 {
     let closure = closed_with::closed_with(quads, work);
     let told = told::tell_closed(closure);
+    put(answer, &told);
+}
+
+// Whether a mesh that another mesher made is that of a block.
+#[no_mangle]
+pub extern "C" fn parsniprow_judge(
+    nx: u32,
+    ny: u32,
+    nz: u32,
+    samples: &[u16],
+    t: u16,
+    noise: u32,
+    words: &[u32],
+    offsets: &[f64],
+    quads: &[u32],
+    answer: &mut [u32],
+)
+    ensures { λ _. ⌜ JudgeTold nx ny nz (now (samples .entry)) t noise (now (words .entry)) (now (offsets .entry)) (now (quads .entry)) (now (answer .entry)) (now (answer .exit)) ⌝ }
+{
+    let judgement = foundry::judge(
+        nx,
+        ny,
+        nz,
+        samples,
+        Cut { t: t, noise: noise },
+        words,
+        offsets,
+        quads,
+    );
+    let told = told::tell_judgement(judgement);
     put(answer, &told);
 }
 

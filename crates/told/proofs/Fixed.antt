@@ -13,10 +13,11 @@ use Rattle.mesh_rule.specs.Buffers.{triples}
 use Rattle.mesh.specs.declared.Totals.{Totals}
 use Rattle.mesh.specs.Answer.{toldCounts}
 use Rattle.closed.specs.Closed.{Finding}
+use Rattle.foundry_rule.specs.Judged.{Comparison}
 use Rattle.pieces.specs.declared.Parts.{Parts}
 use Rattle.by_planes.specs.declared.Stream.{Stream}
 use Rattle.by_planes.specs.declared.Growth.{Growth}
-use Rattle.told.specs.Numbers.{toldCeilings, toldEdge, toldFraction, toldNumber, toldClosed, toldPieces, toldLength, toldNothing, toldGrowth, stateNumbers, stateOf}
+use Rattle.told.specs.Numbers.{toldCeilings, toldEdge, toldFraction, toldNumber, toldClosed, toldJudgement, toldPieces, toldLength, toldNothing, toldGrowth, stateNumbers, stateOf}
 
 pub tell-ceilings-fixed : (x : CeilingCount) → Fixes (λ (r : List ℕ). r ≡ toldCeilings (accepted x))
 tell-ceilings-fixed x = equation-fixes (toldCeilings (accepted x))
@@ -39,6 +40,9 @@ tell-counts-fixed x = equation-fixes (toldCounts x)
 
 pub tell-closed-fixed : (x : Answer Finding) → Fixes (λ (r : List ℕ). r ≡ toldClosed x)
 tell-closed-fixed x = equation-fixes (toldClosed x)
+
+pub tell-judgement-fixed : (x : Answer Comparison) → Fixes (λ (r : List ℕ). r ≡ toldJudgement x)
+tell-judgement-fixed x = equation-fixes (toldJudgement x)
 
 pub tell-pieces-fixed : (x : Answer Parts) → Fixes (λ (r : List ℕ). r ≡ toldPieces x)
 tell-pieces-fixed x = equation-fixes (toldPieces x)

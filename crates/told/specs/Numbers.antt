@@ -9,6 +9,7 @@ use Rattle.block.specs.Answer.{Answer, accepted, refused, given, told}
 use Rattle.block.specs.Grey.{cutOf}
 use Rattle.place.specs.Place.{plusZero}
 use Rattle.closed.specs.Closed.{Finding, allSound, openAt}
+use Rattle.foundry_rule.specs.Judged.{Comparison, same, vertexAtFault, quadAtFault, someMissing}
 use Rattle.pieces.specs.declared.Parts.{Parts}
 use Rattle.by_planes.specs.declared.Stream.{Stream}
 use Rattle.by_planes.specs.declared.Growth.{Growth}
@@ -37,6 +38,16 @@ findingNumbers (openAt q s) = 0 ∷ given q ∷ given s ∷ []
 
 abbrev pub toldClosed : Answer Finding → List ℕ
 toldClosed = told 4 findingNumbers
+
+-- 1 if the meshes are the same; else 0, and 1 and a vertex, 2 and a quad, or 3
+abbrev pub comparisonNumbers : Comparison → List ℕ
+comparisonNumbers same = 1 ∷ []
+comparisonNumbers (vertexAtFault v) = 0 ∷ 1 ∷ given v ∷ []
+comparisonNumbers (quadAtFault q) = 0 ∷ 2 ∷ given q ∷ []
+comparisonNumbers someMissing = 0 ∷ 3 ∷ []
+
+abbrev pub toldJudgement : Answer Comparison → List ℕ
+toldJudgement = told 4 comparisonNumbers
 
 -- pieces, and the links of the longest search
 abbrev pub toldPieces : Answer Parts → List ℕ

@@ -6,6 +6,7 @@ use by_planes::Stream;
 use by_planes::Taken;
 use cell::Found;
 use closed::Closure;
+use foundry::Judgement;
 use mesh::Counted;
 use pieces::Pieced;
 use place::Crossing;
@@ -24,11 +25,12 @@ ghost use Rattle.mesh_rule.specs.Buffers.{triples};
 ghost use Rattle.mesh.specs.Answer.{saidCounts, toldCounts};
 ghost use Rattle.thresholds.specs.Answer.{saidRow};
 ghost use Rattle.closed.specs.Closed.{saidClosure};
+ghost use Rattle.foundry.specs.Answer.{saidJudgement};
 ghost use Rattle.pieces.specs.Answer.{saidPieces};
 ghost use Rattle.ply.specs.Answer.{saidFile};
 ghost use Rattle.readings.specs.Reading.{saidReading};
 ghost use Rattle.room.specs.Answer.{saidCrossed};
-ghost use Rattle.told.specs.Numbers.{toldCeilings, toldEdge, toldFraction, toldNumber, toldClosed, toldPieces, toldLength, toldNothing, toldGrowth, stateNumbers, stateOf};
+ghost use Rattle.told.specs.Numbers.{toldCeilings, toldEdge, toldFraction, toldNumber, toldClosed, toldJudgement, toldPieces, toldLength, toldNothing, toldGrowth, stateNumbers, stateOf};
 
 // How many samples are at the ceiling, and the lowest index of one.
 pub fn tell_ceilings(seen: CeilingCount) -> [u32; 3]
@@ -140,6 +142,19 @@ pub fn tell_closed(closure: Closure) -> [u32; 4]
         Closure::Closed => [0, 1, 0, 0],
         Closure::Open { quad, side } => [0, 0, block::short(quad), block::short(side)],
         Closure::Refused(r) => [r.number, r.value, 0, 0],
+    }
+}
+
+// 1 if a mesh is that of the block; else 0, and 1 with a vertex at fault, 2 with a quad at fault, or 3 where some are missing.
+pub fn tell_judgement(judgement: Judgement) -> [u32; 4]
+    ensures { λ r. ⌜ r ≡ toldJudgement (saidJudgement judgement) ⌝ }
+{
+    match judgement {
+        Judgement::Same => [0, 1, 0, 0],
+        Judgement::BadVertex(v) => [0, 0, 1, block::short(v)],
+        Judgement::BadQuad(q) => [0, 0, 2, block::short(q)],
+        Judgement::Missing => [0, 0, 3, 0],
+        Judgement::Refused(r) => [r.number, r.value, 0, 0],
     }
 }
 

@@ -28,7 +28,7 @@ fn in_shape(words: usize, offsets: usize) -> bool
 }
 
 // Row 22, by the lengths of both lists.
-fn check_shape(words: usize, offsets: usize) -> Checked
+pub fn check_shape(words: usize, offsets: usize) -> Checked
     ensures { λ r. ⌜ r ≡ shapeRow words offsets ⌝ }
 {
     if in_shape(words, offsets) {
@@ -41,7 +41,7 @@ fn check_shape(words: usize, offsets: usize) -> Checked
 }
 
 // How many cubes a block of this size has.
-fn cubes(size: Size) -> u32
+pub fn cubes(size: Size) -> u32
     requires { ⌜ Limits size ⌝ }
     ensures { λ r. ⌜ r ≡ cubeCount size ⌝ }
 {
@@ -82,7 +82,7 @@ fn in_unit(x: f64) -> bool
 }
 
 // Whether three numbers are.
-fn all_in_unit(x: f64, y: f64, z: f64) -> bool
+pub fn all_in_unit(x: f64, y: f64, z: f64) -> bool
     ensures { λ r. ⌜ r ≡ (fromZeroToOne x && fromZeroToOne y && fromZeroToOne z) ⌝ }
 {
     if !in_unit(x) {

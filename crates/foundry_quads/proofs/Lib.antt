@@ -1,0 +1,5 @@
+pub mod Parts
+pub mod Quads
+pub mod Runs
+pub mod Looks
+pub mod Fixed
