@@ -1,17 +1,17 @@
 -- The coordinates of a cube by its number lie in the box, its corners are samples of the block, and what is worked out on the way is small.
 -- Assumes nothing.
-use Prim.Native.Nat.{ℕ, _+_, _*_, _-_, _/_, _%_, _≤_, _<_}
-use mathlib.Core.Path.{_≡_, refl, ap, sym, _∙_}
-use mathlib.Core.List.{List, [], _∷_}
+use Prim.Native.Nat.{ℕ, _+_, _*_, _-_, _≤_, _<_}
+use mathlib.Core.Path.{_≡_}
+use mathlib.Core.List.{List}
 use native.Mathlib.Nat.{mul-le-mul}
 use native.Mathlib.Omega.{arith}
-use lib.ListN.{length, getD}
+use lib.ListN.{length}
 use Rattle.laws.proofs.Index.{index-box, index-lt}
 use Rattle.block.specs.declared.Size.{Size}
-use Rattle.block.specs.Numbering.{X, Y, Z, sampleIndex, sampleCount, cubeCount}
+use Rattle.block.specs.Numbering.{X, Y, Z, sampleIndex, cubeCount}
 use Rattle.block.specs.Size.{Limits}
 use Rattle.block.specs.Steps.{Sampled}
-use Rattle.mesh_rule.specs.Grid.{cornersAt, cornersOf}
+use Rattle.mesh_rule.specs.Grid.{cornersOf}
 use Rattle.mesh_rule.specs.Orientation.{coordinate}
 use Rattle.cube_spots.specs.Spots.{eightFrom}
 

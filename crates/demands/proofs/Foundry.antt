@@ -2,7 +2,7 @@
 -- names, and that what `mesh` wrote passes, in any order.
 use Prim.Native.Nat.{ℕ, _+_, _*_, _/_, _%_, _≤_, _<_}
 use mathlib.Core.Path.{_≡_, refl, ap, sym, subst, _∙_}
-use mathlib.Core.Bool.{true, _&&_}
+use mathlib.Core.Bool.{true}
 use mathlib.Core.Logic.{_↔_, _⊎_, inl, inr}
 use mathlib.Core.List.{List, [], _∷_, _++_}
 use native.Mathlib.Nat.{add-zero}
@@ -14,7 +14,7 @@ use Rattle.block.specs.declared.Cut.{Cut}
 use Rattle.block.specs.declared.Refusal.{Refusal}
 use Rattle.block.specs.declared.Size.{Size}
 use Rattle.block.specs.declared.Checked.the-variants.{Passes, Refuses}
-use Rattle.block.specs.Answer.{Answer, accepted, refused, inOrder, First, judged}
+use Rattle.block.specs.Answer.{accepted, refused, inOrder, First, judged}
 use Rattle.block.specs.Block.{blockRows}
 use Rattle.block.specs.Grey.{SixteenBit}
 use Rattle.block.specs.Rows.{axisRow, countRow, thresholdRow}
@@ -31,16 +31,16 @@ use Rattle.mesh.specs.Answer.{countsOf, bufferRows}
 use Rattle.mesh_rule.proofs.Counts.{most-vertices}
 use Rattle.mesh_rule.proofs.Offsets.{mesh-offsets-length}
 use Rattle.mesh_rule.proofs.Words.{mesh-words-length}
-use Rattle.vertex_lists.specs.Rows.{shaped, shapeRow, fromZeroToOne, offsetInside}
+use Rattle.vertex_lists.specs.Rows.{shaped, shapeRow, offsetInside}
 use Rattle.vertex_lists.proofs.Rows.{shape-passes}
-use Rattle.foundry_rule.specs.Distinct.{Distinct, QuadsBelow}
-use Rattle.foundry_rule.specs.Faults.{VertexFault, QuadFault, Missing, FirstAtFault, NoneAtFault, NoNames}
+use Rattle.foundry_rule.specs.Distinct.{QuadsBelow}
+use Rattle.foundry_rule.specs.Faults.{VertexFault, QuadFault, Missing, FirstAtFault, NoneAtFault}
 use Rattle.foundry_rule.specs.Judged.{vertexTotal, quadTotal, Comparison, same, vertexAtFault, quadAtFault, someMissing, compared}
 use Rattle.foundry_rule.specs.Matches.{Matches}
 use Rattle.foundry_rule.specs.Shuffled.{Shuffled}
 use Rattle.foundry_rule.proofs.Known.{total-of-mesh}
 use Rattle.foundry_rule.proofs.Exactly.{yes-exactly}
-use Rattle.foundry_rule.proofs.Names.{no-names}
+use Rattle.foundry_rule.proofs.Names.{NoNames, no-names}
 use Rattle.foundry_rule.proofs.OurQuads.{ours-distinct, ours-below}
 use Rattle.foundry_rule.proofs.Passes.{shuffled-below, ours-passes, itself-shuffled}
 use Rattle.foundry.specs.declared.Judgement.{Judgement}
@@ -202,9 +202,9 @@ module _ {nx ny nz : ℕ} {s : List ℕ} {cut : Cut} (a : MeshCall nx ny nz s cu
       go (u, h, e) =
           let there : u < a .counts .vertices = rw (words-front a, ← count-is) at h in
           let at : (k : ℕ) → k < 3 → getD offsets (3 * v + k) nan ≡ getD (meshOffsets loopsOf size s cut) (3 * u + k) nan = λ k few.
-              ap (λ (x : ℕ). getD offsets (3 * x + k) nan) (sym e) ∙ sent .offsets-kept u k there few ∙ offset-at a (3 * u + k) (omega (arith, there, few)) in
+          ap (λ (x : ℕ). getD offsets (3 * x + k) nan) (sym e) ∙ sent .offsets-kept u k there few ∙ offset-at a (3 * u + k) (omega (arith, there, few)) in
           let first : getD offsets (3 * v) nan ≡ getD (meshOffsets loopsOf size s cut) (3 * u) nan =
-              ap (λ (x : ℕ). getD offsets x nan) (sym (add-zero (3 * v))) ∙ at 0 (omega arith) ∙ ap (λ (x : ℕ). getD (meshOffsets loopsOf size s cut) x nan) (add-zero (3 * u)) in
+          ap (λ (x : ℕ). getD offsets x nan) (sym (add-zero (3 * v))) ∙ at 0 (omega arith) ∙ ap (λ (x : ℕ). getD (meshOffsets loopsOf size s cut) x nan) (add-zero (3 * u)) in
           rw (first, at 1 (omega arith), at 2 (omega arith))
           (offsets-pass nx ny nz s cut grey (limits a) u (omega (arith, there, vertices-are a, mesh-offsets-length size s cut)))
 

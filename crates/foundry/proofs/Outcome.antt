@@ -1,7 +1,7 @@
 -- What is found of a mesh, from where the code's two searches end and from the counts.
 -- Assumes nothing.
 use Prim.Native.Nat.{ℕ, _≤_, _<_}
-use mathlib.Core.Path.{_≡_, refl, ap, sym, _∙_}
+use mathlib.Core.Path.{_≡_, ap, sym, _∙_}
 use mathlib.Core.Bool.{Bool, true, false, _&&_}
 use mathlib.Core.List.{List}
 use native.Mathlib.Omega.{arith}
@@ -9,7 +9,7 @@ use lib.Dec.{eqb}
 use lib.Ieee.{Float}
 use borrow.Author.Tests.{eqb-true, eq-eqb, ne-eqb}
 use Rattle.laws.specs.Leading.{leading}
-use Rattle.laws.proofs.Leading.{HoldsTo, leading-le, leading-holds}
+use Rattle.laws.proofs.Leading.{HoldsTo, leading-holds}
 use Rattle.laws.proofs.Tests.{and-both}
 use Rattle.block.specs.declared.Cut.{Cut}
 use Rattle.block.specs.declared.Size.{Size}
@@ -18,7 +18,7 @@ use Rattle.mesh_rule.specs.Buffers.{meshWords, meshQuads}
 use Rattle.mesh.specs.declared.Totals.{Totals}
 use Rattle.mesh.specs.Answer.{vertexCount, quadCount, countsOf}
 use Rattle.foundry_rule.specs.Distinct.{QuadsBelow}
-use Rattle.foundry_rule.specs.Judged.{vertexTotal, quadTotal, soundVertex, soundQuad, Comparison, same, vertexAtFault, quadAtFault, someMissing, compared}
+use Rattle.foundry_rule.specs.Judged.{vertexTotal, quadTotal, soundVertex, soundQuad, same, vertexAtFault, quadAtFault, someMissing, compared}
 use Rattle.foundry_rule.proofs.Firsts.{both-ways}
 use Rattle.foundry_rule.proofs.Known.{total-of-mesh}
 use Rattle.foundry_rule.proofs.Ours.{our-total}

@@ -1,8 +1,8 @@
 -- Where no vertex is at fault, the first quad at fault, as the code finds it by 01's table, is the first at fault beside our list.
 -- Assumes nothing.
 use Prim.Native.Nat.{ℕ, _≤_, _<_}
-use mathlib.Core.Path.{_≡_, refl, ap, sym, _∙_}
-use mathlib.Core.Bool.{Bool, true, false, not, _&&_, true≢false}
+use mathlib.Core.Path.{_≡_, ap, sym, _∙_}
+use mathlib.Core.Bool.{true, not}
 use mathlib.Core.Logic.{_⊎_, inl, inr}
 use mathlib.Core.List.{List}
 use native.Mathlib.Nat.{eq-or-lt-of-le}
@@ -14,20 +14,18 @@ use Rattle.laws.proofs.Leading.{HoldsTo}
 use Rattle.laws.proofs.Tests.{and-both, lt-or-ge}
 use Rattle.block.specs.declared.Cut.{Cut}
 use Rattle.block.specs.declared.Size.{Size}
-use Rattle.block.specs.Numbering.{cubeCount}
 use Rattle.cube_rule.specs.Decider.{loopsOf}
 use Rattle.mesh_rule.specs.Buffers.{meshWords, meshQuads}
 use Rattle.mesh_rule.specs.Mesh.{Quad}
 use Rattle.foundry_rule.specs.Distinct.{QuadsBelow}
 use Rattle.foundry_rule.specs.Judged.{vertexTotal, quadTotal, alike, isSome, namedQuad, asSent, sameRound, soundVertex, ourQuad, soundQuad}
-use Rattle.foundry_rule.specs.Spots.{cubeAt}
 use Rattle.foundry_rule.proofs.Firsts.{none-passes, both-ways, alike-turned}
 use Rattle.foundry_rule.proofs.Known.{known, own-facts}
 use Rattle.foundry_rule.proofs.Ours.{AllKnown, ours-by-table}
 use Rattle.foundry_rule.proofs.QuadKeys.{OurSent, quad-keys}
 use Rattle.foundry_rule.proofs.Rounds.{AllBelow, quad-below}
 use Rattle.repeats.specs.Fresh.{fresh, seen}
-use Rattle.foundry_quads.specs.Steps.{Inside, quadFits, keyAt, quadSpotSound}
+use Rattle.foundry_quads.specs.Steps.{QuadsInside, quadFits, keyAt, quadSpotSound}
 use Rattle.foundry.proofs.Agree.{leading-agree, some-agree, and-agree}
 use Rattle.foundry.proofs.SoundVertices.{sound-parts}
 
@@ -46,7 +44,7 @@ module _ (n : Size) (s : List ℕ) (cut : Cut) (words : List ℕ) (offsets : Lis
     is-known v l = sound-parts n s cut ourQuads words offsets quads v (sound v l) .0
 
     -- what the code asks of a list with no vertex at fault
-    pub all-inside : vertexTotal words ≤ 66325500 → Inside n words quads
+    pub all-inside : vertexTotal words ≤ 66325500 → QuadsInside n words quads
     all-inside few = record {
       cubes = λ v l. own-facts n s cut ourQuads words offsets quads v (is-known v l) .cube-lt;
       below = below;

@@ -15,13 +15,13 @@ use Rattle.block.specs.declared.Size.{Size}
 use Rattle.cube_rule.specs.Decider.{loopsOf}
 use Rattle.mesh_rule.specs.Buffers.{meshWords}
 use Rattle.vertex_lists.specs.Rows.{offsetInside}
-use Rattle.foundry_rule.specs.Judged.{vertexTotal, alike, isSome, ownNumber, soundVertex}
+use Rattle.foundry_rule.specs.Judged.{vertexTotal, alike, isSome, soundVertex}
 use Rattle.foundry_rule.specs.Spots.{vertexKey}
 use Rattle.foundry_rule.proofs.Known.{known}
 use Rattle.foundry_rule.proofs.VertexKeys.{known-by-place, vertex-keys}
 use Rattle.repeats.specs.Fresh.{fresh, seen}
-use Rattle.foundry_vertices.specs.Steps.{placed, looksSound, spotSound}
-use Rattle.foundry.proofs.Agree.{leading-agree, some-agree, and-agree}
+use Rattle.foundry_vertices.specs.Steps.{placed, spotSound}
+use Rattle.foundry.proofs.Agree.{leading-agree, some-agree}
 
 module _ (n : Size) (s : List ℕ) (cut : Cut) (ourQuads words : List ℕ) (offsets : List Float) (quads : List ℕ) where
   abbrev ours : List ℕ

@@ -11,5 +11,5 @@ use Rattle.block.specs.declared.Size.{Size}
 use Rattle.foundry_rule.specs.Judged.{quadTotal}
 use Rattle.foundry_quads.specs.Steps.{quadSpotSound}
 
-pub first-fault-fixed : (n : Size) (s : List ℕ) (cut : Cut) (words quads : List ℕ) → Fixes (λ (r : ℕ). r ≡ leading (quadSpotSound n s cut words quads) (quadTotal quads))
-first-fault-fixed n s cut words quads = equation-fixes (leading (quadSpotSound n s cut words quads) (quadTotal quads))
+pub quad-fault-fixed : (n : Size) (s : List ℕ) (cut : Cut) (words quads : List ℕ) → Fixes (λ (r : ℕ). r ≡ leading (quadSpotSound n s cut words quads) (quadTotal quads))
+quad-fault-fixed n s cut words quads = equation-fixes (leading (quadSpotSound n s cut words quads) (quadTotal quads))

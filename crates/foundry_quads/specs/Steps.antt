@@ -29,7 +29,7 @@ pub record FourBelow (count : ℕ) (f : Four) : Type 0 where
   pub d-below : f .d < count
 
 -- every vertex is in a cube of the block, and every quad names vertices
-pub record Inside (n : Size) (words quads : List ℕ) : Type 0 where
+pub record QuadsInside (n : Size) (words quads : List ℕ) : Type 0 where
   pub cubes : (v : ℕ) → v < vertexTotal words → cubeAt words v < cubeCount n
   pub below : QuadsBelow (vertexTotal words) quads
   pub few : vertexTotal words ≤ 66325500

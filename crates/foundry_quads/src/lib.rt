@@ -18,7 +18,7 @@ ghost use Rattle.foundry_rule.specs.Distinct.{QuadsBelow};
 ghost use Rattle.foundry_rule.specs.Judged.{vertexTotal, quadTotal, namedQuad, asSent};
 ghost use Rattle.foundry_rule.specs.Spots.{highestOf, cubeAt, wordAt, led, fits};
 ghost use Rattle.repeats.specs.Fresh.{fresh, freshIn};
-ghost use Rattle.foundry_quads.specs.Steps.{asQuad, FourBelow, Inside, FromBase, apartBy, allHold, alongBy, roundBy, axisBy, quadFits, keyBy, quadSpotSound};
+ghost use Rattle.foundry_quads.specs.Steps.{asQuad, FourBelow, QuadsInside, FromBase, apartBy, allHold, alongBy, roundBy, axisBy, quadFits, keyBy, quadSpotSound};
 
 // The four vertices of a quad.
 struct Four {
@@ -276,7 +276,7 @@ fn look_through(
     layer: u32,
 ) -> Look
     requires { ⌜ Sampled size (now samples) ⌝ }
-    requires { ⌜ Inside size (now words) (now quads) ⌝ }
+    requires { ⌜ QuadsInside size (now words) (now quads) ⌝ }
     requires { ⌜ (wide ≡ size .nx - 1) × (layer ≡ layerSize size) ⌝ }
     ensures { λ r. ⌜ r .at ≡ leading (quadFits size (now (samples .entry)) cut (now (words .entry)) (now (quads .entry))) (quadTotal (now (quads .entry))) ⌝ }
     ensures { λ r. ⌜ (r .rises ≡ true → HoldsTo (fresh (keyBy (now (words .entry)) wide layer (now (quads .entry)))) (r .at)) ⌝ }
@@ -354,7 +354,7 @@ fn first_again(words: &[u32], quads: &[u32], wide: u32, layer: u32, m: usize) ->
 // The first quad at fault; how many there are, where none is.
 pub fn first_fault(size: Size, samples: &[u16], cut: Cut, words: &[u32], quads: &[u32]) -> usize
     requires { ⌜ Sampled size (now samples) ⌝ }
-    requires { ⌜ Inside size (now words) (now quads) ⌝ }
+    requires { ⌜ QuadsInside size (now words) (now quads) ⌝ }
     ensures { λ r. ⌜ r ≡ leading (quadSpotSound size (now (samples .entry)) cut (now (words .entry)) (now (quads .entry))) (quadTotal (now (quads .entry))) ⌝ }
 {
     let wide = row_of(size);

@@ -19,7 +19,6 @@ use Rattle.cube_rule.specs.Decider.{joined, loopsOf}
 use Rattle.cube_rule.specs.Edges.{patternOf, crossed, crossedMask}
 use Rattle.cube_rule.specs.Links.{decisions}
 use Rattle.cube_rule.specs.Loops.{linksOf, loopsFrom, loopsBy}
-use Rattle.cube_rule.specs.Plain.{plain}
 use Rattle.cube_rule.specs.Rule.{holders}
 use Rattle.cube_rule.proofs.Laws.{cube-laws, cube-lasts, mask-crossed}
 use Rattle.cube_rule.proofs.Tested.{lasts, lasts-now}
@@ -80,16 +79,6 @@ module _ (cut : Cut) (corners : List ℕ) where
       above : (w m k : ℕ) → w ≤ k → 0 < m → w ≡ m + k → ⊥
       above w m k h p e = omega arith
 
-  -- one loop, one word
-  pub among-single : loopsOf cut corners ≡ crossedMask (patternOf cut corners) ∷ [] → (w : ℕ)
-      → among w (map (wordOf corners) (loopsOf cut corners)) ≡ eqb w (crossedMask (patternOf cut corners) + markOf corners)
-  unfolding among
-  among-single e w = ap (λ (ms : List ℕ). among w (map (wordOf corners) ms)) e ∙ or-false (eqb w (crossedMask (patternOf cut corners) + markOf corners))
-
-  pub among-plain : plain (holds (patternOf cut corners)) ≡ true → (w : ℕ)
-      → among w (map (wordOf corners) (loopsOf cut corners)) ≡ eqb w (crossedMask (patternOf cut corners) + markOf corners)
-  among-plain e = among-single (cube-laws joined .single cut corners e)
-
 -- ---- no edge is crossed
 
 none-from : (ls : List ℕ) (m : ℕ) → m ≡ 0 → loopsFrom 4 ls m ≡ []
@@ -104,10 +93,6 @@ module _ (cut : Cut) (corners : List ℕ) where
   pub quiet-loops : all ≡ 0 → loopsOf cut corners ≡ []
   unfolding loopsBy
   quiet-loops e = none-from (linksOf (patternOf cut corners) (decisions joined cut corners)) all e
-
-  pub among-quiet : all ≡ 0 → (w : ℕ) → among w (map (wordOf corners) (loopsOf cut corners)) ≡ false
-  unfolding among
-  among-quiet e w = ap (λ (ms : List ℕ). among w (map (wordOf corners) ms)) (quiet-loops e)
 
   -- ---- at most five edges are crossed: they are one loop
 
@@ -150,6 +135,3 @@ module _ (cut : Cut) (corners : List ℕ) where
       go [] e = absurd (not-none p e)
       go (m ∷ []) e = ap (λ (x : ℕ). x ∷ []) (first-all h m [] e)
       go (m ∷ k ∷ ms) e = absurd (not-second k ms (e ∙ ap (λ (x : ℕ). x ∷ k ∷ ms) (first-all h m (k ∷ ms) e)))
-
-  pub among-few : ones all ≤ 5 → 0 < all → (w : ℕ) → among w (map (wordOf corners) (loopsOf cut corners)) ≡ eqb w (all + markOf corners)
-  among-few h p = among-single cut corners (few-edges h p)

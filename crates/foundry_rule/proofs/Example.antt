@@ -51,14 +51,14 @@ ourOffsets =
     ∷ threeQuarters ∷ quarter ∷ quarter ∷ quarter ∷ quarter ∷ quarter ∷ []
 
 -- the lists are those of 01's block: three samples along each axis, 400 in the middle and 0 elsewhere, t = 100
-pub record Ours : Type 0 where
+pub record OurLists : Type 0 where
   pub words : meshWords loopsOf (size 3) samples cut ≡ ourWords
   pub offsets : meshOffsets loopsOf (size 3) samples cut ≡ ourOffsets
   pub quads : meshQuads loopsOf (size 3) samples cut ≡ ourQuads
 
-pub ours : Ours
+pub our-lists : OurLists
 unfolding meshWords meshOffsets meshQuads quads quadsBefore quadAt vertexNumber lowest vertices verticesBefore verticesOf cornersOf below loopsBy joined patternOf crossedMask loopsFrom loopFrom grow maskOf trailingZeros placeOf add div ofInt ones
-ours = record { words = refl; offsets = refl; quads = refl }
+our-lists = record { words = refl; offsets = refl; quads = refl }
 
 -- what is found of a mesh beside it: of any, of one with other words, with other offsets, and with other quads
 abbrev found : List ℕ → List Float → List ℕ → Comparison

@@ -11,7 +11,7 @@ use lib.ListN.{getD}
 use borrow.Author.Tests.{ltb-true, ltb-false, eqb-true, eq-eqb, not-true, not-false}
 use Rattle.laws.proofs.Leading.{leading-holds, leading-stops}
 use Rattle.laws.proofs.Tests.{and-both}
-use Rattle.foundry_rule.specs.Judged.{firstOf, isSome, alike}
+use Rattle.foundry_rule.specs.Judged.{firstPassing, isSome, alike}
 
 -- a test that passes and fails
 pub both-ways : {b : Bool} → b ≡ true → b ≡ false → ⊥
@@ -45,17 +45,17 @@ not-so false h = refl
 -- ---- the first that passes
 
 module _ (f : ℕ → Bool) (n : ℕ) where
-  pub first-passes : firstOf f n < n → f (firstOf f n) ≡ true
+  pub first-passes : firstPassing f n < n → f (firstPassing f n) ≡ true
   first-passes l = not-false _ (leading-stops (λ (i : ℕ). not (f i)) n l)
 
   pub none-passes : isSome f n ≡ false → (k : ℕ) → k < n → f k ≡ false
-  none-passes e k l = not-true _ (leading-holds (λ (i : ℕ). not (f i)) n k (omega (arith, ltb-false (firstOf f n) n e)))
+  none-passes e k l = not-true _ (leading-holds (λ (i : ℕ). not (f i)) n k (omega (arith, ltb-false (firstPassing f n) n e)))
 
   pub is-some : (k : ℕ) → k < n → f k ≡ true → isSome f n ≡ true
   is-some k l e = is-so (isSome f n) (λ s. both-ways e (none-passes s k l))
 
   pub is-none : ((k : ℕ) → k < n → f k ≡ false) → isSome f n ≡ false
-  is-none h = not-so (isSome f n) (λ s. let l = ltb-true (firstOf f n) n s in both-ways (first-passes l) (h (firstOf f n) l))
+  is-none h = not-so (isSome f n) (λ s. let l = ltb-true (firstPassing f n) n s in both-ways (first-passes l) (h (firstPassing f n) l))
 
 -- ---- the same cube and word
 

@@ -3,7 +3,7 @@
 -- Assumes nothing.
 use Prim.Native.Nat.{ℕ, suc, _+_, _^_, _<_, _≤_}
 use mathlib.Core.Path.{_≡_, refl, sym, ap, ap₂, _∙_, subst}
-use mathlib.Core.Bool.{Bool, true, false, not, _&&_, _||_, false≢true, or-true}
+use mathlib.Core.Bool.{Bool, true, false, _&&_, _||_, false≢true, or-true}
 use mathlib.Core.Logic.{_⊎_, inl, inr, ⊎-elim}
 use mathlib.Core.List.{List, [], _∷_, map, List·Memᴰ, List·Memᴰ·cases-cons, List·Memᴰ·not-nil}
 use native.Mathlib.Omega.{arith}
@@ -14,7 +14,6 @@ use lib.Ieee.{Float}
 use lib.ListN.{length, getD}
 use Rattle.laws.specs.Bits.{holds}
 use Rattle.laws.proofs.Bits.{holds-past, some-ones}
-use Rattle.laws.proofs.Leading.{leading-same}
 use Rattle.laws.proofs.Tests.{and-both, lt-or-ge}
 use Rattle.laws.proofs.Trailing.{trailing-lt, trailing-set}
 use Rattle.block.specs.declared.Cut.{Cut}
@@ -217,10 +216,3 @@ module _ (n : Size) (s : List ℕ) (cut : Cut) (ourQuads words : List ℕ) (offs
   -- and two of them are one vertex of ours exactly if they have the same cube and word
   pub own-apart : (v v′ : ℕ) → known v ≡ true → known v′ ≡ true → nameOf v ≡ nameOf v′ → alike words v words v′ ≡ true
   own-apart v v′ k k′ e = own-shared (meshWords loopsOf n s cut) ourQuads words offsets quads v v′ (found v k) (found v′ k′) e
-
-  pub own-same : (v v′ : ℕ) → alike words v words v′ ≡ true → nameOf v ≡ nameOf v′
-  unfolding ownNumber
-  own-same v v′ a =
-      let p = alike-words words v words v′ a in
-      leading-same (λ (u : ℕ). not (alike words v (meshWords loopsOf n s cut) u)) (λ (u : ℕ). not (alike words v′ (meshWords loopsOf n s cut) u)) (vertexTotal (meshWords loopsOf n s cut))
-      (λ u h. rw (p .0, p .1))

@@ -13,13 +13,22 @@ use Rattle.laws.proofs.Leading.{HoldsTo, leading-holds, leading-stops, leading-
 use Rattle.laws.proofs.Tests.{lt-or-ge}
 use Rattle.foundry_rule.specs.Judged.{vertexTotal, quadTotal, alike, namedQuad, asSent, ownNumber, soundVertex, soundQuad, vertexAtFault, quadAtFault, someMissing, compared}
 use Rattle.foundry_rule.specs.Distinct.{Distinct, QuadsBelow}
-use Rattle.foundry_rule.specs.Faults.{VertexFault, isOurs, QuadFault, Missing, vertexMissing, quadMissing, FirstAtFault, NoneAtFault, NoNames}
+use Rattle.foundry_rule.specs.Faults.{VertexFault, isOurs, QuadFault, Missing, vertexMissing, quadMissing, FirstAtFault, NoneAtFault}
 use Rattle.foundry_rule.proofs.Pigeons.{missed, apart-le}
 use Rattle.foundry_rule.proofs.Rounds.{round-turned, round-then}
 use Rattle.foundry_rule.proofs.Firsts.{both-ways, is-so, not-so, alike-turned, alike-then}
 use Rattle.foundry_rule.proofs.Outcomes.{vertex-found, quad-found, missing-found, find-vertex, find-quad, find-missing}
 use Rattle.foundry_rule.proofs.Sound.{sound-no-fault, unsound-fault, sound-no-quad-fault, unsound-quad-fault, own-into, own-same, own-apart, ownPlace, place-into, place-turned, place-apart}
 use Rattle.foundry_rule.proofs.Exactly.{all-hold, pigeons-to}
+
+-- "A no names the first vertex at fault, else the first quad at fault, else that some are missing"
+pub record NoNames (ourWords ourQuads words : List ℕ) (offsets : List Float) (quads : List ℕ) : Type 0 where
+  pub vertex : (v : ℕ) → (compared ourWords ourQuads words offsets quads ≡ vertexAtFault v) ↔ FirstAtFault (VertexFault ourWords words offsets) (vertexTotal words) v
+  pub quad : (q : ℕ) → (compared ourWords ourQuads words offsets quads ≡ quadAtFault q)
+      ↔ (NoneAtFault (VertexFault ourWords words offsets) (vertexTotal words) × FirstAtFault (QuadFault ourWords ourQuads words offsets quads) (quadTotal quads) q)
+  pub missing : (compared ourWords ourQuads words offsets quads ≡ someMissing)
+      ↔ (NoneAtFault (VertexFault ourWords words offsets) (vertexTotal words) × NoneAtFault (QuadFault ourWords ourQuads words offsets quads) (quadTotal quads)
+      × Missing ourWords ourQuads words offsets quads)
 
 -- ---- a search by a test that passes exactly what is not at fault
 

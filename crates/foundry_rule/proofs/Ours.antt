@@ -16,7 +16,7 @@ use Rattle.cube_rule.specs.Decider.{loopsOf}
 use Rattle.mesh_rule.specs.Buffers.{meshWords, meshQuads}
 use Rattle.mesh_rule.specs.Mesh.{Quad, flat, Holder, quads}
 use Rattle.mesh_rule.proofs.Quads.{flat-length, quad-numbers, FromEdge, quad-of-edge, edge-of-quad}
-use Rattle.foundry_rule.specs.Judged.{firstOf, isSome, quadTotal, namedQuad, asSent, sameRound, ourQuad}
+use Rattle.foundry_rule.specs.Judged.{firstPassing, isSome, quadTotal, namedQuad, asSent, sameRound, ourQuad}
 use Rattle.foundry_rule.specs.Spots.{led, fits}
 use Rattle.foundry_rule.proofs.Firsts.{same-test, first-passes, is-some}
 use Rattle.foundry_rule.proofs.Known.{nameOf, known, own-facts, own-holder, holder-own}
@@ -136,8 +136,8 @@ module _ (n : Size) (s : List ℕ) (cut : Cut) (words : List ℕ) (offsets : Lis
 
       there : isSome test (quadTotal Q) ≡ true → fits words n s cut (led words sent) ≡ true
       there h =
-          let l = ltb-true (firstOf test (quadTotal Q)) (quadTotal Q) h in
-          laid-fits words n s cut (led words sent) (ours-laid sent k (firstOf test (quadTotal Q)) l (first-passes test (quadTotal Q) l))
+          let l = ltb-true (firstPassing test (quadTotal Q)) (quadTotal Q) h in
+          laid-fits words n s cut (led words sent) (ours-laid sent k (firstPassing test (quadTotal Q)) l (first-passes test (quadTotal Q) l))
 
       back : fits words n s cut (led words sent) ≡ true → isSome test (quadTotal Q) ≡ true
       back h =

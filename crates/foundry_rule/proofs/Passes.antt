@@ -83,8 +83,3 @@ itself-shuffled ourWords ourQuads = record {
   places = same-to-same (quadTotal ourQuads);
   numbers = λ p l. round-same (namedQuad asSent ourQuads p);
 }
-
-pub itself-passes : (ourWords ourQuads : List ℕ) → QuadsBelow (vertexTotal ourWords) ourQuads → Distinct ourWords ourQuads
-    → (offsets : List Float) → ((v : ℕ) → v < vertexTotal ourWords → offsetInside offsets v ≡ true)
-    → compared ourWords ourQuads ourWords offsets ourQuads ≡ same
-itself-passes ourWords ourQuads range = ours-passes ourWords ourQuads ourWords ourQuads range (itself-shuffled ourWords ourQuads)

@@ -13,7 +13,7 @@ use Rattle.laws.specs.Counting.{count, total}
 use Rattle.laws.proofs.Counting.{count-clear, clear-count, count-one, count-this, count-all}
 use Rattle.laws.proofs.Sums.{total-same, total-le, total-plus, total-nothing, total-count}
 use Rattle.laws.proofs.Tests.{some-or-none, lt-or-ge}
-use Rattle.foundry_rule.specs.Judged.{firstOf}
+use Rattle.foundry_rule.specs.Judged.{firstPassing}
 use Rattle.foundry_rule.specs.Matches.{OneToOne}
 use Rattle.foundry_rule.proofs.Firsts.{same-test, first-passes, is-some}
 
@@ -122,7 +122,7 @@ same-to-same m = record { into = λ i l. l; apart = λ i k a b e. e; onto = λ j
 
 -- the first number below m that goes to j
 unfoldable pub back : (ℕ → ℕ) → ℕ → ℕ → ℕ
-back f m j = firstOf (λ (i : ℕ). eqb (f i) j) m
+back f m j = firstPassing (λ (i : ℕ). eqb (f i) j) m
 
 module _ {f : ℕ → ℕ} {m n : ℕ} (o : OneToOne f m n) where
   back-found : (i j : ℕ) → i < m → f i ≡ j → back f m j < m

@@ -12,13 +12,13 @@ use borrow.Author.Tests.{eqb-true, eq-eqb, ltb-true, lt-ltb}
 use Rattle.laws.proofs.Tests.{and-both}
 use Rattle.lists.specs.Rows.{quadBelow}
 use Rattle.mesh_rule.specs.Mesh.{Quad, quad}
-use Rattle.foundry_rule.specs.Judged.{namedQuad, asSent, begun, sameQuad, sameRound}
+use Rattle.foundry_rule.specs.Judged.{namedQuad, asSent, begunNext, sameQuad, sameRound}
 use Rattle.foundry_rule.proofs.Firsts.{or-either}
 
 -- a quad begun m vertices further on
 abbrev pub begunBy : ℕ → Quad → Quad
 begunBy zero q = q
-begunBy (suc m) q = begun (begunBy m q)
+begunBy (suc m) q = begunNext (begunBy m q)
 
 -- every number of a quad renamed; and every number below n
 abbrev pub renamed : (ℕ → ℕ) → Quad → Quad
@@ -48,16 +48,16 @@ quad-same q = rw (eq-eqb (q .v0) (q .v0) refl, eq-eqb (q .v1) (q .v1) refl, eq-e
 -- the same round is the same quad, begun some vertices further on
 pub round-begun : (p q : Quad) → sameRound p q ≡ true → (m : ℕ) × (begunBy m p ≡ q)
 round-begun p q h =
-    ⊎-elim (λ a. ⊎-elim (λ b. ⊎-elim (λ c. (0, same-quad p q c)) (λ c. (1, same-quad (begun p) q c)) (or-either _ _ b))
-    (λ b. (2, same-quad (begun (begun p)) q b)) (or-either _ _ a))
-    (λ a. (3, same-quad (begun (begun (begun p))) q a)) (or-either _ _ h)
+    ⊎-elim (λ a. ⊎-elim (λ b. ⊎-elim (λ c. (0, same-quad p q c)) (λ c. (1, same-quad (begunNext p) q c)) (or-either _ _ b))
+    (λ b. (2, same-quad (begunNext (begunNext p)) q b)) (or-either _ _ a))
+    (λ a. (3, same-quad (begunNext (begunNext (begunNext p))) q a)) (or-either _ _ h)
 
 -- four vertices further on is where it was
 begun-same : (m : ℕ) (p : Quad) → sameRound p (begunBy m p) ≡ true
 begun-same zero p = rw (quad-same p)
-begun-same (suc zero) p = rw (quad-same (begun p), or-true)
-begun-same (suc (suc zero)) p = rw (quad-same (begun (begun p)), or-true)
-begun-same (suc (suc (suc zero))) p = rw (quad-same (begun (begun (begun p))), or-true)
+begun-same (suc zero) p = rw (quad-same (begunNext p), or-true)
+begun-same (suc (suc zero)) p = rw (quad-same (begunNext (begunNext p)), or-true)
+begun-same (suc (suc (suc zero))) p = rw (quad-same (begunNext (begunNext (begunNext p))), or-true)
 begun-same (suc (suc (suc (suc m)))) p = begun-same m p
 
 pub begun-round : (m : ℕ) (p q : Quad) → begunBy m p ≡ q → sameRound p q ≡ true
@@ -67,7 +67,7 @@ begun-round m p q e = rw e at (begun-same m p)
 
 pub begun-add : (k m : ℕ) (q : Quad) → begunBy k (begunBy m q) ≡ begunBy (k + m) q
 begun-add zero m q = rw zero-add
-begun-add (suc k) m q = rw suc-add (ap begun (begun-add k m q))
+begun-add (suc k) m q = rw suc-add (ap begunNext (begun-add k m q))
 
 -- begun further on until it is begun as before
 unbegun : (m : ℕ) (r q : Quad) → r ≡ begunBy m q → (k : ℕ) × (begunBy k r ≡ q)
@@ -96,7 +96,7 @@ round-then p q r t u =
 -- ---- what stays
 
 -- what begun quads keep
-pub begun-keeps : (P : Quad → Type 0) → ((q : Quad) → P q → P (begun q)) → (m : ℕ) (q : Quad) → P q → P (begunBy m q)
+pub begun-keeps : (P : Quad → Type 0) → ((q : Quad) → P q → P (begunNext q)) → (m : ℕ) (q : Quad) → P q → P (begunBy m q)
 begun-keeps P step zero q h = h
 begun-keeps P step (suc m) q h = step (begunBy m q) (begun-keeps P step m q h)
 
@@ -110,7 +110,7 @@ round-below n p q t b = let s = round-begun p q t in subst (AllBelow n) (s .1) (
 
 pub renamed-begun : (f : ℕ → ℕ) (m : ℕ) (q : Quad) → renamed f (begunBy m q) ≡ begunBy m (renamed f q)
 renamed-begun f zero q = refl
-renamed-begun f (suc m) q = ap begun (renamed-begun f m q)
+renamed-begun f (suc m) q = ap begunNext (renamed-begun f m q)
 
 -- the same round stays so
 pub round-renamed : (f : ℕ → ℕ) (p q : Quad) → sameRound p q ≡ true → sameRound (renamed f p) (renamed f q) ≡ true

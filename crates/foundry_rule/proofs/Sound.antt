@@ -12,7 +12,7 @@ use borrow.Author.Tests.{ltb-true, lt-ltb, not-true, not-false}
 use Rattle.laws.proofs.Leading.{HoldsTo}
 use Rattle.laws.proofs.Tests.{and-both, lt-or-ge}
 use Rattle.vertex_lists.specs.Rows.{offsetInside}
-use Rattle.foundry_rule.specs.Judged.{firstOf, isSome, vertexTotal, quadTotal, alike, namedQuad, asSent, sameRound, ownNumber, soundVertex, ourQuad, soundQuad}
+use Rattle.foundry_rule.specs.Judged.{firstPassing, isSome, vertexTotal, quadTotal, alike, namedQuad, asSent, sameRound, ownNumber, soundVertex, ourQuad, soundQuad}
 use Rattle.foundry_rule.specs.Distinct.{QuadsBelow}
 use Rattle.foundry_rule.specs.Faults.{VertexFault, vertexUnknown, vertexAgain, offsetBad, isOurs, QuadFault, quadUnknown, quadAgain}
 use Rattle.foundry_rule.proofs.Pigeons.{Into, Apart}
@@ -81,8 +81,8 @@ module _ (ourWords ourQuads words : List ℕ) (offsets : List Float) (quads : Li
       first : (isSome (alike words v ourWords) (vertexTotal ourWords) ≡ false) ⊎ (not (isSome (alike words v words) v) ≡ false) → VertexFault ourWords words offsets v
       first (inl e) = vertexUnknown (none-passes (alike words v ourWords) (vertexTotal ourWords) e)
       first (inr e) =
-          let l : firstOf (alike words v words) v < v = ltb-true _ _ (not-false _ e) in
-          vertexAgain (firstOf (alike words v words) v) l (first-passes (alike words v words) v l)
+          let l : firstPassing (alike words v words) v < v = ltb-true _ _ (not-false _ e) in
+          vertexAgain (firstPassing (alike words v words) v) l (first-passes (alike words v words) v l)
 
       last : ((isSome (alike words v ourWords) (vertexTotal ourWords) && not (isSome (alike words v words) v)) ≡ false) ⊎ (offsetInside offsets v ≡ false)
           → VertexFault ourWords words offsets v
@@ -111,7 +111,7 @@ module _ (ourWords ourQuads words : List ℕ) (offsets : List Float) (quads : Li
 
   -- the number of the first quad of ours that quad q is; how many we have, where it is none
   unfoldable pub ownPlace : ℕ → ℕ
-  ownPlace q = firstOf (isOurs ourWords ourQuads words offsets quads q) (quadTotal ourQuads)
+  ownPlace q = firstPassing (isOurs ourWords ourQuads words offsets quads q) (quadTotal ourQuads)
 
   -- quads q and p have the same numbers, as they were sent
   abbrev repeats : ℕ → ℕ → Bool
@@ -142,8 +142,8 @@ module _ (ourWords ourQuads words : List ℕ) (offsets : List Float) (quads : Li
           → QuadFault ourWords ourQuads words offsets quads q
       go (inl e) = quadUnknown (none-passes (isOurs ourWords ourQuads words offsets quads q) (quadTotal ourQuads) e)
       go (inr e) =
-          let l : firstOf (repeats q) q < q = ltb-true _ _ (not-false _ e) in
-          quadAgain (firstOf (repeats q) q) l (first-passes (repeats q) q l)
+          let l : firstPassing (repeats q) q < q = ltb-true _ _ (not-false _ e) in
+          quadAgain (firstPassing (repeats q) q) l (first-passes (repeats q) q l)
 
   -- ---- all vertices and quads are sound
 

@@ -2,11 +2,10 @@
 use Prim.Native.Nat.{ℕ, _<_}
 use mathlib.Core.Path.{_≡_}
 use mathlib.Core.Bool.{Bool, true, false}
-use mathlib.Core.Logic.{_↔_}
 use mathlib.Core.List.{List}
 use lib.Ieee.{Float}
 use Rattle.vertex_lists.specs.Rows.{offsetInside}
-use Rattle.foundry_rule.specs.Judged.{vertexTotal, quadTotal, alike, namedQuad, asSent, sameRound, ownNumber, vertexAtFault, quadAtFault, someMissing, compared}
+use Rattle.foundry_rule.specs.Judged.{vertexTotal, quadTotal, alike, namedQuad, asSent, sameRound, ownNumber}
 
 -- "a vertex is at fault if no vertex of ours has its cube and word, an earlier one has both, or its offset is bad"
 pub data VertexFault (ourWords words : List ℕ) (offsets : List Float) (v : ℕ) : Type 0 where
@@ -38,12 +37,3 @@ pub record FirstAtFault (Fault : ℕ → Type 0) (n v : ℕ) : Type 0 where
 -- none of n is at fault
 abbrev pub NoneAtFault : (ℕ → Type 0) → ℕ → Type 0
 NoneAtFault Fault n = (v : ℕ) → v < n → Fault v → ⊥
-
--- "A no names the first vertex at fault, else the first quad at fault, else that some are missing"
-pub record NoNames (ourWords ourQuads words : List ℕ) (offsets : List Float) (quads : List ℕ) : Type 0 where
-  pub vertex : (v : ℕ) → (compared ourWords ourQuads words offsets quads ≡ vertexAtFault v) ↔ FirstAtFault (VertexFault ourWords words offsets) (vertexTotal words) v
-  pub quad : (q : ℕ) → (compared ourWords ourQuads words offsets quads ≡ quadAtFault q)
-      ↔ (NoneAtFault (VertexFault ourWords words offsets) (vertexTotal words) × FirstAtFault (QuadFault ourWords ourQuads words offsets quads) (quadTotal quads) q)
-  pub missing : (compared ourWords ourQuads words offsets quads ≡ someMissing)
-      ↔ (NoneAtFault (VertexFault ourWords words offsets) (vertexTotal words) × NoneAtFault (QuadFault ourWords ourQuads words offsets quads) (quadTotal quads)
-      × Missing ourWords ourQuads words offsets quads)

@@ -11,11 +11,11 @@ use Rattle.mesh_rule.specs.Mesh.{Quad, quad}
 use Rattle.vertex_lists.specs.Rows.{offsetInside}
 
 -- the first number below n that passes the test, n where none does; and whether one does
-abbrev pub firstOf : (ℕ → Bool) → ℕ → ℕ
-firstOf f n = leading (λ (i : ℕ). not (f i)) n
+abbrev pub firstPassing : (ℕ → Bool) → ℕ → ℕ
+firstPassing f n = leading (λ (i : ℕ). not (f i)) n
 
 abbrev pub isSome : (ℕ → Bool) → ℕ → Bool
-isSome f n = ltb (firstOf f n) n
+isSome f n = ltb (firstPassing f n) n
 
 -- how many vertices the words are of, and how many quads a list has
 abbrev pub vertexTotal : List ℕ → ℕ
@@ -37,15 +37,15 @@ abbrev pub asSent : ℕ → ℕ
 asSent v = v
 
 -- a quad begun at its next vertex
-abbrev pub begun : Quad → Quad
-begun q = quad (q .v1) (q .v2) (q .v3) (q .v0)
+abbrev pub begunNext : Quad → Quad
+begunNext q = quad (q .v1) (q .v2) (q .v3) (q .v0)
 
 abbrev pub sameQuad : Quad → Quad → Bool
 sameQuad p q = eqb (p .v0) (q .v0) && eqb (p .v1) (q .v1) && eqb (p .v2) (q .v2) && eqb (p .v3) (q .v3)
 
 -- the same quad, "possibly begun at another of its four vertices"
 abbrev pub sameRound : Quad → Quad → Bool
-sameRound p q = sameQuad p q || sameQuad (begun p) q || sameQuad (begun (begun p)) q || sameQuad (begun (begun (begun p))) q
+sameRound p q = sameQuad p q || sameQuad (begunNext p) q || sameQuad (begunNext (begunNext p)) q || sameQuad (begunNext (begunNext (begunNext p))) q
 
 -- what is found: the meshes are the same, or "a no names the first vertex at fault, else the first quad at fault, else that some are missing"
 pub data Comparison : Type 0 where
@@ -57,7 +57,7 @@ pub data Comparison : Type 0 where
 module _ (ourWords ourQuads words : List ℕ) (offsets : List Float) (quads : List ℕ) where
   -- the number of the vertex of ours that has the cube and the word of vertex v; how many we have, where none has them
   unfoldable pub ownNumber : ℕ → ℕ
-  ownNumber v = firstOf (alike words v ourWords) (vertexTotal ourWords)
+  ownNumber v = firstPassing (alike words v ourWords) (vertexTotal ourWords)
 
   -- "a vertex is at fault if no vertex of ours has its cube and word, an earlier one has both, or its offset is bad"
   unfoldable pub soundVertex : ℕ → Bool

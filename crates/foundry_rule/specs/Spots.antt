@@ -18,7 +18,7 @@ use Rattle.mesh_rule.specs.Grid.{cornersOf, metal}
 use Rattle.mesh_rule.specs.Layers.{layerSize}
 use Rattle.mesh_rule.specs.Mesh.{Quad, turned, cubeLoops}
 use Rattle.mesh_rule.specs.Orientation.{coordinate}
-use Rattle.foundry_rule.specs.Judged.{begun}
+use Rattle.foundry_rule.specs.Judged.{begunNext}
 
 -- w is one of these numbers
 unfoldable pub among : ℕ → List ℕ → Bool
@@ -48,10 +48,10 @@ highestOf a b c d = cond (ltb (cond (ltb a b) b a) (cond (ltb c d) d c)) (cond (
 
 -- the quad begun so that its vertex in the place h is the third
 abbrev pub ledBy : ℕ → Quad → Quad
-ledBy zero q = begun (begun q)
-ledBy (suc zero) q = begun (begun (begun q))
+ledBy zero q = begunNext (begunNext q)
+ledBy (suc zero) q = begunNext (begunNext (begunNext q))
 ledBy (suc (suc zero)) q = q
-ledBy (suc (suc (suc h))) q = begun q
+ledBy (suc (suc (suc h))) q = begunNext q
 
 module _ (words : List ℕ) where
   -- cube and word of a vertex

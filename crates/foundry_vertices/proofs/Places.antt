@@ -1,14 +1,14 @@
 -- The place of a word among those of a cube's loops, as the code finds it: nothing is linked where at most five edges are crossed.
 -- Assumes nothing.
-use Prim.Native.Nat.{ℕ, _+_, _-_, _≤_, _<_}
-use mathlib.Core.Path.{_≡_, refl, ap, sym, _∙_}
+use Prim.Native.Nat.{ℕ, _-_, _≤_, _<_}
+use mathlib.Core.Path.{_≡_, refl, sym, _∙_}
 use mathlib.Core.Bool.{Bool, true, false, cond, _&&_}
 use mathlib.Core.Logic.{_⊎_, inl, inr}
 use mathlib.Core.List.{List, [], _∷_}
 use native.Mathlib.Nat.{eq-zero-or-pos}
 use native.Mathlib.Omega.{arith}
 use lib.Count.{ones}
-use lib.Dec.{eqb, ltb, leb}
+use lib.Dec.{ltb}
 use lib.Ieee.{Float}
 use lib.ListN.{getD}
 use borrow.Author.Tests.{eq-eqb, ne-eqb, le-leb, lt-leb, lt-ltb, le-ltb}
@@ -23,19 +23,9 @@ use Rattle.mesh_rule.specs.Grid.{cornersOf}
 use Rattle.vertex_lists.specs.Rows.{offsetInside}
 use Rattle.foundry_rule.specs.Spots.{placeAmong, wordPlace, placeIn, cubeAt, wordAt}
 use Rattle.foundry_rule.proofs.ByMask.{few-edges, quiet-loops}
-use Rattle.foundry_vertices.specs.Steps.{placed, looksSound, soundPlace}
+use Rattle.foundry_vertices.specs.Steps.{looksSound, soundPlace}
 
 -- ---- among four
-
-place-most : (a b c d : Bool) → cond a 0 (cond b 1 (cond c 2 (cond d 3 4))) ≤ 4
-place-most true b c d = omega arith
-place-most false true c d = omega arith
-place-most false false true d = omega arith
-place-most false false false true = omega arith
-place-most false false false false = omega arith
-
-pub among-most : (m : ℕ) (masks : List ℕ) → placeAmong m masks ≤ 4
-among-most m masks = place-most (eqb m (getD masks 0 0)) (eqb m (getD masks 1 0)) (eqb m (getD masks 2 0)) (eqb m (getD masks 3 0))
 
 module _ (m : ℕ) (masks : List ℕ) where
   abbrev mask : ℕ → ℕ
@@ -75,14 +65,6 @@ module _ (cut : Cut) (corners : List ℕ) where
   pub place-high : (w : ℕ) → markOf corners < w → placeAmong (w - markOf corners) four ≡ wordPlace cut corners w
   unfolding wordPlace
   place-high w h = rw (lt-leb w (markOf corners) h)
-
-  pub word-most : (w : ℕ) → wordPlace cut corners w ≤ 4
-  unfolding wordPlace
-  word-most w = go (leb w (markOf corners))
-    where
-      go : (b : Bool) → cond b 4 (placeAmong (w - markOf corners) (filled 4 0 (loopsOf cut corners))) ≤ 4
-      go true = omega arith
-      go false = among-most (w - markOf corners) (filled 4 0 (loopsOf cut corners))
 
   -- at most five crossed edges are one loop or none
   few-four : ones all ≤ 5 → four ≡ all ∷ 0 ∷ 0 ∷ 0 ∷ []
@@ -128,14 +110,6 @@ module _ (n : Size) (s : List ℕ) (cut : Cut) where
   pub in-cube : (c w : ℕ) → c < cubeCount n → wordPlace cut (cornersOf n s c) w ≡ placeIn n s cut c w
   unfolding placeIn
   in-cube c w h = rw (lt-ltb c (cubeCount n) h)
-
-  pub in-most : (c w : ℕ) → placeIn n s cut c w ≤ 4
-  unfolding placeIn
-  in-most c w = go (ltb c (cubeCount n))
-    where
-      go : (b : Bool) → cond b (wordPlace cut (cornersOf n s c) w) 4 ≤ 4
-      go true = word-most cut (cornersOf n s c) w
-      go false = omega arith
 
   -- ---- of a vertex
 

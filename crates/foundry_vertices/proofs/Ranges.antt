@@ -7,8 +7,6 @@ use mathlib.Core.Bool.{Bool, true, false, not, _&&_}
 use mathlib.Core.Logic.{_⊎_, inl, inr}
 use mathlib.Core.List.{List}
 use native.Mathlib.Omega.{arith}
-use lib.Dec.{eqb, ltb}
-use lib.ListN.{getD}
 use borrow.Author.Tests.{eqb-false, ltb-true}
 use Rattle.laws.specs.Counting.{count}
 use Rattle.laws.specs.Leading.{leading}

@@ -11,30 +11,24 @@ use Rattle.block.proofs.Size.ny.Reads as ny-reads
 use Rattle.cube_spots.proofs.eight.Reads as eight-reads
 use Rattle.cube_spots.proofs.spot_of.Reads as spot-of-reads
 
--- src/lib.rt:65:9
 nx-requires : tie.Need-nx-requires
 nx-requires c κs = search needs
 
--- src/lib.rt:66:23
 ny-requires : tie.Need-ny-requires
 ny-requires c κs = search needs
 
--- src/lib.rt:66:17
 mul-plane : tie.Need-mul-plane
 mul-plane c = rw (c .before .nx .ensures, c .ny .ensures) (omega (arith, plane-small (c .before .before .before .args .size) (c .before .before .before .pre .0 .limits)))
 
--- src/lib.rt:67:9
 spot-of-requires : tie.Need-spot-of-requires
 spot-of-requires c κs = search needs
 
--- src/lib.rt:68:5
 eight-requires : tie.Need-eight-requires
 eight-requires c κs =
     let first = c .before .before .before .before in
     rw (c .before .before .nx .ensures, c .before .ny .ensures, c .spot-of .ensures)
     (first .pre .0 .limits .x-high, plane-small (first .args .size) (first .pre .0 .limits), last-inside (first .args .size) (first .args .samples .now) (first .pre .0) (first .args .c) (first .pre .1))
 
--- src/lib.rt:60:1
 returns : tie.Need-returns
 returns c =
     let first = c .before .before .before .before .before in

@@ -10,15 +10,12 @@ use Rattle.foundry.proofs.check.Lts as lts
 use Rattle.block.proofs.check_block.Reads as check-block-reads
 use Rattle.foundry.proofs.check_sent.Reads as check-sent-reads
 
--- src/lib.rt:51:9
 check-block-requires : tie.Need-check-block-requires
 check-block-requires c κs = search needs
 
--- src/lib.rt:52:29
 enum-known-block : tie.Need-enum-known-block
 enum-known-block c = search needs
 
--- src/lib.rt:53:9
 returns : tie.Need-returns
 returns c =
     let first = c .before .before .before in
@@ -27,11 +24,9 @@ returns c =
 enum-told : tie.Need-enum-told
 enum-told c = search needs
 
--- src/lib.rt:55:5
 check-sent-requires : tie.Need-check-sent-requires
 check-sent-requires c κs = search needs
 
--- src/lib.rt:47:1
 returns-2 : tie.Need-returns-2
 returns-2 c =
     let first = c .before .before .before in

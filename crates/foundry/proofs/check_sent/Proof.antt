@@ -11,15 +11,12 @@ use Rattle.lists.proofs.check_length.Reads as check-length-reads
 use Rattle.lists.proofs.check_numbers.Reads as check-numbers-reads
 use Rattle.vertex_lists.proofs.check_shape.Reads as check-shape-reads
 
--- src/lib.rt:35:9
 check-shape-requires : tie.Need-check-shape-requires
 check-shape-requires c κs = search needs
 
--- src/lib.rt:36:29
 enum-known-shape : tie.Need-enum-known-shape
 enum-known-shape c = search needs
 
--- src/lib.rt:37:9
 returns : tie.Need-returns
 returns c =
     let first = c .before .before .before in
@@ -28,15 +25,12 @@ returns c =
 enum-told : tie.Need-enum-told
 enum-told c = search needs
 
--- src/lib.rt:39:9
 check-length-requires : tie.Need-check-length-requires
 check-length-requires c κs = search needs
 
--- src/lib.rt:40:29
 enum-known-whole : tie.Need-enum-known-whole
 enum-known-whole c = search needs
 
--- src/lib.rt:41:9
 returns-2 : tie.Need-returns-2
 returns-2 c =
     let second = c .before .before .before in
@@ -47,11 +41,9 @@ returns-2 c =
 enum-told-2 : tie.Need-enum-told-2
 enum-told-2 c = search needs
 
--- src/lib.rt:43:5
 check-numbers-requires : tie.Need-check-numbers-requires
 check-numbers-requires c κs = search needs
 
--- src/lib.rt:32:1
 returns-3 : tie.Need-returns-3
 returns-3 c =
     let second = c .before .before .before in

@@ -13,18 +13,15 @@ use Rattle.foundry.proofs.is_whole.Reads as is-whole-reads
 use Rattle.foundry_quads.proofs.first_fault.Reads as first-fault-reads
 use Rattle.foundry_vertices.proofs.first_fault.Reads as first-fault-reads′
 
--- src/lib.rt:87:9
 first-fault-requires : tie.Need-first-fault-requires
 first-fault-requires c κs = search needs
 
--- src/lib.rt:89:9
 returns : tie.Need-returns
 returns c =
     let first = c .before .before .before .before .before .before in
     let a = first .args in
     ap accepted (vertex-named (a .size) (a .samples .now) (a .cut) (a .words .now) (a .offsets .now) (a .quads .now) (c .before .first-fault .result) (c .before .first-fault .ensures) (c .if1 .taken))
 
--- src/lib.rt:91:9
 first-fault-requires-2 : tie.Need-first-fault-requires-2
 first-fault-requires-2 c κs =
     let first = c .before .before .before .before .before .before in
@@ -32,7 +29,6 @@ first-fault-requires-2 c κs =
     let sound = all-sound (a .size) (a .samples .now) (a .cut) (a .words .now) (a .offsets .now) (a .quads .now) (c .before .first-fault .result) (c .before .first-fault .ensures) (c .if1 .left) in
     (first .pre .0, all-inside (a .size) (a .samples .now) (a .cut) (a .words .now) (a .offsets .now) (a .quads .now) sound (first .pre .1 .1) (first .pre .1 .0 .few))
 
--- src/lib.rt:93:9
 returns-2 : tie.Need-returns-2
 returns-2 c =
     let faulted = c .before .before in
@@ -40,11 +36,9 @@ returns-2 c =
     let a = first .args in
     ap accepted (quad-named (a .size) (a .samples .now) (a .cut) (a .words .now) (a .offsets .now) (a .quads .now) (faulted .before .first-fault .result) (faulted .before .first-fault .ensures) (first .pre .1 .1) (faulted .if1 .left) (c .before .first-fault2 .result) (c .before .first-fault2 .ensures) (c .if2 .taken))
 
--- src/lib.rt:95:8
 is-whole-requires : tie.Need-is-whole-requires
 is-whole-requires c κs = search needs
 
--- src/lib.rt:96:9
 returns-3 : tie.Need-returns-3
 returns-3 c =
     let quads = c .before .before in
@@ -53,7 +47,6 @@ returns-3 c =
     let a = first .args in
     ap accepted (same-named (a .size) (a .samples .now) (a .cut) (a .words .now) (a .offsets .now) (a .quads .now) (vertices .before .first-fault .result) (vertices .before .first-fault .ensures) (first .pre .1 .1) (vertices .if1 .left) (quads .before .first-fault2 .result) (quads .before .first-fault2 .ensures) (quads .if2 .left) (c .before .is-whole .result) (c .before .is-whole .ensures) (c .if3 .taken))
 
--- src/lib.rt:72:1
 returns-4 : tie.Need-returns-4
 returns-4 c =
     let quads = c .before .before in

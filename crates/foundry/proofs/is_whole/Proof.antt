@@ -9,30 +9,24 @@ use Rattle.foundry.proofs.is_whole.Reads as reads
 use Rattle.foundry.proofs.is_whole.Lts as lts
 use Rattle.mesh.proofs.counts_from.Reads as counts-from-reads
 
--- src/lib.rt:64:66
 slice-aggregate-counts-from : tie.Need-slice-aggregate-counts-from
 slice-aggregate-counts-from c = search needs
 
--- src/lib.rt:64:9
 counts-from-requires : tie.Need-counts-from-requires
 counts-from-requires c κs = (c .before .before .pre, λ e. absurd (not-readings e))
 
--- src/lib.rt:65:20
 cast-if1 : tie.Need-cast-if1
 cast-if1 c = search needs
 
--- src/lib.rt:66:9
 returns : tie.Need-returns
 returns c =
     let counted = c .before .before in
     let a = counted .before .before .before .args in
     not-as-many (a .size) (a .samples .now) (a .cut) (a .vertices) (a .quads) (counted .counts-from .result) (counted .counts-from .ensures) (c .if1 .taken)
 
--- src/lib.rt:68:14
 cast-result : tie.Need-cast-result
 cast-result c = search needs
 
--- src/lib.rt:59:1
 returns-2 : tie.Need-returns-2
 returns-2 c =
     let counted = c .before .before .before in

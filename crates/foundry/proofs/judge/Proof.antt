@@ -15,26 +15,21 @@ use Rattle.foundry.proofs.judge.Lts as lts
 use Rattle.block.proofs.Size.new.Reads as new-reads
 use Rattle.foundry.proofs.judge_in.Reads as judge-in-reads
 
--- src/lib.rt:134:9
 new-requires : tie.Need-new-requires
 new-requires c κs = search needs
 
--- src/lib.rt:136:24
 enum-known-made : tie.Need-enum-known-made
 enum-known-made c = search needs
 
--- src/lib.rt:140:21
 enum-known-made-2 : tie.Need-enum-known-made-2
 enum-known-made-2 c = search needs
 
--- src/lib.rt:140:30
 judge-in-requires : tie.Need-judge-in-requires
 judge-in-requires c κs =
     let n = c .before .before .before in
     let a = n .before .before .before .before .before in
     size-made (a .args .nx) (a .args .ny) (a .args .nz) _ (subst (SizeMade (a .args .nx) (a .args .ny) (a .args .nz)) (c .before .made2 .given .1) (n .new .ensures)) .1
 
--- src/lib.rt:122:1
 returns : tie.Need-returns
 returns c =
     let n = c .before .before .before in
@@ -42,7 +37,6 @@ returns c =
     axis-judged (a .args .nx) (a .args .ny) (a .args .nz) (λ n. blockRows n (a .args .samples .now) (a .args .cut) ++ sentRows (a .args .words .now) (a .args .offsets .now) (a .args .quads .now)) _ _
     (subst (SizeMade (a .args .nx) (a .args .ny) (a .args .nz)) (c .before .made .given .1) (n .new .ensures))
 
--- src/lib.rt:122:1
 returns-2 : tie.Need-returns-2
 returns-2 c =
     let n = c .before .before .before .before in

@@ -1,6 +1,6 @@
 -- `judge_in` meets its contract: a refusal, or what is found.
 -- Assumes nothing.
-use mathlib.Core.Path.{_≡_, sym, ap, _∙_}
+use mathlib.Core.Path.{sym, _∙_}
 use Rattle.block.proofs.Order.{judged-refused}
 use Rattle.foundry.proofs.Rows.{sent-sampled, sent-shaped, sent-below, judged-accepts}
 use borrow.Author.Needs.{needs}
@@ -11,22 +11,18 @@ use Rattle.foundry.proofs.judge_in.Lts as lts
 use Rattle.foundry.proofs.check.Reads as check-reads
 use Rattle.foundry.proofs.compare.Reads as compare-reads
 
--- src/lib.rt:113:9
 check-requires : tie.Need-check-requires
 check-requires c κs = search needs
 
--- src/lib.rt:114:29
 enum-known-checked : tie.Need-enum-known-checked
 enum-known-checked c = search needs
 
--- src/lib.rt:115:9
 returns : tie.Need-returns
 returns c = judged-refused _ _ _ (sym (c .before .before .before .check .ensures) ∙ c .before .checked .given .1)
 
 enum-told : tie.Need-enum-told
 enum-told c = search needs
 
--- src/lib.rt:117:5
 compare-requires : tie.Need-compare-requires
 compare-requires c κs =
     let first = c .before .before .before .before .before .before .before in
@@ -39,7 +35,6 @@ compare-requires c κs =
       ),
     )
 
--- src/lib.rt:102:1
 returns-2 : tie.Need-returns-2
 returns-2 c =
     let told = c .before in

@@ -1,7 +1,7 @@
 -- `first_again` meets its contract: the limit is the first repeat among the vertices whose cubes are in the ranges before.
 -- Assumes nothing.
-use Prim.Native.Nat.{ℕ, _*_, _-_, _≤_, _<_}
-use mathlib.Core.Path.{_≡_, sym, _∙_}
+use Prim.Native.Nat.{_*_, _-_, _≤_}
+use mathlib.Core.Path.{_≡_}
 use native.Mathlib.Omega.{arith}
 use borrow.Author.Needs.{needs}
 use Rattle.laws.specs.Leading.{leading}
@@ -21,36 +21,29 @@ Inv-loop size samples cut words m end limit₀ r₀ limit r = (limit ≤ m) × (
 abbrev μ-loop : tie.MeasureT-loop
 μ-loop size samples cut words m end limit₀ r₀ limit r = 254 - r
 
--- src/lib.rt:258:9
 cubes-requires : tie.Need-cubes-requires Inv-loop μ-loop
 cubes-requires c κs = search needs
 
--- src/lib.rt:261:5
 loop-holds : tie.Need-loop-holds Inv-loop μ-loop
 loop-holds c = let first = c .before .before .before in (omega arith, ranges-none (first .args .size) (first .args .samples .now) (first .args .cut) (first .args .words .now) (first .args .m), omega arith)
 
--- src/lib.rt:261:11
 mul-loop : tie.Need-mul-loop Inv-loop μ-loop
 mul-loop c = omega (arith, c .loop .inv .2)
 
--- src/lib.rt:262:9
 pass-requires : tie.Need-pass-requires Inv-loop μ-loop
 pass-requires c κs =
     let first = c .before .before .before .before .before in
     let l = c .before .loop in
     (first .pre .0, (search needs, λ v k. first .pre .1 .1 v (omega (arith, k, l .inv .0))))
 
--- src/lib.rt:263:9
 add-r : tie.Need-add-r Inv-loop μ-loop
 add-r c = search needs
 
--- src/lib.rt:261:5
 loop-less : tie.Need-loop-less Inv-loop μ-loop
 loop-less c =
     let first = c .before .before .before .before .before .before in
     omega (arith, few-ranges (first .args .size) (first .pre .0 .limits) (c .before .before .loop .r) (omega (arith, c .before .loop-test .taken, c .before .before .before .cubes .ensures)))
 
--- src/lib.rt:261:5
 loop-again : tie.Need-loop-again Inv-loop μ-loop
 loop-again c =
     let first = c .before .before .before .before .before .before in
@@ -59,7 +52,6 @@ loop-again c =
     let few = few-ranges (first .args .size) (first .pre .0 .limits) (l .r) (omega (arith, c .before .loop-test .taken, c .before .before .before .cubes .ensures)) in
     (omega (arith, more .0, l .inv .0), more .1, omega (arith, few))
 
--- src/lib.rt:252:1
 returns : tie.Need-returns Inv-loop μ-loop
 returns c =
     let first = c .before .before .before .before .before in

@@ -1,7 +1,5 @@
 -- `first_fault` meets its promise: the first look, and behind it the repeats.
 -- Assumes nothing.
-use Prim.Native.Nat.{ℕ}
-use native.Mathlib.Omega.{arith}
 use Rattle.laws.proofs.Tests.{and-both}
 use Rattle.vertex_lists.specs.Rows.{offsetInside}
 use Rattle.foundry_rule.specs.Judged.{vertexTotal}
@@ -17,15 +15,12 @@ use Rattle.foundry_vertices.proofs.first_fault.Lts as lts
 use Rattle.foundry_vertices.proofs.first_again.Reads as first-again-reads
 use Rattle.foundry_vertices.proofs.look_through.Reads as look-through-reads
 
--- src/lib.rt:256:9
 look-through-requires : tie.Need-look-through-requires
 look-through-requires c κs = search needs
 
--- src/lib.rt:258:9
 returns : tie.Need-returns
 returns c = let seen = c .before .look-through in rising-fault _ _ _ (seen .result .at) (seen .ensures .0) (seen .ensures .1 (c .if1 .taken))
 
--- src/lib.rt:260:5
 first-again-requires : tie.Need-first-again-requires
 first-again-requires c κs =
     let seen = c .before .look-through in
@@ -40,7 +35,6 @@ first-again-requires c κs =
       ),
     )
 
--- src/lib.rt:251:1
 returns-2 : tie.Need-returns-2
 returns-2 c = let seen = c .before .before .look-through in again-fault _ _ _ (seen .result .at) (seen .ensures .0) (c .first-again .result) (c .first-again .ensures)
 

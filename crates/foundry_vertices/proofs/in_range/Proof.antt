@@ -7,11 +7,9 @@ use Rattle.foundry_vertices.proofs.in_range.Tie as tie
 use Rattle.foundry_vertices.proofs.in_range.Reads as reads
 use Rattle.foundry_vertices.proofs.in_range.Lts as lts
 
--- src/lib.rt:136:9
 returns : tie.Need-returns
 returns c = (rw (eq-eqb _ _ (c .if1 .taken)), omega arith)
 
--- src/lib.rt:131:1
 returns-2 : tie.Need-returns-2
 returns-2 c = (rw (ne-eqb _ _ (c .if1 .left)), omega arith)
 

@@ -12,19 +12,15 @@ use Rattle.foundry_vertices.proofs.is_far.Reads as reads
 use Rattle.foundry_vertices.proofs.is_far.Lts as lts
 use Rattle.foundry_vertices.proofs.near.Reads as near-reads
 
--- src/lib.rt:160:8
 sub-if1 : tie.Need-sub-if1
 sub-if1 c = search needs
 
--- src/lib.rt:161:9
 returns : tie.Need-returns
 returns c e = absurd (true≢false (sym e))
 
--- src/lib.rt:163:5
 near-requires : tie.Need-near-requires
 near-requires c κs = search needs
 
--- src/lib.rt:156:1
 returns-2 : tie.Need-returns-2
 returns-2 c e i g l =
     let first = c .before .before .before in

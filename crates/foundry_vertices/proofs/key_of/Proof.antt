@@ -8,15 +8,12 @@ use Rattle.foundry_vertices.proofs.key_of.Tie as tie
 use Rattle.foundry_vertices.proofs.key_of.Reads as reads
 use Rattle.foundry_vertices.proofs.key_of.Lts as lts
 
--- src/lib.rt:103:5
 mul-result : tie.Need-mul-result
 mul-result c = search needs
 
--- src/lib.rt:103:5
 add-result : tie.Need-add-result
 add-result c = search needs
 
--- src/lib.rt:98:1
 returns : tie.Need-returns
 returns c = (refl, omega arith)
 

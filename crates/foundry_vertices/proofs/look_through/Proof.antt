@@ -26,15 +26,12 @@ Inv-loop size samples cut words offsets count rises₀ last₀ v₀ rises last v
 abbrev μ-loop : tie.MeasureT-loop
 μ-loop size samples cut words offsets count rises₀ last₀ v₀ rises last v = length words / 2 - v
 
--- src/lib.rt:117:5
 loop-holds : tie.Need-loop-holds Inv-loop μ-loop
 loop-holds c = (search needs, holds-to-none _, rising-none _, omega arith)
 
--- src/lib.rt:118:13
 sound-place-requires : tie.Need-sound-place-requires Inv-loop μ-loop
 sound-place-requires c κs = search needs
 
--- src/lib.rt:120:13
 returns : tie.Need-returns Inv-loop μ-loop
 returns c =
     let l = c .before .before .before in
@@ -44,39 +41,30 @@ returns c =
       l .loop .inv .2 .new,
     )
 
--- src/lib.rt:122:32
 mul-key-of : tie.Need-mul-key-of Inv-loop μ-loop
 mul-key-of c = search needs
 
--- src/lib.rt:122:26
 mul-key-of-2 : tie.Need-mul-key-of-2 Inv-loop μ-loop
 mul-key-of-2 c = search needs
 
--- src/lib.rt:122:26
 shared-slice-read-key-of : tie.Need-shared-slice-read-key-of Inv-loop μ-loop
 shared-slice-read-key-of c = search needs
 
--- src/lib.rt:122:13
 key-of-requires : tie.Need-key-of-requires Inv-loop μ-loop
 key-of-requires c κs = search needs
 
--- src/lib.rt:123:9
 still-requires : tie.Need-still-requires Inv-loop μ-loop
 still-requires c κs = search needs
 
--- src/lib.rt:124:16
 add-last : tie.Need-add-last Inv-loop μ-loop
 add-last c = search needs
 
--- src/lib.rt:125:9
 add-v : tie.Need-add-v Inv-loop μ-loop
 add-v c = search needs
 
--- src/lib.rt:117:5
 loop-less : tie.Need-loop-less Inv-loop μ-loop
 loop-less c = search needs
 
--- src/lib.rt:117:5
 loop-again : tie.Need-loop-again Inv-loop μ-loop
 loop-again c =
     let placed = c .before .before .before .before in
@@ -86,7 +74,6 @@ loop-again c =
     let key = c .before .key-of .ensures .0 ∙ ap (λ (p : ℕ). 4 * getD (first .args .words .now) (2 * l .loop .v) 0 + p) (placed .sound-place .ensures .0 ∙ sound .1) in
     (search needs, holds-more _ _ (l .loop .inv .1) (sound .0), rw (c .still .ensures, key) (rising-more _ (l .loop .v) (l .loop .last) (l .loop .rises) (l .loop .inv .2)), omega (arith, c .before .key-of .ensures .1))
 
--- src/lib.rt:107:1
 returns-2 : tie.Need-returns-2 Inv-loop μ-loop
 returns-2 c =
     let l = c .before .loop in

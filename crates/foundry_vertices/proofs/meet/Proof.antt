@@ -14,19 +14,15 @@ use Rattle.foundry_vertices.proofs.key_of.Reads as key-of-reads
 use Rattle.foundry_vertices.proofs.place_in.Reads as place-in-reads
 use Rattle.repeats.proofs.mark.Reads as mark-reads
 
--- src/lib.rt:183:19
 mul-c : tie.Need-mul-c
 mul-c c = search needs
 
--- src/lib.rt:183:13
 mul-c-2 : tie.Need-mul-c-2
 mul-c-2 c = search needs
 
--- src/lib.rt:183:13
 shared-slice-read-c : tie.Need-shared-slice-read-c
 shared-slice-read-c c = search needs
 
--- src/lib.rt:185:9
 returns : tie.Need-returns
 returns c =
     let first = c .before .before .before .before .before in (
@@ -34,31 +30,24 @@ returns c =
       passed-far (first .args .size) (first .args .samples .now) (first .args .cut) (first .args .words .now) (first .args .r) (first .args .v) (first .pre .1 .1 .0) (c .if1 .taken) (first .args .table .now) (first .pre .1 .1 .1),
     )
 
--- src/lib.rt:187:55
 mul-place-in : tie.Need-mul-place-in
 mul-place-in c = search needs
 
--- src/lib.rt:187:55
 add-place-in : tie.Need-add-place-in
 add-place-in c = search needs
 
--- src/lib.rt:187:49
 mul-place-in-2 : tie.Need-mul-place-in-2
 mul-place-in-2 c = search needs
 
--- src/lib.rt:187:49
 shared-slice-read-place-in : tie.Need-shared-slice-read-place-in
 shared-slice-read-place-in c = search needs
 
--- src/lib.rt:187:9
 place-in-requires : tie.Need-place-in-requires
 place-in-requires c κs = search needs
 
--- src/lib.rt:188:26
 key-of-requires : tie.Need-key-of-requires
 key-of-requires c κs = search needs
 
--- src/lib.rt:188:5
 mark-requires : tie.Need-mark-requires
 mark-requires c κs =
     let placed = c .before .before in
@@ -67,11 +56,9 @@ mark-requires c κs =
     let key = c .key-of .ensures .0 ∙ ap (λ (p : ℕ). 4 * (getD (first .args .words .now) (2 * first .args .v) 0 % 65536) + p) (placed .place-in .ensures .0) in
     omega (arith, first .pre .1 .1 .1 .long, near-lt (first .args .size) (first .args .samples .now) (first .args .cut) (first .args .words .now) (first .args .r) (first .args .v) (first .pre .1 .1 .0) (entered .if1 .left) (c .key-of .result) key)
 
--- src/lib.rt:167:1
 same-length : tie.Need-same-length
 same-length c = search needs
 
--- src/lib.rt:167:1
 returns-2 : tie.Need-returns-2
 returns-2 c =
     let keyed = c .before .before .before in

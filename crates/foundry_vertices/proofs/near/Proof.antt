@@ -20,49 +20,38 @@ Inv-loop words r v n₀ i₀ n i = (i ≤ 64) × (n ≡ count (λ (k : ℕ). inR
 abbrev μ-loop : tie.MeasureT-loop
 μ-loop words r v n₀ i₀ n i = 64 - i
 
--- src/lib.rt:148:5
 loop-holds : tie.Need-loop-holds Inv-loop μ-loop
 loop-holds c = (omega arith, sym (count-none _), omega arith)
 
--- src/lib.rt:149:37
 add-in-range : tie.Need-add-in-range Inv-loop μ-loop
 add-in-range c = search needs
 
--- src/lib.rt:149:32
 mul-in-range : tie.Need-mul-in-range Inv-loop μ-loop
 mul-in-range c = search needs
 
--- src/lib.rt:149:26
 mul-in-range-2 : tie.Need-mul-in-range-2 Inv-loop μ-loop
 mul-in-range-2 c = search needs
 
--- src/lib.rt:149:26
 shared-slice-read-in-range : tie.Need-shared-slice-read-in-range Inv-loop μ-loop
 shared-slice-read-in-range c = search needs
 
--- src/lib.rt:149:14
 in-range-requires : tie.Need-in-range-requires Inv-loop μ-loop
 in-range-requires c κs = search needs
 
--- src/lib.rt:149:9
 add-n : tie.Need-add-n Inv-loop μ-loop
 add-n c = search needs
 
--- src/lib.rt:150:9
 add-i : tie.Need-add-i Inv-loop μ-loop
 add-i c = search needs
 
--- src/lib.rt:148:5
 loop-less : tie.Need-loop-less Inv-loop μ-loop
 loop-less c = search needs
 
--- src/lib.rt:148:5
 loop-again : tie.Need-loop-again Inv-loop μ-loop
 loop-again c =
     let l = c .before .before .before .loop in
     (search needs, ap₂ (λ (a b : ℕ). a + b) (l .inv .1) (c .in-range .ensures .0) ∙ sym (count-next _ (l .i)), omega (arith, l .inv .2, c .in-range .ensures .1))
 
--- src/lib.rt:142:1
 returns : tie.Need-returns Inv-loop μ-loop
 returns c = let l = c .before .loop in l .inv .1 ∙ ap (count _) (omega arith)
 

@@ -1,7 +1,6 @@
 -- `pass` meets its contract: the table has a bit for each vertex of the chunks before, and none of these is repeated.
 -- Assumes nothing.
-use Prim.Native.Nat.{ℕ, _*_, _-_, _≤_, _<_}
-use mathlib.Core.Path.{_≡_, sym, _∙_}
+use Prim.Native.Nat.{_*_, _-_, _≤_}
 use native.Mathlib.Omega.{arith}
 use borrow.Author.Needs.{needs}
 use borrow.Author.Tests.{not-false}
@@ -23,41 +22,33 @@ Inv-loop size samples cut words r limit table₀ v₀ table v = (v ≤ limit) ×
 abbrev μ-loop : tie.MeasureT-loop
 μ-loop size samples cut words r limit table₀ v₀ table v = limit - v
 
--- src/lib.rt:238:5
 loop-holds : tie.Need-loop-holds Inv-loop μ-loop
 loop-holds c = (search needs, table-new _ _, λ i g l. absurd (omega arith))
 
--- src/lib.rt:239:13
 chunk-end-requires : tie.Need-chunk-end-requires Inv-loop μ-loop
 chunk-end-requires c κs = search needs
 
--- src/lib.rt:240:13
 is-far-requires : tie.Need-is-far-requires Inv-loop μ-loop
 is-far-requires c κs = search needs
 
--- src/lib.rt:241:63
 slice-aggregate-run : tie.Need-slice-aggregate-run Inv-loop μ-loop
 slice-aggregate-run c = search needs
 
--- src/lib.rt:241:17
 run-requires : tie.Need-run-requires Inv-loop μ-loop
 run-requires c κs =
     let first = c .before .before .before .before .before .before .before .before in
     let e = c .before .before .before .chunk-end .ensures in
     (first .pre .0, ((search needs, search needs), (λ v l. first .pre .1 .1 v (omega (arith, e .1, l)), c .before .before .before .before .before .loop .inv .1)))
 
--- src/lib.rt:243:17
 returns : tie.Need-returns Inv-loop μ-loop
 returns c =
     let ended = c .before .before .before .before .before .before in
     let l = ended .before .before .loop in
     pass-stops _ _ _ (l .v) (ended .chunk-end .result) (c .before .before .run .result) _ (ended .chunk-end .ensures .1) (l .inv .2) (c .before .before .run .ensures) (c .if2 .taken)
 
--- src/lib.rt:238:5
 loop-less : tie.Need-loop-less Inv-loop μ-loop
 loop-less c = search needs
 
--- src/lib.rt:238:5
 loop-again : tie.Need-loop-again Inv-loop μ-loop
 loop-again c =
     let ended = c .before .before .before .before .before .before in
@@ -67,11 +58,9 @@ loop-again c =
       pass-new _ _ _ (l .v) (ended .chunk-end .result) (c .before .before .run .result) _ (ended .chunk-end .ensures .1) (l .inv .2) (c .before .before .run .ensures) (c .if2 .left),
     )
 
--- src/lib.rt:238:5
 loop-less-2 : tie.Need-loop-less-2 Inv-loop μ-loop
 loop-less-2 c = search needs
 
--- src/lib.rt:238:5
 loop-again-2 : tie.Need-loop-again-2 Inv-loop μ-loop
 loop-again-2 c =
     let ended = c .before .before in
@@ -80,7 +69,6 @@ loop-again-2 c =
     let far = far-outside (first .args .size) (first .args .samples .now) (first .args .cut) (first .args .words .now) (first .args .r) (l .v) (ended .chunk-end .result) (λ i k. first .pre .1 .1 i (omega (arith, ended .chunk-end .ensures .1, k))) (c .before .is-far .ensures (not-false _ (c .if1 .left))) in
     (ended .chunk-end .ensures .1, far-table _ _ (l .v) (ended .chunk-end .result) (search needs) far (l .table) (l .inv .1), far-joined _ _ (l .v) (ended .chunk-end .result) (search needs) far (l .inv .2))
 
--- src/lib.rt:230:1
 returns-2 : tie.Need-returns-2 Inv-loop μ-loop
 returns-2 c =
     let l = c .before .loop in

@@ -8,41 +8,32 @@ use Rattle.foundry_vertices.proofs.place_among.Tie as tie
 use Rattle.foundry_vertices.proofs.place_among.Reads as reads
 use Rattle.foundry_vertices.proofs.place_among.Lts as lts
 
--- src/lib.rt:30:13
 array-read-if1 : tie.Need-array-read-if1
 array-read-if1 c = search needs
 
--- src/lib.rt:31:9
 returns : tie.Need-returns
 returns c = (place-0 (c .before .args .m) (c .before .args .t2) (c .if1 .taken), omega arith)
 
--- src/lib.rt:33:13
 array-read-if2 : tie.Need-array-read-if2
 array-read-if2 c = search needs
 
--- src/lib.rt:34:9
 returns-2 : tie.Need-returns-2
 returns-2 c = (place-1 (c .before .before .args .m) (c .before .before .args .t2) (c .before .if1 .left) (c .if2 .taken), omega arith)
 
--- src/lib.rt:36:13
 array-read-if3 : tie.Need-array-read-if3
 array-read-if3 c = search needs
 
--- src/lib.rt:37:9
 returns-3 : tie.Need-returns-3
 returns-3 c = let first = c .before .before .before in (place-2 (first .args .m) (first .args .t2) (c .before .before .if1 .left) (c .before .if2 .left) (c .if3 .taken), omega arith)
 
--- src/lib.rt:39:13
 array-read-if4 : tie.Need-array-read-if4
 array-read-if4 c = search needs
 
--- src/lib.rt:40:9
 returns-4 : tie.Need-returns-4
 returns-4 c =
     let first = c .before .before .before .before in
     (place-3 (first .args .m) (first .args .t2) (c .before .before .before .if1 .left) (c .before .before .if2 .left) (c .before .if3 .left) (c .if4 .taken), omega arith)
 
--- src/lib.rt:26:1
 returns-5 : tie.Need-returns-5
 returns-5 c =
     let first = c .before .before .before .before in

@@ -1,6 +1,6 @@
 -- `place_in` meets its contract.
 -- Assumes nothing.
-use mathlib.Core.Path.{_∙_, sym}
+use mathlib.Core.Path.{_∙_}
 use native.Mathlib.Omega.{arith}
 use Rattle.foundry_vertices.proofs.Places.{no-cube, in-cube}
 use borrow.Author.Needs.{needs}
@@ -12,25 +12,20 @@ use Rattle.cube_spots.proofs.corners_of.Reads as corners-of-reads
 use Rattle.foundry_vertices.proofs.word_place.Reads as word-place-reads
 use Rattle.vertex_lists.proofs.cubes.Reads as cubes-reads
 
--- src/lib.rt:76:13
 cubes-requires : tie.Need-cubes-requires
 cubes-requires c κs = search needs
 
--- src/lib.rt:77:9
 returns : tie.Need-returns
 returns c =
     let first = c .before .before .before in
     (no-cube (first .args .size) (first .args .samples .now) (first .args .cut) (first .args .c) (first .args .w) (rw (c .before .cubes .ensures) at (c .if1 .taken)), omega arith)
 
--- src/lib.rt:79:16
 corners-of-requires : tie.Need-corners-of-requires
 corners-of-requires c κs = search needs
 
--- src/lib.rt:79:5
 word-place-requires : tie.Need-word-place-requires
 word-place-requires c κs = search needs
 
--- src/lib.rt:71:1
 returns-2 : tie.Need-returns-2
 returns-2 c =
     let cornered = c .before in

@@ -21,36 +21,29 @@ Inv-loop size samples cut words r from end table₀ v₀ table v = (from ≤ v) 
 abbrev μ-loop : tie.MeasureT-loop
 μ-loop size samples cut words r from end table₀ v₀ table v = end - v
 
--- src/lib.rt:209:5
 loop-holds : tie.Need-loop-holds Inv-loop μ-loop
 loop-holds c = let first = c .before .before .before in (omega arith, first .pre .1 .0 .0, first .pre .1 .1 .1, λ i g l. absurd (omega arith))
 
--- src/lib.rt:210:12
 meet-requires : tie.Need-meet-requires Inv-loop μ-loop
 meet-requires c κs =
     let first = c .before .before .before .before .before .before in
     let l = c .before .before .loop in
     (first .pre .0, (search needs, (first .pre .1 .1 .0 (l .v) (search needs), l .inv .2)))
 
--- src/lib.rt:211:13
 same-length : tie.Need-same-length Inv-loop μ-loop
 same-length c = search needs
 
--- src/lib.rt:211:13
 returns : tie.Need-returns Inv-loop μ-loop
 returns c =
     let l = c .before .before .before .before .before .before .loop in
     run-stops _ _ _ _ (l .v) _ (search needs) (l .inv .3) (not-true _ (sym (c .before .before .before .meet .ensures .0) ∙ c .if1 .taken))
 
--- src/lib.rt:213:9
 add-v : tie.Need-add-v Inv-loop μ-loop
 add-v c = search needs
 
--- src/lib.rt:209:5
 loop-less : tie.Need-loop-less Inv-loop μ-loop
 loop-less c = search needs
 
--- src/lib.rt:209:5
 loop-again : tie.Need-loop-again Inv-loop μ-loop
 loop-again c =
     let l = c .before .before .before .before .before .before .loop in
@@ -58,11 +51,9 @@ loop-again c =
     let first = c .before .before .before .before .before .before .before .before .before .before in
     (search needs, search needs, met .meet .ensures .1, new-more (vertexKey (first .args .words .now) (first .args .size) (first .args .samples .now) (first .args .cut)) (262144 * first .args .r) (first .args .from) (l .v) (l .inv .3) (not-false _ (sym (met .meet .ensures .0) ∙ c .if1 .left)))
 
--- src/lib.rt:192:1
 same-length-2 : tie.Need-same-length-2 Inv-loop μ-loop
 same-length-2 c = search needs
 
--- src/lib.rt:192:1
 returns-2 : tie.Need-returns-2 Inv-loop μ-loop
 returns-2 c = let l = c .before .loop in run-ends _ _ _ _ (l .v) (l .table) (search needs) (l .inv .3) (l .inv .2)
 

@@ -12,85 +12,65 @@ use Rattle.foundry_vertices.proofs.sound_place.Lts as lts
 use Rattle.foundry_vertices.proofs.place_in.Reads as place-in-reads
 use Rattle.vertex_lists.proofs.all_in_unit.Reads as all-in-unit-reads
 
--- src/lib.rt:90:13
 mul-n : tie.Need-mul-n
 mul-n c = search needs
 
--- src/lib.rt:91:35
 mul-all-in-unit : tie.Need-mul-all-in-unit
 mul-all-in-unit c = search needs
 
--- src/lib.rt:91:35
 shared-slice-read-all-in-unit : tie.Need-shared-slice-read-all-in-unit
 shared-slice-read-all-in-unit c = search needs
 
--- src/lib.rt:91:55
 add-all-in-unit : tie.Need-add-all-in-unit
 add-all-in-unit c = search needs
 
--- src/lib.rt:91:47
 mul-all-in-unit-2 : tie.Need-mul-all-in-unit-2
 mul-all-in-unit-2 c = search needs
 
--- src/lib.rt:91:47
 shared-slice-read-all-in-unit-2 : tie.Need-shared-slice-read-all-in-unit-2
 shared-slice-read-all-in-unit-2 c = search needs
 
--- src/lib.rt:91:71
 add-all-in-unit-2 : tie.Need-add-all-in-unit-2
 add-all-in-unit-2 c = search needs
 
--- src/lib.rt:91:63
 mul-all-in-unit-3 : tie.Need-mul-all-in-unit-3
 mul-all-in-unit-3 c = search needs
 
--- src/lib.rt:91:63
 shared-slice-read-all-in-unit-3 : tie.Need-shared-slice-read-all-in-unit-3
 shared-slice-read-all-in-unit-3 c = search needs
 
--- src/lib.rt:91:9
 all-in-unit-requires : tie.Need-all-in-unit-requires
 all-in-unit-requires c κs = search needs
 
--- src/lib.rt:92:9
 returns : tie.Need-returns
 returns c =
     let first = c .before .before .before .before .before .before .before .before in
     (offset-bad (first .args .size) (first .args .samples .now) (first .args .cut) (first .args .words .now) (first .args .offsets .now) (first .args .v) (sym (c .before .all-in-unit .ensures) ∙ not-true _ (c .if1 .taken)), omega arith)
 
--- src/lib.rt:94:40
 mul-place-in : tie.Need-mul-place-in
 mul-place-in c = search needs
 
--- src/lib.rt:94:34
 mul-place-in-2 : tie.Need-mul-place-in-2
 mul-place-in-2 c = search needs
 
--- src/lib.rt:94:34
 shared-slice-read-place-in : tie.Need-shared-slice-read-place-in
 shared-slice-read-place-in c = search needs
 
--- src/lib.rt:94:54
 mul-place-in-3 : tie.Need-mul-place-in-3
 mul-place-in-3 c = search needs
 
--- src/lib.rt:94:54
 add-place-in : tie.Need-add-place-in
 add-place-in c = search needs
 
--- src/lib.rt:94:48
 mul-place-in-4 : tie.Need-mul-place-in-4
 mul-place-in-4 c = search needs
 
--- src/lib.rt:94:48
 shared-slice-read-place-in-2 : tie.Need-shared-slice-read-place-in-2
 shared-slice-read-place-in-2 c = search needs
 
--- src/lib.rt:94:5
 place-in-requires : tie.Need-place-in-requires
 place-in-requires c κs = search needs
 
--- src/lib.rt:83:1
 returns-2 : tie.Need-returns-2
 returns-2 c =
     let unit = c .before .before .before in

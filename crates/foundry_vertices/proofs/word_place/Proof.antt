@@ -13,23 +13,18 @@ use Rattle.cube.proofs.crossed_in.Reads as crossed-in-reads
 use Rattle.cube.proofs.loops_of.Reads as loops-of-reads
 use Rattle.foundry_vertices.proofs.place_among.Reads as place-among-reads
 
--- src/lib.rt:53:9
 mark-requires : tie.Need-mark-requires
 mark-requires c κs = search needs
 
--- src/lib.rt:55:9
 returns : tie.Need-returns
 returns c = let first = c .before .before in (found-low (first .args .cut) (first .args .corners) (first .args .w) (c .before .mark .result) (c .before .mark .ensures .0) (c .if1 .taken), omega arith)
 
--- src/lib.rt:57:13
 sub-m : tie.Need-sub-m
 sub-m c = search needs
 
--- src/lib.rt:58:9
 crossed-in-requires : tie.Need-crossed-in-requires
 crossed-in-requires c κs = search needs
 
--- src/lib.rt:61:13
 returns-2 : tie.Need-returns-2
 returns-2 c =
     let crossed = c .before .before in
@@ -40,7 +35,6 @@ returns-2 c =
       omega arith,
     )
 
--- src/lib.rt:63:9
 returns-3 : tie.Need-returns-3
 returns-3 c =
     let crossed = c .before .before in
@@ -51,15 +45,12 @@ returns-3 c =
       omega arith,
     )
 
--- src/lib.rt:65:9
 loops-of-requires : tie.Need-loops-of-requires
 loops-of-requires c κs = search needs
 
--- src/lib.rt:67:5
 place-among-requires : tie.Need-place-among-requires
 place-among-requires c κs = search needs
 
--- src/lib.rt:49:1
 returns-4 : tie.Need-returns-4
 returns-4 c =
     let looped = c .before .before in

@@ -13,27 +13,21 @@ use Rattle.foundry.proofs.judge.Reads as judge-reads
 use Rattle.parsniprow_c.proofs.put.Reads as put-reads
 use Rattle.told.proofs.tell_judgement.Reads as tell-judgement-reads
 
--- src/lib.rt:298:9
 judge-requires : tie.Need-judge-requires
 judge-requires c κs = search needs
 
--- src/lib.rt:311:16
 tell-judgement-requires : tie.Need-tell-judgement-requires
 tell-judgement-requires c κs = search needs
 
--- src/lib.rt:312:17
 slice-aggregate-put : tie.Need-slice-aggregate-put
 slice-aggregate-put c = search needs
 
--- src/lib.rt:312:5
 put-requires : tie.Need-put-requires
 put-requires c κs = search needs
 
--- src/lib.rt:283:1
 same-length : tie.Need-same-length
 same-length c = search needs
 
--- src/lib.rt:283:1
 returns : tie.Need-returns
 returns c =
     let answer-put = c .before .before in

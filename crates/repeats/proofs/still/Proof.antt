@@ -6,11 +6,9 @@ use Rattle.repeats.proofs.still.Tie as tie
 use Rattle.repeats.proofs.still.Reads as reads
 use Rattle.repeats.proofs.still.Lts as lts
 
--- src/lib.rt:27:9
 returns : tie.Need-returns
 returns c = rw (lt-leb (c .before .args .last) (c .before .args .key) (c .if1 .taken))
 
--- src/lib.rt:23:1
 returns-2 : tie.Need-returns-2
 returns-2 c = rw (le-leb (c .before .args .last) (c .before .args .key) (c .if1 .left))
 

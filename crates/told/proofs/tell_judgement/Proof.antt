@@ -14,55 +14,43 @@ use Rattle.told.proofs.tell_judgement.Reads as reads
 use Rattle.told.proofs.tell_judgement.Lts as lts
 use Rattle.block.proofs.short.Reads as short-reads
 
--- src/lib.rt:153:28
 enum-told : tie.Need-enum-told
 enum-told c = search needs
 
--- src/lib.rt:154:30
 enum-known-judgement : tie.Need-enum-known-judgement
 enum-known-judgement c = search needs
 
--- src/lib.rt:154:46
 short-requires : tie.Need-short-requires
 short-requires c κs = search needs
 
--- src/lib.rt:155:28
 enum-known-judgement-2 : tie.Need-enum-known-judgement-2
 enum-known-judgement-2 c = search needs
 
--- src/lib.rt:155:44
 short-requires-2 : tie.Need-short-requires-2
 short-requires-2 c κs = search needs
 
--- src/lib.rt:156:31
 enum-told-2 : tie.Need-enum-told-2
 enum-told-2 c = search needs
 
--- src/lib.rt:157:28
 enum-known-judgement-3 : tie.Need-enum-known-judgement-3
 enum-known-judgement-3 c = search needs
 
--- src/lib.rt:149:1
 returns : tie.Need-returns
 unfolding filled
 returns c = sym (ap (λ (x : Judgement). toldJudgement (saidJudgement x)) (c .enum-told .given .1))
 
--- src/lib.rt:149:1
 returns-2 : tie.Need-returns-2
 unfolding filled
 returns-2 c = ap (λ (v : ℕ). 0 ∷ 0 ∷ 1 ∷ v ∷ []) (c .short .ensures) ∙ sym (ap (λ (x : Judgement). toldJudgement (saidJudgement x)) (c .before .before .judgement .given .1))
 
--- src/lib.rt:149:1
 returns-3 : tie.Need-returns-3
 unfolding filled
 returns-3 c = ap (λ (q : ℕ). 0 ∷ 0 ∷ 2 ∷ q ∷ []) (c .short2 .ensures) ∙ sym (ap (λ (x : Judgement). toldJudgement (saidJudgement x)) (c .before .before .judgement2 .given .1))
 
--- src/lib.rt:149:1
 returns-4 : tie.Need-returns-4
 unfolding filled
 returns-4 c = sym (ap (λ (x : Judgement). toldJudgement (saidJudgement x)) (c .enum-told2 .given .1))
 
--- src/lib.rt:149:1
 returns-5 : tie.Need-returns-5
 unfolding filled
 returns-5 c = sym (ap (λ (x : Judgement). toldJudgement (saidJudgement x)) (c .before .judgement3 .given .1))
