@@ -9,12 +9,13 @@
      q A B C D                            a quad: the numbers of its four vertices
    Blanks or tabs stand between the words of a line. I, J, K and the numbers of vertices are plain digits. X, Y and Z
    are read by strtod and become doubles; what is no number or infinite is read too, and the library finds it at fault.
-   A line that begins with # is passed over, and so is an empty one. Each line ends with a line feed, the last one too;
-   a carriage return before it is passed over. Before the first v or q the lines of a record may stand. They begin with
-   file, axes, threshold, noise, byte-order, readings, spacing, piece, values, ceiling, vertices, quads, closed, pieces,
-   marked or ply, and they change no verdict. Where axes, threshold or noise are others than were asked, or vertices or
-   quads are others than the lines that begin with v and q, a note says so. A record that has a threshold and no line
-   noise is with the noise figure 0. Any other line is a fault of MESH.
+   A line whose first word begins with # is passed over, and so is an empty one. Each line ends with a line feed, the
+   last one too; a carriage return before it is passed over, and so is a byte order mark at the front of the file.
+   Before the first v or q the lines of a record may stand. They begin with file, axes, threshold, noise, byte-order,
+   readings, spacing, piece, values, ceiling, vertices, quads, closed, pieces, marked or ply, and they change no
+   verdict. Where axes, threshold or noise are others than were asked, or vertices or quads are others than the lines
+   that begin with v and q, a note says so. A record that has a threshold and no line noise was made with the noise
+   figure 0. Any other line is a fault of MESH.
    The library takes the number of a cube, I + (NX - 1) * (J + (NY - 1) * K). A cube that is not in the block would get
    the number of another one, so it is given the number 4294967295, which is past the last.
 
@@ -348,8 +349,8 @@ static void note_heads(const struct request *request, const struct mesh *mesh)
     note_head(HEAD_THRESHOLD, &threshold, "you asked about threshold");
     note_head(HEAD_NOISE, &request->noise, "you asked about noise");
     if (heads[HEAD_THRESHOLD].told && !heads[HEAD_NOISE].told && request->noise != 0)
-        printf("note MESH has a line threshold and no line noise, so it is with noise 0, and you asked about noise "
-               "%" PRIu32 ".\n", request->noise);
+        printf("note MESH has a line threshold and no line noise, so it was made with noise 0, and you asked about "
+               "noise %" PRIu32 ".\n", request->noise);
     note_head(HEAD_VERTICES, &vertices, "the lines that begin with v are");
     note_head(HEAD_QUADS, &quads, "the lines that begin with q are");
 }
@@ -491,7 +492,7 @@ static void explain_quad(const struct request *request, const struct block *bloc
         put_quad(mesh, earlier);
         printf(".\n");
     } else if (is_ours_mirrored(request, block, mesh, corner))
-        printf("note Ours has this quad the other way round, so it faces from hollow to metal.\n");
+        printf("note Ours has this quad the other way round. This one faces from hollow to metal.\n");
     else
         printf("note Ours has no quad with these four vertices in this order, begun at any of them.\n");
 }
@@ -618,8 +619,8 @@ static uint32_t mesh_number(const struct request *request, size_t line, const ch
 {
     uint32_t value;
     if (!is_number(text, UINT32_MAX, &value))
-        bad_line(request, line, "%s is \"%.40s\", and it must be a number of at most 4294967295 in plain digits.", name,
-                 shown(text));
+        bad_line(request, line, "%s is \"%.40s\", and it must be a number of at most 4294967295 in plain digits, with no "
+                 "sign and no zero in front.", name, shown(text));
     return value;
 }
 
@@ -692,7 +693,8 @@ static void read_head(const struct request *request, const struct mesh *mesh, si
         which++;
     if (which == all)
         bad_line(request, line, "it begins with \"%.40s\", and a line must begin with v, q, #, or a word of the scan "
-                 "tool's record.", shown(words[0]));
+                 "tool's record. MESH must be text as target/scan writes it with --mesh, not a PLY file.",
+                 shown(words[0]));
     if (mesh->vertex_count > 0 || mesh->quad_count > 0)
         bad_line(request, line, "the line %s stands behind a vertex or a quad, and it must stand before the first.",
                  words[0]);
@@ -720,12 +722,15 @@ static int split(char *line, char **words)
     return count;
 }
 
+/* What some editors put at the front of a text. */
+static const char byte_order_mark[] = "\xEF\xBB\xBF";
+
 /* The line has no end of line any more. */
 static void read_line(const struct request *request, struct mesh *mesh, size_t line, char *text)
 {
     char *words[WORDS_OF_VERTEX];
     int count;
-    if (text[0] == '#' || (count = split(text, words)) == 0)
+    if ((count = split(text, words)) == 0 || words[0][0] == '#')
         return;
     if (strcmp(words[0], "v") == 0) {
         if (count != WORDS_OF_VERTEX)
@@ -762,7 +767,7 @@ static struct mesh read_mesh(const struct request *request)
         text[--length] = 0;
         if (length > 0 && text[length - 1] == '\r')
             text[--length] = 0;
-        read_line(request, &mesh, line, text);
+        read_line(request, &mesh, line, line == 1 && strncmp(text, byte_order_mark, 3) == 0 ? text + 3 : text);
     }
     if (errno == ENOMEM)
         fail(STATUS_FAILED, "Line %zu of %s is too long for the memory. Check that it is a mesh as text.", line + 1,

@@ -26,14 +26,14 @@
    parsniprow_crossed, which takes less time on a scan: the lengths that are reserved by its answer are enough for the
    same block and threshold, with any noise figure. parsniprow_mesh fills the buffers; give it the threshold and the
    noise figure that the counts were asked with. Then parsniprow_closed_with, parsniprow_pieces and
-   parsniprow_ply may be asked about the mesh. Whether a mesh that was made elsewhere is that of a block,
-   parsniprow_judge says. The other questions stand by themselves: parsniprow_ceilings, parsniprow_edge, parsniprow_cube
-   and parsniprow_closed.
+   parsniprow_ply may be asked about the mesh. parsniprow_judge says whether a mesh that was made elsewhere is that of a
+   block. The other questions stand by themselves: parsniprow_ceilings, parsniprow_edge, parsniprow_cube and
+   parsniprow_closed.
    A block of readings goes the same way: parsniprow_readings_counts says how long the buffers must be, and
    parsniprow_readings_mesh fills them. What may be asked about a mesh may be asked about this one too. All other
    questions about a block take grey values. parsniprow_reading says of one reading which grey value it becomes. So
-   whoever wants the crossed edges, the ceilings, several thresholds or a mesh plane by plane of a block of readings
-   makes the grey values first.
+   whoever wants the crossed edges, the ceilings, several thresholds, a mesh plane by plane or a verdict on a mesh, of a
+   block of readings, makes the grey values first.
    A scan that is too large to be held at once goes plane by plane: parsniprow_start once, then parsniprow_plane for
    each of the nz planes by rising z, then parsniprow_end. Each call of parsniprow_plane writes the part of the mesh
    that its plane finishes. Neither the counts nor the crossed edges need be asked before.
@@ -407,22 +407,24 @@ void parsniprow_ply(uint32_t nx, uint32_t ny, uint32_t nz, const uint32_t *words
    vertices so renamed, are those of parsniprow_mesh, each once; and if each offset is from 0 to 1. Vertices and quads
    may stand in any order, and a quad may be begun at any of its four vertices, but not run the other way round. Where
    in its cube a vertex lies is not compared: any offsets from 0 to 1 will do. What parsniprow_mesh writes always
-   passes, in any order, and so does what parsniprow_readings_mesh and the planes of a run write for the same block.
+   passes, in any order. parsniprow_readings_mesh writes the same vertices and quads as parsniprow_mesh does for the grey
+   values that the readings become, and so do the planes of a run, with the quads in another order.
      nx, ny, nz, samples, t, noise  as of parsniprow_counts
      words    2 items a vertex, as parsniprow_mesh writes them: the number of its cube, then its word, with mask and
               mark. Any numbers; a cube that is not in the block is a fault of the vertex and no refusal
      offsets  3 items a vertex, any doubles; minus zero passes
      quads    4 vertex numbers a quad, each below the number of vertices in words
-     answer   answer place, 4 items: 0, 1, 0, 0 if it is the mesh of the block; 0, 0, 1, vertex of the first vertex at
-              fault; else 0, 0, 2, quad of the first quad at fault; else 0, 0, 3, 0 where some vertices or quads are
-              missing; or refusal (1, 2, 3, 22, 7 or 14, tried in this order), its value, 0, 0. A quad above 4294967295
-              is given as that
+     answer   answer place, 4 items: 0, 1, 0, 0 if it is the mesh of the block; 0, 0, 1 and the number of the first
+              vertex at fault; else 0, 0, 2 and the number of the first quad at fault; else 0, 0, 3, 0 where some
+              vertices or quads are missing; or refusal (1, 2, 3, 22, 7 or 14, tried in this order), its value, 0, 0.
+              A quad number above 4294967295 is given as that
    A vertex is at fault if parsniprow_mesh has none with its cube and word, if an earlier one has the same cube and
    word, or if one of its offsets is not from 0 to 1, NaN among them. A quad is at fault if it is none of those of
    parsniprow_mesh, or an earlier one again, wherever that one is begun. So a quad that names a vertex twice or runs the
-   other way round is at fault. The block and the mesh are only read, and no memory is needed. The time grows with the
-   block and with both lists; a mesh in the order of parsniprow_mesh takes the least. Lend words and offsets with
-   lengths of 2 * vertices and 3 * vertices exactly, and quads with 4 * quads. */
+   other way round is at fault. The block and the mesh are only read, and no memory is lent to work in. A mesh in the
+   order of parsniprow_mesh takes about the time of making it. In any other order the time also grows with vertices
+   times cubes and with quads times vertices. For a scan it is still short; for noise alone of 256 samples an axis it is
+   minutes. Lend words and offsets with lengths of 2 * vertices and 3 * vertices exactly, and quads with 4 * quads. */
 void parsniprow_judge(uint32_t nx, uint32_t ny, uint32_t nz, const uint16_t *samples, size_t samples_len, uint16_t t,
                       uint32_t noise, const uint32_t *words, size_t words_len, const double *offsets,
                       size_t offsets_len, const uint32_t *quads, size_t quads_len, uint32_t *answer,

@@ -462,8 +462,8 @@ static void ask_judge(void)
     ask_judge_of(3, samples, SAMPLES);
 }
 
-/* A block of 256 samples an axis: the mesh, which counts first, has the deepest stack. Sixteen thresholds are the
-   most. */
+/* A block of 256 samples an axis. The deepest stacks are that of the judge, which counts beside a table of its own, and
+   that of the mesh, which counts first. Sixteen thresholds are the most. */
 static void ask_large(void)
 {
     static const uint16_t thresholds[MOST_THRESHOLDS] = {400, 401};

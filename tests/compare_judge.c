@@ -685,6 +685,7 @@ uint64_t tally_judged(void)
     tally_case("quads at the borders", judge_once.quad_borders);
     tally_case("lists over several ranges", judge_once.several_ranges);
     tally_case("a repeat in a later range that stands first", judge_once.later_range_first);
+    tally_case("one among vertices of another range", judge_once.among_far);
     tally_case("in a block of 256 samples an axis", judge_once.largest);
     tally_reaches(&answer_place);
     return tally.asked;

@@ -53,7 +53,7 @@ void give_back_judged(void);
 
 /* What was asked once: the library looks for repeats in ranges of its own, so these were made for their borders. */
 struct judge_once {
-    uint64_t by_hand, vertex_borders, quad_borders, several_ranges, later_range_first, largest;
+    uint64_t by_hand, vertex_borders, quad_borders, several_ranges, later_range_first, among_far, largest;
 };
 
 extern struct judge_once judge_once;

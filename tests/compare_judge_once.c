@@ -2,9 +2,9 @@
    can hold at a time, with every bit of every word changed, with every offset at its limits, with each vertex and each
    quad for each other; lengths that no memory has; and, with enough blocks, the paper's mesh with any numbers in one
    quad, and large meshes. The library finds repeats without memory of its own, in ranges of so many keys at a time, so
-   large meshes have repeats on both sides of the border of a range, in several ranges at once, and such that the one in
-   a later range stands first in its list. What must be said is known from how a mesh was made, and plain is held
-   against it where that does not take long.
+   large meshes have repeats on both sides of the border of a range, in several ranges at once, such that the one in a
+   later range stands first in its list, and among vertices that are all of another range. What must be said is known
+   from how a mesh was made, and plain is held against it where that does not take long.
    Assumes nothing more than compare.h, and POSIX with anonymous mappings. */
 #include "compare_judge.h"
 
@@ -16,9 +16,10 @@
 
 enum { ALL_ROWS = (1 << ROWS) - 1, MOST_VERTICES = 66325500 };
 
-/* The keys of a range. A cube has KEYS_A_CUBE of them, one for each edge that can be the lowest of a vertex; a quad has
-   the number of its third vertex, and for each axis there are as many keys as vertices. */
-enum { RANGE = 393216, KEYS_A_CUBE = 12, CUBES_A_RANGE = RANGE / KEYS_A_CUBE };
+/* The keys of a range. A cube has KEYS_A_CUBE of them, one for each place that a vertex can have among those of the cube
+   in our order; a quad has the number of its vertex in the highest cube, and for each axis there are as many keys as
+   vertices. Of NEAR vertices in a row the library looks first whether any is in the range. */
+enum { RANGE = 262144, KEYS_A_CUBE = 4, CUBES_A_RANGE = RANGE / KEYS_A_CUBE, NEAR = 64 };
 
 /* ---- the paper's mesh ---- */
 
@@ -404,8 +405,8 @@ static size_t cubes_of_large(const struct large *large)
     return (size_t)(large->length[0] - 1) * (large->length[1] - 1) * (large->length[2] - 1);
 }
 
-/* The cube before the border has one vertex of its four edges along z, whose lowest edge is the highest there can be;
-   the cube behind it has one whose lowest edge is 0. So no key is nearer to the border. */
+/* The cube before the border and the one behind it get the most vertices that a cube can have, one round each sample
+   of metal. So there are vertices with the last key before the border and with the first behind it. */
 static void shape_border(struct large *large, size_t cube)
 {
     size_t across = large->length[0] - 1, down = large->length[1] - 1;
@@ -414,20 +415,33 @@ static void shape_border(struct large *large, size_t cube)
         for (size_t y = 0; y < 2; y++)
             for (size_t z = 0; z < 2; z++)
                 large->samples[i + x + large->length[0] * (j + y + large->length[1] * (k + z))] =
-                    x < 2 && z == 0 ? (uint16_t)(large->t + 5) : 5;
+                    (x + y + z) % 2 == 0 ? (uint16_t)(large->t + 5) : 5;
 }
 
-static void make_large(struct large *large, uint32_t axis, int is_plain_asked)
+static void fill_large(struct large *large, uint32_t axis)
 {
     memset(large, 0, sizeof *large);
     large->length[0] = large->length[1] = large->length[2] = axis;
     large->t = 30000;
     large->samples = sample_memory((size_t)sample_product(large->length));
     large->chance = chance_of(12, axis);
-    large->is_plain_asked = is_plain_asked;
     fill_block(&large->chance, UNIFORM_NOISE, large->length, large->t, large->samples);
+}
+
+static void make_large(struct large *large, uint32_t axis)
+{
+    fill_large(large, axis);
     for (size_t border = CUBES_A_RANGE; border < cubes_of_large(large); border += CUBES_A_RANGE)
         shape_border(large, border - 1);
+    make_foreign(&large->mesh, parsniprow_mesh, large->length, large->samples, large->t, 0);
+}
+
+/* The noise is left in the first planes and in the last alone. */
+static void make_hollow(struct large *large, uint32_t axis)
+{
+    size_t plane = (size_t)axis * axis;
+    fill_large(large, axis);
+    memset(large->samples + 2 * plane, 0, (axis - 4) * plane * sizeof *large->samples);
     make_foreign(&large->mesh, parsniprow_mesh, large->length, large->samples, large->t, 0);
 }
 
@@ -449,14 +463,25 @@ static void expect_large(const struct large *large, const char *name, uint32_t f
         expect_judged_by_library(&judging, wanted);
 }
 
-static size_t vertex_in_cube(const struct foreign *foreign, size_t cube)
+/* The first vertex with this cube and, where one is given, this word. */
+static size_t find_vertex(const struct foreign *foreign, size_t cube, const uint32_t *word)
 {
-    size_t vertex = 0;
-    while (vertex < foreign->vertices && foreign->words[2 * vertex] != cube)
-        vertex++;
-    if (vertex == foreign->vertices && first_to_fail("there is no vertex at the border of a range"))
-        vertex = 0;
-    return vertex;
+    size_t v = 0;
+    while (v < foreign->vertices && (foreign->words[2 * v] != cube || (word && foreign->words[2 * v + 1] != *word)))
+        v++;
+    return v;
+}
+
+/* The vertex of the changed mesh with this key; where it stands in our order says its word. */
+static size_t vertex_with_key(const struct large *large, size_t key)
+{
+    const struct foreign *mesh = &large->mesh;
+    size_t cube = key / KEYS_A_CUBE, ours = find_vertex(mesh, cube, NULL) + key % KEYS_A_CUBE;
+    if (ours >= mesh->vertices || mesh->words[2 * ours] != cube) {
+        first_to_fail("there is no vertex at the border of a range");
+        return 0;
+    }
+    return find_vertex(&changed, cube, &mesh->words[2 * ours + 1]);
 }
 
 /* In one order or another. */
@@ -511,11 +536,11 @@ static void try_orders(struct large *large)
 }
 
 /* One vertex again: behind all, then in place of another. */
-static void try_vertex_again(struct large *large, size_t cube, int is_shuffled)
+static void try_vertex_again(struct large *large, size_t key, int is_shuffled)
 {
     size_t vertex, other;
     restart(large, is_shuffled);
-    vertex = vertex_in_cube(&changed, cube);
+    vertex = vertex_with_key(large, key);
     add_vertex(&changed, vertex);
     expect_large(large, "a vertex at a border again", VERTEX_AT_FAULT, changed.vertices - 1);
     changed.vertices--;
@@ -527,13 +552,13 @@ static void try_vertex_again(struct large *large, size_t cube, int is_shuffled)
 }
 
 /* Two vertices again, of which either is of the later range; then with a vertex of no edge before them or behind. */
-static void try_vertices_again(struct large *large, size_t first_cube, size_t second_cube, int is_shuffled)
+static void try_vertices_again(struct large *large, size_t first_key, size_t second_key, int is_shuffled)
 {
     size_t first, second, count, bad;
     restart(large, is_shuffled);
     count = changed.vertices;
-    first = vertex_in_cube(&changed, first_cube);
-    second = vertex_in_cube(&changed, second_cube);
+    first = vertex_with_key(large, first_key);
+    second = vertex_with_key(large, second_key);
     add_vertex(&changed, first);
     add_vertex(&changed, second);
     expect_large(large, "two vertices again", VERTEX_AT_FAULT, count);
@@ -546,19 +571,46 @@ static void try_vertices_again(struct large *large, size_t first_cube, size_t se
     bad = (size_t)chance_below(&large->chance, count);
     changed.offsets[3 * bad + 2] = 1.5;
     expect_large(large, "a bad offset, then two vertices again", VERTEX_AT_FAULT, bad);
-    judge_once.later_range_first += first_cube > second_cube;
+    judge_once.later_range_first += first_key > second_key;
 }
 
 static void try_vertex_borders(struct large *large)
 {
-    size_t cubes = cubes_of_large(large);
+    size_t keys = KEYS_A_CUBE * cubes_of_large(large);
     for (int is_shuffled = 0; is_shuffled < 2; is_shuffled++)
-        for (size_t border = CUBES_A_RANGE; border < cubes; border += CUBES_A_RANGE) {
+        for (size_t border = RANGE; border < keys; border += RANGE) {
             try_vertex_again(large, border - 1, is_shuffled);
             try_vertex_again(large, border, is_shuffled);
             try_vertices_again(large, border, border - 1, is_shuffled);
             try_vertices_again(large, border - 1, border, is_shuffled);
         }
+    if (keys <= 2 * RANGE)
+        first_to_fail("a large block has too few cubes");
+}
+
+/* The first vertex again at a place where all others round it are of another range. */
+static void try_again_at(const struct large *large, size_t place)
+{
+    uint32_t kept[2];
+    memcpy(kept, changed.words + 2 * place, sizeof kept);
+    memcpy(changed.words + 2 * place, changed.words, sizeof kept);
+    expect_large(large, "a vertex again among those of another range", VERTEX_AT_FAULT, place);
+    memcpy(changed.words + 2 * place, kept, sizeof kept);
+    judge_once.among_far++;
+}
+
+/* At each of the last places, and at the end of lists of several lengths. */
+static void try_among_far(struct large *large)
+{
+    size_t count = large->mesh.vertices;
+    restart(large, 0);
+    changed.quad_count = 0;
+    if (count < 4 * NEAR || changed.words[2 * (count - 3 * NEAR)] < CUBES_A_RANGE)
+        first_to_fail("a hollow block has too few vertices in its last range");
+    for (size_t place = count - 2 * NEAR; place < count; place++)
+        try_again_at(large, place);
+    for (changed.vertices = count - NEAR; changed.vertices < count; changed.vertices++)
+        try_again_at(large, changed.vertices - 1);
 }
 
 /* The axis of a quad of ours, by how far its highest cube lies behind its lowest, and where its highest stands. */
@@ -659,18 +711,19 @@ static void try_quads_again(struct large *large, size_t before, size_t behind)
     changed.quad_count = count;
 }
 
+/* In our own order, and then shuffled. */
 static void try_quad_borders(struct large *large)
 {
-    for (int is_shuffled = 0; is_shuffled < 2; is_shuffled++)
-        for (size_t border = RANGE; border < 3 * large->mesh.vertices; border += RANGE) {
-            size_t before, behind;
-            restart(large, is_shuffled);
-            try_quads_again(large, nearest_quad(large, border, 0), nearest_quad(large, border, 1));
-            before = quad_with_key(large, border - 1, SIZE_MAX);
-            behind = quad_with_key(large, border, before);
-            try_quads_again(large, before, behind);
-        }
-    if (large->mesh.vertices * 3 <= RANGE)
+    for (size_t border = RANGE; border < 3 * large->mesh.vertices; border += RANGE) {
+        size_t before, behind;
+        restart(large, 0);
+        try_quads_again(large, nearest_quad(large, border, 0), nearest_quad(large, border, 1));
+        restart(large, 1);
+        before = quad_with_key(large, border - 1, SIZE_MAX);
+        behind = quad_with_key(large, border, before);
+        try_quads_again(large, before, behind);
+    }
+    if (large->mesh.vertices * 3 <= 2 * RANGE)
         first_to_fail("a large mesh has too few vertices");
 }
 
@@ -694,7 +747,7 @@ static void try_largest_block(void)
     large.is_plain_asked = 1;
     expect_large(&large, "the mesh of the largest block, shuffled", SAME_MESH, 0);
     large.is_plain_asked = 0;
-    last = vertex_in_cube(&changed, cubes_of_large(&large) - 1);
+    last = vertex_with_key(&large, KEYS_A_CUBE * (cubes_of_large(&large) - 1));
     count = changed.vertices;
     add_vertex(&changed, last);
     expect_large(&large, "a vertex of the last cube again", VERTEX_AT_FAULT, count);
@@ -713,16 +766,17 @@ void try_largest_judged(void)
     make_paper();
     try_any_quad(1);
     free_foreign(&paper);
-    make_large(&large, 40, 1);
+    make_large(&large, 45); /* two ranges of cubes, and two of quads */
+    large.is_plain_asked = 1;
     try_orders(&large);
-    large.is_plain_asked = 0; /* what must be said is known, and plain knows no ranges */
-    try_vertex_borders(&large);
     free_large(&large);
-    make_large(&large, 48, 1);
+    make_large(&large, 53); /* three; what must be said is known, and plain knows no ranges */
     try_orders(&large);
-    large.is_plain_asked = 0;
     try_vertex_borders(&large);
     try_quad_borders(&large);
+    free_large(&large);
+    make_hollow(&large, 45);
+    try_among_far(&large);
     free_large(&large);
     try_largest_block();
     free_foreign(&changed);

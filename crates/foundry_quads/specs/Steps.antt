@@ -28,7 +28,7 @@ pub record FourBelow (count : ℕ) (f : Four) : Type 0 where
   pub c-below : f .c < count
   pub d-below : f .d < count
 
--- every vertex is in a cube of the block, and every quad names vertices
+-- every vertex is in a cube of the block, there are at most 66,325,500 of them, and every quad names vertices
 pub record QuadsInside (n : Size) (words quads : List ℕ) : Type 0 where
   pub cubes : (v : ℕ) → v < vertexTotal words → cubeAt words v < cubeCount n
   pub below : QuadsBelow (vertexTotal words) quads

@@ -54,7 +54,7 @@ fn place_of(a: u32, b: u32, p: usize, q: usize) -> usize
     p
 }
 
-// The place of the highest of four numbers, the first of them.
+// The place of the highest of four numbers; of equal ones, the first.
 fn highest(a: u32, b: u32, c: u32, d: u32) -> usize
     ensures { λ r. ⌜ r ≡ highestOf a b c d ⌝ }
     ensures { λ r. ⌜ r < 4 ⌝ }
@@ -145,7 +145,7 @@ fn hold_edges(words: &[u32], e0: u32, e1: u32, e2: u32, e3: u32, four: Four) -> 
     holds_edge(words, four.d, e3)
 }
 
-// Whether a quad lies round an edge along one axis. Across it the lower sample is u and v from two faces of the box.
+// Whether a quad lies round an edge along one axis. u and v are how far the edge's lower sample is from two faces of the box, across that axis.
 fn lies_along(
     words: &[u32],
     u: u32,
@@ -299,7 +299,7 @@ fn look_through(
     Look { at: q, rises }
 }
 
-// How far a key is behind the base of a range. The difference wraps where the key is before the base, and is then past any range: so one test is enough.
+// How far a key is past the base of a range. Where the key is before the base the difference wraps, and it is then past any range. So one test is enough.
 fn from_base(base: u64, key: u64) -> u64
     requires { ⌜ base ≤ 198976500 ⌝ }
     ensures { λ r. ⌜ FromBase base key r ⌝ }

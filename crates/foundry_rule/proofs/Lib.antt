@@ -9,6 +9,7 @@ pub mod Passes
 pub mod Known
 pub mod ByMask
 pub mod VertexKeys
+pub mod OurVertices
 pub mod Rotations
 pub mod Laid
 pub mod Owned

@@ -59,12 +59,12 @@ module _ (ourWords ourQuads words : List ℕ) (offsets : List Float) (quads : Li
   unfoldable pub ownNumber : ℕ → ℕ
   ownNumber v = firstPassing (alike words v ourWords) (vertexTotal ourWords)
 
-  -- "a vertex is at fault if no vertex of ours has its cube and word, an earlier one has both, or its offset is bad"
+  -- not at fault: "a vertex is at fault if no vertex of ours has its cube and word, an earlier one has both, or its offset is bad"
   unfoldable pub soundVertex : ℕ → Bool
   unfolding ownNumber
   soundVertex v = ltb (ownNumber v) (vertexTotal ourWords) && not (isSome (alike words v words) v) && offsetInside offsets v
 
-  -- "a quad, if it is none of ours or repeats an earlier one"
+  -- not at fault: "a quad, if it is none of ours or repeats an earlier one"
   unfoldable pub ourQuad : ℕ → Bool
   unfolding ownNumber
   ourQuad q = isSome (λ (p : ℕ). sameRound (namedQuad ownNumber quads q) (namedQuad asSent ourQuads p)) (quadTotal ourQuads)

@@ -42,7 +42,7 @@ unfoldable pub placeIn : Size → List ℕ → Cut → ℕ → ℕ → ℕ
 unfolding wordPlace
 placeIn n s cut c w = cond (ltb c (cubeCount n)) (wordPlace cut (cornersOf n s c) w) 4
 
--- the place of the highest of four numbers, the first of them
+-- the place of the highest of four numbers; of equal ones, the first
 abbrev pub highestOf : ℕ → ℕ → ℕ → ℕ → ℕ
 highestOf a b c d = cond (ltb (cond (ltb a b) b a) (cond (ltb c d) d c)) (cond (ltb c d) 3 2) (cond (ltb a b) 1 0)
 

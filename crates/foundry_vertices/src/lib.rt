@@ -1,5 +1,5 @@
-// The vertices of a mesh from the foundry: the first that is at fault (document 02, Twelve). Each is looked at once, beside its cube. Where they do not stand in
-// our order, those that repeat an earlier one are looked for in ranges of cubes, with a table on the stack.
+// The vertices of a mesh from the foundry: the first that is at fault (document 02, Twelve). A first look holds each beside its cube. Where they do not
+// stand in our order, a second finds those that repeat an earlier one, in ranges of cubes, with a table on the stack.
 use block::Cut;
 use block::Size;
 ghost use mathlib.Core.Path.{_≡_};
@@ -42,7 +42,7 @@ fn place_among(m: u32, masks: [u32; 4]) -> u32
     4
 }
 
-// Up to this many crossed edges are one loop: two loops have six.
+// At most so many crossed edges are never two loops, which have six at least.
 const SINGLE: u32 = 5;
 
 // The place of a word among those of a cube's loops, 4 where it is none of them.
