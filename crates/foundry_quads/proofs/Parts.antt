@@ -11,9 +11,9 @@ use lib.Dec.{ltb}
 use borrow.Author.Tests.{le-ltb, lt-ltb}
 use Rattle.laws.proofs.Tests.{and-fails, and-last, lt-or-ge}
 use Rattle.mesh_rule.specs.Mesh.{Quad}
-use Rattle.foundry_rule.specs.Spots.{highestOf, lies}
+use Rattle.foundry_rule.specs.Spots.{highestOf, lies, alongBy}
 use Rattle.repeats.specs.Fresh.{span}
-use Rattle.foundry_quads.specs.Steps.{FromBase, apartBy, allHold, alongBy}
+use Rattle.foundry_quads.specs.Steps.{FromBase, apartBy, allHold}
 
 -- ---- one of two values
 

@@ -20,10 +20,10 @@ use Rattle.cube_spots.specs.Spots.{spotOf}
 use Rattle.cube_spots.proofs.Inside.{last-inside}
 use Rattle.foundry_rule.specs.Distinct.{QuadsBelow}
 use Rattle.foundry_rule.specs.Judged.{vertexTotal, quadTotal, namedQuad, asSent}
-use Rattle.foundry_rule.specs.Spots.{highestOf, ledBy, led, cubeAt, fits}
+use Rattle.foundry_rule.specs.Spots.{highestOf, ledBy, led, cubeAt, roundBy, fits, axisBy}
 use Rattle.foundry_quads.specs.declared.Four.{Four}
 use Rattle.foundry_quads.proofs.Parts.{key-by}
-use Rattle.foundry_quads.specs.Steps.{asQuad, FourBelow, roundBy, axisBy, quadFits, keyBy, keyAt}
+use Rattle.foundry_quads.specs.Steps.{asQuad, FourBelow, quadFits, keyBy, keyAt}
 
 -- ---- its four numbers
 

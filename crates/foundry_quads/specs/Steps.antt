@@ -2,10 +2,10 @@
 -- Assumes nothing.
 use Prim.Native.Nat.{ℕ, _+_, _*_, _≤_, _<_}
 use mathlib.Core.Path.{_≡_}
-use mathlib.Core.Bool.{Bool, cond, _&&_, _||_}
+use mathlib.Core.Bool.{Bool, _&&_}
 use mathlib.Core.Logic.{_⊎_}
 use mathlib.Core.List.{List}
-use lib.Dec.{eqb, ltb}
+use lib.Dec.{eqb}
 use Rattle.laws.specs.Bits.{holds}
 use Rattle.block.specs.declared.Cut.{Cut}
 use Rattle.block.specs.declared.Size.{Size}
@@ -13,7 +13,7 @@ use Rattle.block.specs.Numbering.{cubeCount}
 use Rattle.mesh_rule.specs.Mesh.{Quad, quad}
 use Rattle.foundry_rule.specs.Distinct.{QuadsBelow}
 use Rattle.foundry_rule.specs.Judged.{vertexTotal, namedQuad, asSent}
-use Rattle.foundry_rule.specs.Spots.{cubeAt, wordAt, led, lies, fits, quadKey}
+use Rattle.foundry_rule.specs.Spots.{cubeAt, wordAt, led, fits, axisBy, quadKey}
 use Rattle.repeats.specs.Fresh.{span, fresh}
 use Rattle.foundry_quads.specs.declared.Four.{Four}
 
@@ -42,20 +42,6 @@ apartBy words r p q =
 -- the words hold the edges
 abbrev pub allHold : List ℕ → ℕ → ℕ → ℕ → ℕ → Quad → Bool
 allHold words e0 e1 e2 e3 q = holds (wordAt words (q .v0)) e0 && holds (wordAt words (q .v1)) e1 && holds (wordAt words (q .v2)) e2 && holds (wordAt words (q .v3)) e3
-
--- the quad lies round an edge whose lower sample is off two faces of the box, at u and v from them
-abbrev pub alongBy : List ℕ → ℕ → ℕ → ℕ → ℕ → ℕ → ℕ → ℕ → ℕ → Quad → Bool
-alongBy words u v r p e0 e1 e2 e3 q = ltb 0 u && ltb 0 v && lies words r p e0 e1 e2 e3 q
-
--- `liesRound` and `axisAt` for rows of so many cubes and layers of so many
-abbrev pub roundBy : List ℕ → ℕ → ℕ → ℕ → ℕ → ℕ → Quad → Bool
-roundBy words wide layer i j k q =
-    alongBy words j k layer wide 3 2 0 1 q || alongBy words i k 1 layer 7 5 4 6 q || alongBy words i j wide 1 11 10 8 9 q
-
-abbrev pub axisBy : List ℕ → ℕ → ℕ → Quad → ℕ
-axisBy words wide layer q =
-    cond (eqb (cubeAt words (q .v0) + (layer + wide)) (cubeAt words (q .v2))) 0
-    (cond (eqb (cubeAt words (q .v0) + (1 + layer)) (cubeAt words (q .v2))) 1 2)
 
 module _ (n : Size) (s : List ℕ) (cut : Cut) (words quads : List ℕ) where
   -- quad q is that of a crossed inner edge

@@ -16,9 +16,9 @@ ghost use Rattle.block.specs.Steps.{Sampled};
 ghost use Rattle.mesh_rule.specs.Layers.{layerSize};
 ghost use Rattle.foundry_rule.specs.Distinct.{QuadsBelow};
 ghost use Rattle.foundry_rule.specs.Judged.{vertexTotal, quadTotal, namedQuad, asSent};
-ghost use Rattle.foundry_rule.specs.Spots.{highestOf, cubeAt, wordAt, led, fits};
+ghost use Rattle.foundry_rule.specs.Spots.{highestOf, cubeAt, wordAt, led, alongBy, roundBy, fits, axisBy};
 ghost use Rattle.repeats.specs.Fresh.{fresh, freshIn};
-ghost use Rattle.foundry_quads.specs.Steps.{asQuad, FourBelow, QuadsInside, FromBase, apartBy, allHold, alongBy, roundBy, axisBy, quadFits, keyBy, quadSpotSound};
+ghost use Rattle.foundry_quads.specs.Steps.{asQuad, FourBelow, QuadsInside, FromBase, apartBy, allHold, quadFits, keyBy, quadSpotSound};
 
 // The four vertices of a quad.
 struct Four {

@@ -75,12 +75,17 @@ module _ (words : List ℕ) where
       eqb (cubeAt (q .v1) + r) (cubeAt (q .v2)) && eqb (cubeAt (q .v3) + p) (cubeAt (q .v2)) && eqb (cubeAt (q .v0) + (r + p)) (cubeAt (q .v2))
       && holds (wordAt (q .v0)) e0 && holds (wordAt (q .v1)) e1 && holds (wordAt (q .v2)) e2 && holds (wordAt (q .v3)) e3
 
-  -- 01's table by cube numbers: a quad whose lower sample is (i,j,k), with second and fourth in the table's order
+  -- the same, round an edge whose lower sample is off two faces of the box, at u and v from them
+  abbrev pub alongBy : ℕ → ℕ → ℕ → ℕ → ℕ → ℕ → ℕ → ℕ → Quad → Bool
+  alongBy u v r p e0 e1 e2 e3 q = ltb 0 u && ltb 0 v && lies r p e0 e1 e2 e3 q
+
+  -- 01's table by cube numbers, for rows and layers of so many cubes and for those of a block: a quad whose lower sample is (i,j,k), with second and fourth in the
+  -- table's order
+  abbrev pub roundBy : ℕ → ℕ → ℕ → ℕ → ℕ → Quad → Bool
+  roundBy wide layer i j k q = alongBy j k layer wide 3 2 0 1 q || alongBy i k 1 layer 7 5 4 6 q || alongBy i j wide 1 11 10 8 9 q
+
   abbrev pub liesRound : Size → ℕ → ℕ → ℕ → Quad → Bool
-  liesRound n i j k q =
-      (ltb 0 j && ltb 0 k && lies (layerSize n) (n .nx - 1) 3 2 0 1 q)
-      || (ltb 0 i && ltb 0 k && lies 1 (layerSize n) 7 5 4 6 q)
-      || (ltb 0 i && ltb 0 j && lies (n .nx - 1) 1 11 10 8 9 q)
+  liesRound n i j k q = roundBy (n .nx - 1) (layerSize n) i j k q
 
   -- the quad is that of a crossed inner edge; its third vertex is in the highest cube, whose first corner is the lower sample
   unfoldable pub fits : Size → List ℕ → Cut → Quad → Bool
@@ -91,11 +96,14 @@ module _ (words : List ℕ) where
       let k = coordinate n Z c in
       liesRound n i j k (turned (metal n s cut i j k) q)
 
-  -- the axis of a quad's edge, by how far apart its first and its third cube lie
+  -- the axis of a quad's edge, by how far apart its first and its third cube lie, for rows and layers of so many cubes and for those of a block
+  abbrev pub axisBy : ℕ → ℕ → Quad → ℕ
+  axisBy wide layer q =
+      cond (eqb (cubeAt (q .v0) + (layer + wide)) (cubeAt (q .v2))) 0
+      (cond (eqb (cubeAt (q .v0) + (1 + layer)) (cubeAt (q .v2))) 1 2)
+
   abbrev pub axisAt : Size → Quad → ℕ
-  axisAt n q =
-      cond (eqb (cubeAt (q .v0) + (layerSize n + (n .nx - 1))) (cubeAt (q .v2))) 0
-      (cond (eqb (cubeAt (q .v0) + (1 + layerSize n)) (cubeAt (q .v2))) 1 2)
+  axisAt n q = axisBy (n .nx - 1) (layerSize n) q
 
   -- a number for a quad of a mesh with so many vertices: its axis and its third vertex
   abbrev pub quadKey : Size → ℕ → Quad → ℕ
