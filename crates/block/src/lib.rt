@@ -14,35 +14,35 @@ ghost use Rattle.block.specs.Steps.{ClearBefore};
 ghost use Rattle.block.specs.Size.{Limits, SizeMade};
 
 // A refusal: 01's number, and the value that goes with it.
-#[derive(Drop)]
+#[derive(Clone, Copy)]
 pub struct Refusal {
     pub number: u32,
     pub value: u32,
 }
 
 // What one row of 01's table says of an input: it does not hold, or it is the reason to refuse.
-#[derive(Drop)]
+#[derive(Clone, Copy)]
 pub enum Checked {
     Passes,
     Refuses(Refusal),
 }
 
 // The threshold and the noise figure, as one value that travels whole. The noise figure is read where a doubtful face is decided, and nowhere else.
-#[derive(Drop)]
+#[derive(Clone, Copy)]
 pub struct Cut {
     pub t: u16,
     pub noise: u32,
 }
 
 // How many samples are at the detector's ceiling, and the lowest index of one.
-#[derive(Drop)]
+#[derive(Clone, Copy)]
 pub struct CeilingCount {
     pub count: u32,
     pub lowest: u32,
 }
 
 // A block's axis lengths, in samples. Only `Size::new` makes one.
-#[derive(Drop)]
+#[derive(Clone, Copy)]
 pub struct Size {
     nx: usize,
     ny: usize,
@@ -50,7 +50,7 @@ pub struct Size {
 }
 
 // What `Size::new` answers: a size, or the lowest axis that is out of the limits.
-#[derive(Drop)]
+#[derive(Clone, Copy)]
 pub enum Sized {
     Made(Size),
     BadAxis(u32),

@@ -12,7 +12,7 @@ use mesh::{Counted, Totals};
 use plane_layers::Layer;
 
 // Where a run stands: the block's size and threshold, how many vertices and quads were written so far, and how many planes were taken.
-#[derive(Drop)]
+#[derive(Clone, Copy)]
 pub struct Stream {
     pub nx: u32,
     pub ny: u32,
@@ -24,21 +24,21 @@ pub struct Stream {
 }
 
 // What a plane gave: where the run stands then, and how many vertices and quads this call wrote.
-#[derive(Drop)]
+#[derive(Clone, Copy)]
 pub struct Growth {
     pub stream: Stream,
     pub counts: Totals,
 }
 
 // What a start answers.
-#[derive(Drop)]
+#[derive(Clone, Copy)]
 pub enum Started {
     Begun(Stream),
     Refused(Refusal),
 }
 
 // What a plane answers.
-#[derive(Drop)]
+#[derive(Clone, Copy)]
 pub enum Taken {
     Wrote(Growth),
     Refused(Refusal),

@@ -11,14 +11,14 @@ use block::{Checked, Cut, Refusal};
 use place::Offset;
 
 // How many loops a cube has, or why it is refused.
-#[derive(Drop)]
+#[derive(Clone, Copy)]
 pub enum Found {
     Loops(u32),
     Refused(Refusal),
 }
 
 // What the cube question answers: how many loops, and in order the word and the offset of each; unused places hold zero.
-#[derive(Drop)]
+#[derive(Clone, Copy)]
 pub struct CubeAnswer {
     pub found: Found,
     pub words: [u32; 4],

@@ -8,7 +8,7 @@ ghost use Rattle.closed.specs.Steps.{next_place, sound_side};
 use block::{Checked, Refusal};
 
 // What the closed question answers: closed, or open at a side of a quad, both counted from 0.
-#[derive(Drop)]
+#[derive(Clone, Copy)]
 pub enum Closure {
     Closed,
     Open { quad: usize, side: usize },

@@ -15,14 +15,14 @@ ghost use Rattle.cube.specs.Answer.{loops_given};
 use block::Cut;
 
 // The loops of a cube: how many, and their masks by their lowest edge, 0 where there is none.
-#[derive(Drop)]
+#[derive(Clone, Copy)]
 pub struct Loops {
     pub count: u32,
     pub masks: [u32; 4],
 }
 
 // A face by its edges, as masks of the cube's: all four, the two that meet at its first corner, and the two that meet at the next.
-#[derive(Drop)]
+#[derive(Clone, Copy)]
 struct Face {
     ring: u32,
     corner: u32,
@@ -30,7 +30,7 @@ struct Face {
 }
 
 // The links of a face: two masks, each a link or 0.
-#[derive(Drop)]
+#[derive(Clone, Copy)]
 struct Links {
     first: u32,
     second: u32,

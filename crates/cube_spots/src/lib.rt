@@ -9,7 +9,7 @@ ghost use Rattle.cube_spots.specs.Spots.{spot_of, eight_from};
 use block::Size;
 
 // Where a cube lies: its coordinates, and the index of its first corner.
-#[derive(Drop)]
+#[derive(Clone, Copy)]
 pub struct Spot {
     pub x: u32,
     pub y: u32,

@@ -13,7 +13,7 @@ use place::Offset;
 
 // Where the vertices of a cube go: its place in its row, its number, the place of its first vertex in the lent buffers, and the number of the vertex
 // that stands first in them.
-#[derive(Drop)]
+#[derive(Clone, Copy)]
 pub struct Spot {
     pub x: usize,
     pub c: u32,

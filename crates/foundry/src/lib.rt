@@ -14,7 +14,7 @@ use block::{Checked, Cut, Refusal, Size, Sized};
 use mesh::Source;
 
 // What is found of a mesh: it is that of the block; a vertex or a quad is at fault, the first of its kind; or none is, and some of the block's are missing.
-#[derive(Drop)]
+#[derive(Clone, Copy)]
 pub enum Judgement {
     Same,
     BadVertex(usize),

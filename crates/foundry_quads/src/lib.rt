@@ -18,7 +18,7 @@ use block::{Cut, Size};
 use cube_spots::Spot;
 
 // The four vertices of a quad.
-#[derive(Drop)]
+#[derive(Clone, Copy)]
 struct Four {
     a: u32,
     b: u32,
@@ -27,7 +27,7 @@ struct Four {
 }
 
 // What a first look at the quads finds: the first that is none of ours, and whether they stand in our order before it.
-#[derive(Drop)]
+#[derive(Clone, Copy)]
 struct Look {
     at: usize,
     rises: bool,

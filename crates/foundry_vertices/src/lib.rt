@@ -14,7 +14,7 @@ ghost use Rattle.foundry_vertices.specs.Steps.{Shaped, in_range, placed, AllPlac
 use block::{Cut, Size};
 
 // What a first look at the vertices finds: the first that is none of ours or has a bad offset, and whether they stand in our order before it.
-#[derive(Drop)]
+#[derive(Clone, Copy)]
 struct Look {
     at: usize,
     rises: bool,

@@ -12,7 +12,7 @@ use quads::{Along, Line};
 use rows::Row;
 
 // Where the next vertex goes, and where the next quad along each axis goes.
-#[derive(Drop)]
+#[derive(Clone, Copy)]
 pub struct Marks {
     pub v: usize,
     pub x: usize,
@@ -21,7 +21,7 @@ pub struct Marks {
 }
 
 // The edges along an axis from a row, and where their quads go.
-#[derive(Drop)]
+#[derive(Clone, Copy)]
 struct Piece {
     along: Along,
     nx: usize,

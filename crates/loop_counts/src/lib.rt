@@ -9,7 +9,7 @@ use block::Cut;
 use rows::Row;
 
 // How many loops a row has, as far as the signs say it.
-#[derive(Drop)]
+#[derive(Clone, Copy)]
 pub enum RowLoops {
     Plain(usize),
     Doubtful,

@@ -22,21 +22,21 @@ use layers::Marks;
 use rows::Row;
 
 // How many vertices and quads a mesh has.
-#[derive(Drop)]
+#[derive(Clone, Copy)]
 pub struct Totals {
     pub vertices: u32,
     pub quads: u32,
 }
 
 // Where the samples of a block come from: they are lent as they are, or readings are lent that become samples. The passes are lent both lists and read one.
-#[derive(Drop)]
+#[derive(Clone, Copy)]
 pub enum Source {
     Samples,
     Readings,
 }
 
 // What counting or meshing a block answers.
-#[derive(Drop)]
+#[derive(Clone, Copy)]
 pub enum Counted {
     Counts(Totals),
     Refused(Refusal),
@@ -296,7 +296,7 @@ pub fn counts_from(
 }
 
 // The counts of a block of samples whose size is made.
-fn counts_of_lem(size: Size, samples: &[u16], cut: Cut) -> Counted
+fn counts_of(size: Size, samples: &[u16], cut: Cut) -> Counted
     requires { Limits size }
     ensures { said_counts result ≡ judged (in_order (block_rows size samples.now cut)) (counts_of size samples.now cut) }
 {
@@ -318,7 +318,7 @@ pub fn counts(nx: u32, ny: u32, nz: u32, samples: &[u16], cut: Cut) -> Counted
             number: 1,
             value: axis,
         }),
-        Sized::Made(size) => counts_of_lem(size, samples, cut),
+        Sized::Made(size) => counts_of(size, samples, cut),
     }
 }
 

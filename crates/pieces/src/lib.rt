@@ -11,14 +11,14 @@ ghost use Rattle.pieces.specs.Steps.{NumberedOne, Numbered};
 use block::{Checked, Refusal};
 
 // How many pieces there are, and the links followed in the longest single search.
-#[derive(Drop)]
+#[derive(Clone, Copy)]
 pub struct Parts {
     pub count: u32,
     pub longest: u32,
 }
 
 // What finding the pieces answers.
-#[derive(Drop)]
+#[derive(Clone, Copy)]
 pub enum Pieced {
     Found(Parts),
     Refused(Refusal),

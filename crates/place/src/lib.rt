@@ -10,7 +10,7 @@ ghost use Rattle.place.specs.Steps.{Placeable, Fractional, plus_crossing, plus_e
 use block::{Cut, Refusal};
 
 // What an edge answers: no crossing, the fraction of the way from the lower end to the upper, or a refusal.
-#[derive(Drop)]
+#[derive(Clone, Copy)]
 pub enum Crossing {
     Nothing,
     At(f64),
@@ -18,7 +18,7 @@ pub enum Crossing {
 }
 
 // A place in a cube: an offset from its corner 0.
-#[derive(Drop)]
+#[derive(Clone, Copy)]
 pub struct Offset {
     pub x: f64,
     pub y: f64,

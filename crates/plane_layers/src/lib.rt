@@ -11,7 +11,7 @@ use layers::Marks;
 use mesh::Counted;
 
 // A layer of a block: the block's size and threshold, the number of the layer's first vertex, and the layer's number.
-#[derive(Drop)]
+#[derive(Clone, Copy)]
 pub struct Layer {
     pub size: Size,
     pub cut: Cut,

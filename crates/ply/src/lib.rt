@@ -14,7 +14,7 @@ ghost use Rattle.ply.specs.Steps.{x_of, y_of, z_of, three_doubles, index_list};
 use block::{Checked, Refusal, Size, Sized};
 
 // Millimetres from one sample to the next, along each axis.
-#[derive(Drop)]
+#[derive(Clone, Copy)]
 pub struct Spacing {
     pub x: f64,
     pub y: f64,
@@ -22,7 +22,7 @@ pub struct Spacing {
 }
 
 // What writing a file answers: how many bytes it has, or a refusal.
-#[derive(Drop)]
+#[derive(Clone, Copy)]
 pub enum Filed {
     Bytes(usize),
     Refused(Refusal),

@@ -10,7 +10,7 @@ ghost use Rattle.quads.specs.Writing.{order_of, quad_by, word_by, row_by, Reach,
 ghost use Rattle.laws.specs.Put.{Put};
 
 // The axis along which edges run.
-#[derive(Drop)]
+#[derive(Clone, Copy)]
 pub enum Along {
     AxisX,
     AxisY,
@@ -18,7 +18,7 @@ pub enum Along {
 }
 
 // A row of edges along an axis: how many samples its plane has in a row, which row of the plane it starts from, and where its quads go.
-#[derive(Drop)]
+#[derive(Clone, Copy)]
 pub struct Line {
     pub along: Along,
     pub nx: usize,
@@ -28,7 +28,7 @@ pub struct Line {
 
 // How the four cubes round an edge are taken: the edge's number in the third, how much less x is for the first and the last, and the lower
 // sample's sign with which their order is the quad's.
-#[derive(Drop)]
+#[derive(Clone, Copy)]
 struct Order {
     e: u32,
     back: usize,
@@ -36,7 +36,7 @@ struct Order {
 }
 
 // 64 edges: the bits of those that are crossed and inner, the signs of their lower samples, and the x of the first.
-#[derive(Drop)]
+#[derive(Clone, Copy)]
 struct Run {
     d: u64,
     up: u64,
@@ -44,7 +44,7 @@ struct Run {
 }
 
 // One edge: the sign of its lower sample, and its x.
-#[derive(Drop)]
+#[derive(Clone, Copy)]
 struct Edge {
     up: u64,
     x: usize,

@@ -10,7 +10,7 @@ ghost use Rattle.readings.specs.Steps.{SoundTo, InRange, WholeOf, Capped};
 use block::Checked;
 
 // What a reading is.
-#[derive(Drop)]
+#[derive(Clone, Copy)]
 pub enum Reading {
     Grey(u16),
     Ceiling,

@@ -27,7 +27,7 @@ fn check(size: Size, readings: &[f32], cut: Cut) -> Checked
 }
 
 // The counts of a block of readings whose size is made.
-fn counts_of_lem(size: Size, readings: &[f32], cut: Cut) -> Counted
+fn counts_of(size: Size, readings: &[f32], cut: Cut) -> Counted
     requires { Limits size }
     ensures { said_counts result ≡ judged (in_order (reading_rows size readings.now cut)) (counts_of size (greys_of readings.now) cut) }
 {
@@ -49,7 +49,7 @@ pub fn counts(nx: u32, ny: u32, nz: u32, readings: &[f32], cut: Cut) -> Counted
             number: 1,
             value: axis,
         }),
-        Sized::Made(size) => counts_of_lem(size, readings, cut),
+        Sized::Made(size) => counts_of(size, readings, cut),
     }
 }
 

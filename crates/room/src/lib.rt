@@ -12,7 +12,7 @@ ghost use Rattle.std.specs.Int.Count.{ones};
 use block::{Checked, Cut, Refusal, Size, Sized};
 
 // What the question for room answers: how many edges of the block are crossed, or a refusal.
-#[derive(Drop)]
+#[derive(Clone, Copy)]
 pub enum Edged {
     Edges(u32),
     Refused(Refusal),

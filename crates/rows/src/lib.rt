@@ -8,7 +8,7 @@ use block::Cut;
 // A row of samples and the row of cubes above it: the threshold, how many samples a row has, the row's place in its plane, the number of its first
 // cube, whether there is a layer of cubes below (which only the quads ask), and the number of the vertex that stands first in the lent buffers
 // (which only the vertices ask).
-#[derive(Drop)]
+#[derive(Clone, Copy)]
 pub struct Row {
     pub cut: Cut,
     pub nx: usize,

@@ -4,7 +4,7 @@ ghost use Rattle.std.specs.Prelude.{◌≡◌};
 ghost use Rattle.sorts.specs.Sorting.{odd_in_three_of, two_in_three_of, two_in_four_of, mostly_of, three_of, rarer_of, odd_of, some_of, lone_of, one_from, two_from, sorts_of};
 
 // The cubes with exactly one loop, and those with exactly two.
-#[derive(Drop)]
+#[derive(Clone, Copy)]
 pub struct Sorts {
     pub one: u64,
     pub two: u64,

@@ -15,7 +15,7 @@ use block::{Checked, Cut, Refusal, Size, Sized};
 use layers::Marks;
 
 // What a row of thresholds answers: its answers stand in the lent buffer, or the whole call is refused.
-#[derive(Drop)]
+#[derive(Clone, Copy)]
 pub enum RowAnswer {
     Answered,
     Refused(Refusal),

@@ -5,14 +5,14 @@ ghost use Rattle.trees.specs.Forest.{at, top_of, links_of, goes_under, join_quad
 ghost use Rattle.trees.specs.Steps.{stored, Ends, Standing, Tops, Unites, Reached, Joins};
 
 // Where a search ends, and how many links it has followed.
-#[derive(Drop)]
+#[derive(Clone, Copy)]
 pub struct Way {
     pub top: u32,
     pub links: u32,
 }
 
 // The way of the first vertex of a quad to its top, and the longest search so far.
-#[derive(Drop)]
+#[derive(Clone, Copy)]
 struct Walk {
     top: u32,
     links: u32,
