@@ -1,5 +1,7 @@
 // Runs the samples of document 01, "Samples on the bench", and the cases around them, and writes what it got: a line for each question,
 // in hexadecimal. What it must write stands in the file stdout.
+#![tactic(auto)]
+
 ghost use Rattle.std.specs.Prelude.{◌≤◌, ◌<◌};
 
 use block::{Cut, Refusal, Size, Sized};

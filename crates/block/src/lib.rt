@@ -1,5 +1,7 @@
 // The block: its size, the threshold, refusals by number, the checks of rows 1 to 3 and 15 (document 01, "The block and its numbering" and
 // "Numbers of refusal"), and the samples at the detector's ceiling.
+#![tactic(auto)]
+
 ghost use Rattle.std.specs.Prelude.{◌≡◌, ℕ, ◌+◌, ◌≤◌, length, get_or};
 ghost use Rattle.laws.specs.Bits.{bit};
 ghost use Rattle.laws.specs.Counting.{count};

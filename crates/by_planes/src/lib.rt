@@ -1,5 +1,7 @@
 // A mesh plane by plane (document 02, Nine): the planes of a block are handed over by rising z, and each further plane writes the part of the mesh that it
 // finishes. What must be remembered stands in a small state, given back by each call, and in a lent work buffer.
+#![tactic(auto)]
+
 ghost use Rattle.std.specs.Prelude.{◌≡◌, ◌+◌, ◌*◌, ◌<◌, ◌≤◌, [], ◌∷◌, length};
 ghost use Rattle.block.specs.Answer.{in_order, judged};
 ghost use Rattle.block.specs.Rows.{threshold_row};

@@ -1,4 +1,6 @@
 // The cube question: the loops of one cube, with the word and the place of each (document 01, "Faces, loops and places").
+#![tactic(auto)]
+
 ghost use Rattle.std.specs.Prelude.{◌≡◌, cond, [], ◌∷◌, ℕ, ◌≤◌, ◌<◌, eqb, get_or};
 ghost use Rattle.block.specs.Grey.{SixteenBit};
 ghost use Rattle.cube_rule.specs.Edges.{pattern_of, crossed_mask};

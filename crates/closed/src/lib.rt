@@ -1,5 +1,7 @@
 // The closed question: whether each side of a list of quads is in order, and the first side that is not (document 01, "The mesh"; document 02,
 // Four). `closed` compares every side with every other, so its cost grows with the square of the list's length.
+#![tactic(auto)]
+
 ghost use Rattle.std.specs.Prelude.{◌≡◌, ◌&&◌, ◌≤◌, ◌<◌, eqb};
 ghost use Rattle.laws.specs.Bits.{bit};
 ghost use Rattle.closed.specs.Closed.{ClosedAnswered};

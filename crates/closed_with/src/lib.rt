@@ -1,5 +1,7 @@
 // The closed question with lent memory (document 02, Four): there the sides that start at a vertex stand in a chain. So a side is compared with those that
 // start at its two ends, and not with every other.
+#![tactic(auto)]
+
 ghost use Rattle.std.specs.Prelude.{◌≡◌, ◌+◌, ◌≤◌, ◌<◌, ◌%◌, eqb, length};
 ghost use Rattle.laws.specs.Below.{over};
 ghost use Rattle.laws.specs.Bits.{bit};

@@ -1,1 +1,2 @@
 // No code: theorems on when the mesh of a block is closed, and on how many quads meet at a vertex.
+#![tactic(auto)]

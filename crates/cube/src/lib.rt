@@ -1,5 +1,7 @@
 // One cube: its sign pattern, its crossed edges, the decider of its faces, its links and its loops (document 01, "The block and its
 // numbering" and "Faces, loops and places").
+#![tactic(auto)]
+
 ghost use Rattle.std.specs.Prelude.{◌≡◌, ◌≤◌, ◌<◌, pos, ◌+ℤ◌, ◌*ℤ◌};
 ghost use Rattle.std.specs.Int.Bits.{bit_and};
 ghost use Rattle.std.specs.Int.Count.{ones};

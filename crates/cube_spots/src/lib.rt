@@ -1,4 +1,6 @@
 // A cube of a block by its number: where it lies, and the samples at its corners (document 01, "The block and its numbering").
+#![tactic(auto)]
+
 ghost use Rattle.std.specs.Prelude.{◌≡◌, ◌+◌, ◌≤◌, ◌<◌, length};
 ghost use Rattle.block.specs.Numbering.{cube_count};
 ghost use Rattle.block.specs.Size.{Limits};

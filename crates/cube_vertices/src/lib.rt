@@ -1,5 +1,7 @@
 // The vertices of one cube into lent buffers: their words and offsets, and their numbers noted by edge (document 01, "The mesh"). Only a cube that
 // is not told to have a single loop is linked.
+#![tactic(auto)]
+
 ghost use Rattle.std.specs.Prelude.{◌≡◌, [], ◌∷◌, ◌+◌, ◌*◌, ◌<◌, ◌≤◌, length, take};
 ghost use Rattle.std.proofs.lemmas.List.Edits.{sets};
 ghost use Rattle.cube_rule.specs.Decider.{loops_of};

@@ -1,4 +1,6 @@
 // The doubtful faces of 64 cubes at a time, and which of the cubes are plain, by the signs of their corners.
+#![tactic(auto)]
+
 ghost use Rattle.std.specs.Prelude.{◌≡◌};
 ghost use Rattle.faces.specs.Faces.{without_of, alternate_of, alternates_of, plain_among, plain_of};
 

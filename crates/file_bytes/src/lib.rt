@@ -1,4 +1,6 @@
 // Text and numbers put into a buffer, as they stand in a file (document 02, Three).
+#![tactic(auto)]
+
 ghost use Rattle.std.specs.Prelude.{◌≡◌, ◌+◌, ◌≤◌, length};
 ghost use Rattle.laws.specs.Put.{Put};
 ghost use Rattle.file_bytes.specs.Bytes.{decimal, little_endian};

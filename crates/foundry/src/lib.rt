@@ -1,4 +1,6 @@
 // A mesh from the foundry (document 02, Twelve): whether it is the mesh of a block, and what is at fault where it is not. No buffer is lent.
+#![tactic(auto)]
+
 ghost use Rattle.std.specs.Prelude.{◌≡◌, ◌&&◌, ◌++◌, eqb};
 ghost use Rattle.block.specs.Answer.{accepted, in_order, judged};
 ghost use Rattle.block.specs.Block.{block_rows};

@@ -1,5 +1,7 @@
 // The quads of a mesh from the foundry: the first that is at fault (document 02, Twelve). Each is held against 01's table by the cubes and the words of its vertices.
 // Where the quads do not stand in our order, those that repeat an earlier one are looked for in ranges of keys, with a table on the stack.
+#![tactic(auto)]
+
 ghost use Rattle.std.specs.Prelude.{◌≡◌, ◌+◌, ◌-◌, ◌*◌, ◌<◌, ◌≤◌, true, if◌then◌else◌, ◌==◌, nat_lt};
 ghost use Rattle.laws.specs.Bits.{holds};
 ghost use Rattle.laws.specs.Leading.{leading};

@@ -1,5 +1,7 @@
 // The vertices of a mesh from the foundry: the first that is at fault (document 02, Twelve). A first look holds each beside its cube. Where they do not
 // stand in our order, a second finds those that repeat an earlier one, in ranges of cubes, with a table on the stack.
+#![tactic(auto)]
+
 ghost use Rattle.std.specs.Prelude.{◌≡◌, true, false, not, ℕ, ◌+◌, ◌*◌, ◌≤◌, ◌<◌, length};
 ghost use Rattle.laws.specs.Bits.{bit};
 ghost use Rattle.laws.specs.Counting.{count};

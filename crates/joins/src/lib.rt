@@ -1,4 +1,6 @@
 // The doubtful faces of a row's cubes, 64 at a time: whose positive corners are joined, and which cubes so have exactly one loop and which exactly two.
+#![tactic(auto)]
+
 ghost use Rattle.std.specs.Prelude.{◌≡◌, ◌+◌, ◌≤◌};
 ghost use Rattle.laws.specs.Bits.{bit};
 ghost use Rattle.cube_rule.specs.Decider.{loops_of};

@@ -1,5 +1,7 @@
 // One row of one layer of cubes: its vertices and the quads from its row of samples, counted or written into lent buffers, from the row's windows,
 // the signs of both planes, and tables of vertex numbers. Whatever holds the samples calls it row by row.
+#![tactic(auto)]
+
 ghost use Rattle.std.specs.Prelude.{◌≡◌, [], ◌+◌, ◌*◌, ◌<◌, ◌≤◌, length};
 ghost use Rattle.cube_rule.specs.Decider.{loops_of};
 ghost use Rattle.laws.specs.Put.{Put};

@@ -1,4 +1,6 @@
 // The program (document 01, "The program"): an input is read, and its mesh or a refusal is written as lines of upper-case hexadecimal.
+#![tactic(auto)]
+
 ghost use Rattle.std.specs.Prelude.{◌≡◌, not, [], ◌∷◌, ◌+◌, ◌*◌, ◌%◌, ◌≤◌, ◌<◌, length, take, T};
 ghost use Rattle.std.specs.Float.Ieee.{is_nan};
 ghost use Rattle.laws.specs.Below.{below};

@@ -1,4 +1,6 @@
 // Lists of quads: the checks of rows 7 and 14 of the table of refusals (document 01, "Numbers of refusal"; document 02, Three).
+#![tactic(auto)]
+
 ghost use Rattle.std.specs.Prelude.{◌≡◌, ◌&&◌, ltb};
 ghost use Rattle.lists.specs.Rows.{length_row, number_row};
 

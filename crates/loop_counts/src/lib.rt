@@ -1,5 +1,7 @@
 // How many loops the cubes of a row have. Cubes whose corners have one sign are passed over 64 at a time, and so are the cubes with one loop and with
 // two found; only the others are linked. Where all active cubes of a row are plain, the signs alone say how many loops it has.
+#![tactic(auto)]
+
 ghost use Rattle.std.specs.Prelude.{◌≡◌, ◌+◌, ◌*◌, ◌<◌, ◌≤◌, length};
 ghost use Rattle.cube_rule.specs.Decider.{loops_of};
 ghost use Rattle.rows.specs.Rows.{word_loops, WordReady, row_masks, RowReady};

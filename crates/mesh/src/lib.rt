@@ -1,5 +1,7 @@
 // Counting a mesh, and the mesh in lent buffers (document 01, "The mesh" and "Numbers of refusal"). The passes take a block of samples or a block of readings
 // (document 02, Ten): they differ in how the signs of a plane are made, and in how a row is counted or written.
+#![tactic(auto)]
+
 ghost use Rattle.std.specs.Prelude.{◌≡◌, ◌++◌, ◌+◌, ◌-◌, ◌<◌, ◌≤◌, length};
 ghost use Rattle.cube_rule.specs.Decider.{loops_of};
 ghost use Rattle.block.specs.Answer.{in_order, judged};

@@ -1,4 +1,6 @@
 // The numbers of a row's vertices, noted by cube and edge: of one cube, and of a row that is read back from the words buffer.
+#![tactic(auto)]
+
 ghost use Rattle.std.specs.Prelude.{◌≡◌, cond, [], ◌∷◌, ◌+◌, ◌*◌, ◌<◌, ◌≤◌, length};
 ghost use Rattle.std.proofs.lemmas.List.Edits.{sets};
 ghost use Rattle.notes.specs.Tables.{which_of, word_for, is_first, four_for, RowRead, RowNoted};

@@ -1,5 +1,7 @@
 // The program (document 01, "The program"): reads standard input, and writes what `lines::run` makes of it to standard output. The largest input
 // that it takes has 2,129 bytes, and what stands past the first 2,130 changes nothing (`first_bytes`), so one buffer of 4,096 is enough.
+#![tactic(auto)]
+
 use libc::{STDIN_FILENO, STDOUT_FILENO};
 
 fn main() {

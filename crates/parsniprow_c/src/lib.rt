@@ -1,5 +1,7 @@
 // The library for C: exported functions over numbers and slices, each of which writes its answer to lent places. A slice is a pointer and
 // then a length. include/parsniprow.h declares and explains them.
+#![tactic(auto)]
+
 ghost use Rattle.std.specs.Prelude.{◌≡◌, [], ◌∷◌};
 ghost use Rattle.by_planes.specs.Answer.{said_start, said_taken};
 ghost use Rattle.parsniprow_c.specs.Told.{tell_over, CeilingsTold, ReadingTold, EdgeTold, CubeTold, CrossedTold, CountsTold, RowTold, MeshTold, ReadingsCountsTold, ReadingsMeshTold, StartTold, PlaneTold, EndTold, state_after, growth_after, ClosedTold, ClosedWithTold, JudgeTold, PiecesTold, PlyTold};

@@ -1,6 +1,8 @@
 // The pieces of a list of quads (document 02, Six): two vertices belong together if a chain of quads joins them. Vertices are united by quads. While
 // that goes on, the buffer of piece numbers has what each vertex hangs under, and the buffer of sizes has how many vertices hang under each top. Then
 // the pieces get their numbers in place.
+#![tactic(auto)]
+
 ghost use Rattle.std.specs.Prelude.{◌≡◌, ◌/◌, ◌%◌, ◌≤◌, ◌<◌, length};
 ghost use Rattle.trees.specs.Forest.{begin, after};
 ghost use Rattle.trees.specs.Steps.{stored, Ends, Standing};

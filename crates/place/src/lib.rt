@@ -1,4 +1,6 @@
 // Where the surface crosses an edge, and the place of a loop in its cube (document 01, "Faces, loops and places").
+#![tactic(auto)]
+
 ghost use Rattle.std.specs.Prelude.{◌≡◌, ◌+◌, ◌-◌, ◌<◌};
 ghost use Rattle.block.specs.Answer.{refused};
 ghost use Rattle.block.specs.Grey.{positive, SixteenBit};

@@ -1,5 +1,7 @@
 // One layer of cubes between a plane that is remembered in a lent buffer and a plane that is handed over: its vertices and quads, counted and written,
 // and what must be remembered for the next plane (document 02, Nine).
+#![tactic(auto)]
+
 ghost use Rattle.std.specs.Prelude.{◌≡◌, ◌+◌, ◌*◌, ◌/◌, ◌%◌, ◌≤◌, length};
 ghost use Rattle.laws.specs.Below.{over};
 ghost use Rattle.cube_rule.specs.Decider.{loops_of};

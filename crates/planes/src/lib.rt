@@ -1,5 +1,7 @@
 // What the words of two planes say of the cubes and edges between them, 64 at a time: the signs of the cubes' corners, the sign pattern of one cube,
 // which cubes and edges have ends of both signs, and the places of a word that count.
+#![tactic(auto)]
+
 ghost use Rattle.std.specs.Prelude.{◌≡◌, ◌+◌, ◌*◌, ◌/◌, ◌%◌, ◌^◌, ◌<◌, ◌≤◌, length};
 ghost use Rattle.planes.specs.Planes.{further_of, further_at, eight_of, active_of, along_x, along_y, along_z, limit_of, inner_of, pattern_at};
 ghost use Rattle.std.specs.Int.Count.{ones};

@@ -1,4 +1,6 @@
 // A mesh as a PLY file in a lent buffer (document 02, Three): the checks of the rows that it tries, and the file from its header to its last face.
+#![tactic(auto)]
+
 ghost use Rattle.std.specs.Prelude.{◌≡◌, ◌+◌, ◌*◌, ◌-◌, ◌/◌, ◌≤◌, ◌<◌, length};
 ghost use Rattle.laws.specs.Below.{below};
 ghost use Rattle.laws.specs.Put.{Put};

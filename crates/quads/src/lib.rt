@@ -1,5 +1,7 @@
 // The quads of the edges from one row of samples: how many there are, and the quads written into a lent buffer by tables of vertex numbers
 // (document 01, "The mesh").
+#![tactic(auto)]
+
 ghost use Rattle.std.specs.Prelude.{◌≡◌, ℕ, ◌+◌, ◌*◌, ◌<◌, ◌≤◌, true, [], ◌∷◌, length};
 ghost use Rattle.std.proofs.lemmas.List.Edits.{sets};
 ghost use Rattle.laws.specs.Bits.{holds};

@@ -1,5 +1,7 @@
 // Reading the program's input (document 01, "The program"): digits, lines and numbers of upper-case hexadecimal, the rows of the table that speak of
 // them, and the samples.
+#![tactic(auto)]
+
 ghost use Rattle.std.specs.Prelude.{◌≡◌, [], ◌∷◌, ℕ, ◌+◌, ◌*◌, ◌%◌, ◌≤◌, ◌<◌, length};
 ghost use Rattle.laws.specs.Below.{below, over};
 ghost use Rattle.block.specs.Answer.{in_order};

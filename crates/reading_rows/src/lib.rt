@@ -1,5 +1,7 @@
 // Rows of readings (document 02, Ten) as the passes over rows take them: the signs of a plane, and one row of one layer, counted or written. The signs are
 // compared as readings, and only a row that has to be looked at is made into windows of grey values.
+#![tactic(auto)]
+
 ghost use Rattle.std.specs.Prelude.{◌≡◌, ◌+◌, ◌*◌, ◌<◌, ◌≤◌, length};
 ghost use Rattle.std.specs.Float.Ieee.{le};
 ghost use Rattle.std.proofs.lemmas.List.Edits.{sets};

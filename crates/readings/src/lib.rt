@@ -1,4 +1,6 @@
 // Readings of the second bench (document 02, Ten): what one reading is, whether one of a list is at fault, and a list of them as grey values.
+#![tactic(auto)]
+
 ghost use Rattle.std.specs.Prelude.{◌≡◌, false, ◌≤◌, ◌<◌, T, length};
 ghost use Rattle.std.specs.Float.Ieee.{fits};
 ghost use Rattle.std.specs.Float.{binary32};

@@ -1,5 +1,7 @@
 // Counting and meshing a block of readings of the second bench (document 02, Ten): the answers and the mesh are those of the block of grey values that the readings
 // become.
+#![tactic(auto)]
+
 ghost use Rattle.std.specs.Prelude.{◌≡◌, ◌++◌, length};
 ghost use Rattle.block.specs.Answer.{in_order, judged};
 ghost use Rattle.block.specs.Size.{Limits};

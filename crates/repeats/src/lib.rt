@@ -1,4 +1,6 @@
 // A table of bits that says which keys were met: what the foundry's vertices and quads share where a repeated one is looked for (document 02, Twelve).
+#![tactic(auto)]
+
 ghost use Rattle.std.specs.Prelude.{◌≡◌, ◌&&◌, ◌*◌, ◌<◌, leb, length};
 ghost use Rattle.repeats.specs.Fresh.{bit_at, Marked};
 

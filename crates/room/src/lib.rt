@@ -1,4 +1,6 @@
 // How much room a mesh can take: the crossed edges of a block, counted by words of 64 signs (document 02, Seven).
+#![tactic(auto)]
+
 ghost use Rattle.std.specs.Prelude.{◌≡◌, ◌+◌, ◌<◌, ◌≤◌, length};
 ghost use Rattle.block.specs.Answer.{in_order, judged};
 ghost use Rattle.block.specs.Block.{block_rows};

@@ -1,4 +1,6 @@
 // A row of cubes: its windows, rows of samples that hold the corners of its cubes, and whether it has an active cube at all.
+#![tactic(auto)]
+
 ghost use Rattle.std.specs.Prelude.{◌≡◌, ◌+◌, ◌<◌, ◌≤◌, length};
 ghost use Rattle.signs.specs.Windows.{window_corners};
 ghost use Rattle.rows.specs.Quiet.{quiet_row};

@@ -2,6 +2,8 @@
 // give, and orders of two. What it must write stands in the file stdout; `tests/oracle.py samples` makes that file from the cases below,
 // which stand in the order in which they are run. A number after a colon in a name is the number of the refusal, and the words behind it say what its
 // value names; tests/samples holds them against the answer.
+#![tactic(auto)]
+
 ghost use Rattle.std.specs.Prelude.{◌≤◌, ◌≡◌, length, take};
 
 use libc::STDOUT_FILENO;

@@ -1,5 +1,7 @@
 // Which of 64 cubes have exactly one loop and which exactly two, by the signs of their corners and by the doubtful faces whose positive corners are
 // joined.
+#![tactic(auto)]
+
 ghost use Rattle.std.specs.Prelude.{◌≡◌};
 ghost use Rattle.sorts.specs.Sorting.{odd_in_three_of, two_in_three_of, two_in_four_of, mostly_of, three_of, rarer_of, odd_of, some_of, lone_of, one_from, two_from, sorts_of};
 

@@ -1,4 +1,6 @@
 // What a C caller is told of each answer, in numbers: 0 and what is answered, or number and value of a refusal; zeros where they are not used.
+#![tactic(auto)]
+
 ghost use Rattle.std.specs.Prelude.{◌≡◌, get_or};
 ghost use Rattle.block.specs.Answer.{accepted};
 ghost use Rattle.by_planes.specs.Answer.{said_start, said_taken};

@@ -1,5 +1,7 @@
 // Vertices that hang in trees (document 02, Six): a quad joins its four vertices. One buffer has what each vertex hangs under, itself for a top, and a second
 // one how many vertices hang under each top.
+#![tactic(auto)]
+
 ghost use Rattle.std.specs.Prelude.{◌≡◌, ◌+◌, ◌<◌, max, not, ◌&&◌, ◌||◌, eqb, ltb, length, set};
 ghost use Rattle.trees.specs.Forest.{at, top_of, links_of, goes_under, join_quad};
 ghost use Rattle.trees.specs.Steps.{stored, Ends, Standing, Tops, Unites, Reached, Joins};

@@ -1,4 +1,6 @@
 // The lists of a mesh's vertices, words and offsets: the checks of rows 22, 23 and 24 of the table of refusals (document 02, Three).
+#![tactic(auto)]
+
 ghost use Rattle.std.specs.Prelude.{◌≡◌, ◌&&◌, ◌/◌};
 ghost use Rattle.block.specs.Answer.{in_order};
 ghost use Rattle.block.specs.Numbering.{cube_count};

@@ -1,5 +1,7 @@
 // The vertices of a row of cubes by its windows: their words and offsets into lent buffers, with their numbers noted by cube and edge (document 01,
 // "The mesh"). Cubes whose corners have one sign are passed over 64 at a time, and those with one loop are written without being linked.
+#![tactic(auto)]
+
 ghost use Rattle.std.specs.Prelude.{◌+◌, ◌*◌, ◌<◌};
 ghost use Rattle.cube_rule.specs.Decider.{loops_of};
 ghost use Rattle.rows.specs.Rows.{WordReady, RowReady};

@@ -1,0 +1,15 @@
+-- `clear_heads` meets its contract: the words of the vertices before v are written, and no other.
+-- Assumes nothing.
+use mathlib.Core.Path.{◌≡◌, refl}
+use Prim.Native.Nat.{ℕ, ◌-◌, ◌≤◌, ◌<◌}
+use native.Mathlib.Omega.{arith}
+use borrow.Author.Rules.{rules}
+use lib.ListN.{length, get_or}
+use Rattle.closed_with.proofs.Chains.{cleared_more, chained_none}
+use Rattle.closed_with.proofs.clear_heads.Goals as goal
+
+pub returns : goal.returns
+returns c =
+    let l = c.loop-v in
+    let end : l.v ≡ c.args.top = omega arith in
+    chained_none l.invariant.1 (λ v h. l.invariant.3 v (omega arith)) (λ p h. l.invariant.4 p (omega arith))

@@ -1,0 +1,27 @@
+-- `walks_from` meets its contract: the chain of a is followed.
+-- Assumes nothing.
+use Prim.Native.Nat.{◌+◌, ◌-◌}
+use native.Mathlib.Omega.{arith}
+use borrow.Author.Rules.{rules}
+use lib.ListN.{length}
+use Rattle.closed.specs.Closed.{from}
+use Rattle.closed.proofs.Chains.{first_ge}
+use Rattle.closed_with.proofs.Chains.{Following, follow_first, follow_next, follow_end}
+use Rattle.closed_with.proofs.walks_from.Goals as goal
+
+pub loop-m-init : goal.loop-m-init
+loop-m-init c = follow_first _ _ _ _ (c.requires.2.heads _ c.requires.0)
+
+pub loop-m-smaller : goal.loop-m-smaller
+loop-m-smaller c =
+    let l = c.loop-m in
+    let quads = c.args.quads.now in
+    omega (arith, c.requires.2.links l.m (omega arith), first_ge quads (from quads l.m) (l.m + 1))
+
+pub loop-m-preserved : goal.loop-m-preserved
+loop-m-preserved c =
+    let l = c.loop-m in
+    let e = c.next-e in
+    let s = c.same-found in
+    follow_next c.args.quads.now c.args.a c.args.b l.found l.m e.result s.result _ l.invariant (omega arith) e.ensures s.ensures.value s.ensures.upper_bound
+    (c.requires.2.links l.m (omega arith))

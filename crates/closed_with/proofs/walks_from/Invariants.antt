@@ -1,0 +1,16 @@
+-- `walks_from` meets its contract: the chain of a is followed.
+-- Assumes nothing.
+use Prim.Native.Nat.{◌+◌, ◌-◌}
+use native.Mathlib.Omega.{arith}
+use borrow.Author.Rules.{rules}
+use lib.ListN.{length}
+use Rattle.closed.specs.Closed.{from}
+use Rattle.closed.proofs.Chains.{first_ge}
+use Rattle.closed_with.proofs.Chains.{Following, follow_first, follow_next, follow_end}
+use Rattle.closed_with.proofs.walks_from.Given as goal
+
+abbrev pub invariant-loop-m : goal.invariant-loop-m
+invariant-loop-m l = Following l.quads l.a l.b l.found l.m
+
+abbrev pub decreases-loop-m : goal.decreases-loop-m
+decreases-loop-m l = length l.quads - l.m

@@ -1,0 +1,71 @@
+-- `cube::pattern` meets its contract. The loop's invariant: `p` is the mask of the positive corners below `c`.
+-- The measure is what is left of the eight. Assumes nothing.
+use mathlib.Core.Path.{◌≡◌, refl, ap, ◌∙◌}
+use mathlib.Core.Logic.{⊎_elim}
+use mathlib.Core.Bool.{Bool, true, false}
+use mathlib.Core.List.{List}
+use Prim.Native.Nat.{ℕ, ◌+◌, ◌-◌, ◌*◌, ◌^◌, ◌%◌, ◌≤◌, ◌<◌}
+use native.Mathlib.Numerals.{add-one}
+use native.Mathlib.Nat.{one-mul, zero-mul, add-zero}
+use native.Mathlib.Omega.{arith}
+use lib.Pow.{pow-lt}
+use borrow.Author.Rules.{rules}
+use borrow.Author.Tests.{le-leb, lt-leb}
+use Rattle.laws.specs.Bits.{mask_of}
+use Rattle.laws.proofs.Bits.{mask_lt, shift_one}
+use Rattle.block.specs.declared.Cut.{Cut}
+use Rattle.block.specs.Grey.{positive}
+use Rattle.cube_rule.specs.Edges.{corner_sample, pattern_of}
+use Rattle.cube.proofs.pattern.Goals as goal
+use Rattle.cube.proofs.pattern.Invariants.{signs}
+
+-- the mask before the first corner, and after a corner that is positive or negative
+mask_start : (f : ℕ → Bool) → ◌≡◌ {A = ℕ} 0 (mask_of f 0)
+unfolding mask_of
+mask_start f = refl
+
+mask_next : (f : ℕ → Bool) (p c : ℕ) → p ≡ mask_of f c → f c ≡ true → c < 32 → p + 1 * 2 ^ c % 2 ^ 32 ≡ mask_of f (c + 1)
+unfolding mask_of
+mask_next f p c e t h = rw (add-one, t, shift_one c 32 h, e, one-mul)
+
+mask-kept : (f : ℕ → Bool) (p c : ℕ) → p ≡ mask_of f c → f c ≡ false → p ≡ mask_of f (c + 1)
+unfolding mask_of
+mask-kept f p c e t = rw (add-one, t, e, zero-mul, add-zero)
+
+pub loop-c-init : goal.loop-c-init
+loop-c-init c = (search rules, mask_start _)
+
+pub overflow_add-p : goal.overflow_add-p
+overflow_add-p c =
+    let i = c.loop-c.c in
+    let h : i < 8 = omega arith in
+    let b : 2 ^ i < 2 ^ 8 = pow-lt h in
+    let e = shift_one i 32 (omega arith) in
+    let m = mask_lt (signs c.args.cut c.args.corners) i in
+    omega (arith, c.loop-c.invariant.1)
+
+pub loop-c-preserved : goal.loop-c-preserved
+loop-c-preserved c =
+    let t = c.args.cut.t in
+    let sample = corner_sample c.args.corners c.loop-c.c in
+    let f = signs c.args.cut c.args.corners in (
+      search rules,
+      ⊎_elim
+          (λ w. w.1 ∙ mask_next f c.loop-c.p c.loop-c.c c.loop-c.invariant.1 (le-leb t sample (omega arith)) (omega arith))
+          (λ w. w.1 ∙ mask-kept f c.loop-c.p c.loop-c.c c.loop-c.invariant.1 (lt-leb t sample (omega arith)))
+          c.if-cut-corners.branch,
+    )
+
+pub returns-clause-value : goal.returns-clause-value
+unfolding pattern_of
+returns-clause-value c =
+    let f = signs c.args.cut c.args.corners in
+    let all : c.loop-c.c ≡ 8 = omega arith in
+    let e : c.loop-c.p ≡ mask_of f 8 = c.loop-c.invariant.1 ∙ ap (mask_of f) all in e
+
+pub returns-clause-upper_bound : goal.returns-clause-upper_bound
+unfolding pattern_of
+returns-clause-upper_bound c =
+    let f = signs c.args.cut c.args.corners in
+    let all : c.loop-c.c ≡ 8 = omega arith in
+    let e : c.loop-c.p ≡ mask_of f 8 = c.loop-c.invariant.1 ∙ ap (mask_of f) all in rw e (mask_lt f 8)

@@ -1,0 +1,28 @@
+-- `cube::pattern` meets its contract. The loop's invariant: `p` is the mask of the positive corners below `c`.
+-- The measure is what is left of the eight. Assumes nothing.
+use mathlib.Core.Path.{◌≡◌, refl, ap, ◌∙◌}
+use mathlib.Core.Logic.{⊎_elim}
+use mathlib.Core.Bool.{Bool, true, false}
+use mathlib.Core.List.{List}
+use Prim.Native.Nat.{ℕ, ◌+◌, ◌-◌, ◌*◌, ◌^◌, ◌%◌, ◌≤◌, ◌<◌}
+use native.Mathlib.Numerals.{add-one}
+use native.Mathlib.Nat.{one-mul, zero-mul, add-zero}
+use native.Mathlib.Omega.{arith}
+use lib.Pow.{pow-lt}
+use borrow.Author.Rules.{rules}
+use borrow.Author.Tests.{le-leb, lt-leb}
+use Rattle.laws.specs.Bits.{mask_of}
+use Rattle.laws.proofs.Bits.{mask_lt, shift_one}
+use Rattle.block.specs.declared.Cut.{Cut}
+use Rattle.block.specs.Grey.{positive}
+use Rattle.cube_rule.specs.Edges.{corner_sample, pattern_of}
+use Rattle.cube.proofs.pattern.Given as goal
+
+abbrev pub signs : Cut → List ℕ → ℕ → Bool
+signs cut corners c = positive cut (corner_sample corners c)
+
+abbrev pub invariant-loop-c : goal.invariant-loop-c
+invariant-loop-c l = (l.c ≤ 8) × (l.p ≡ mask_of (signs l.cut l.corners) l.c)
+
+abbrev pub decreases-loop-c : goal.decreases-loop-c
+decreases-loop-c l = 8 - l.c

@@ -1,0 +1,15 @@
+-- `put_text` meets its contract: the first i bytes are copied.
+-- Assumes nothing.
+use borrow.Author.Rules.{rules}
+use Prim.Native.Nat.{◌-◌, ◌≤◌}
+use mathlib.Core.Path.{◌≡◌, refl}
+use native.Mathlib.Omega.{arith}
+use lib.ListN.{length, take, length-set}
+use lib.Seq.{sets}
+use Rattle.file_bytes.proofs.Writing.{copy_more, copy_all}
+use Rattle.file_bytes.proofs.put_text.Goals as goal
+
+pub loop-i-preserved : goal.loop-i-preserved
+loop-i-preserved c =
+    let l = c.loop-i in
+    (omega arith, simp length-set l.invariant.1, copy_more _ _ _ _ _ l.invariant.2 (omega arith))

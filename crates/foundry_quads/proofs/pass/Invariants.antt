@@ -1,0 +1,13 @@
+-- `pass` meets its contract. The loop's invariant: every quad so far is new in the range, and the table says which keys were met.
+-- Assumes nothing.
+use Rattle.std.proofs.Common.{◌-◌, ◌≤◌, sym, refl, ◌∙◌, arith, rules}
+use Rattle.foundry_quads.proofs.Runs.{Run, run_new, run_out, run_more, run_stops, run_ends}
+use Rattle.foundry_quads.specs.Steps.{key_by}
+use Rattle.foundry_quads.proofs.Quads.{key_known}
+use Rattle.foundry_quads.proofs.pass.Given as goal
+
+abbrev pub invariant-loop-q : goal.invariant-loop-q
+invariant-loop-q l = (l.q ≤ l.limit) × Run (key_by l.words l.wide l.layer l.quads) l.base l.q l.table
+
+abbrev pub decreases-loop-q : goal.decreases-loop-q
+decreases-loop-q l = l.limit - l.q

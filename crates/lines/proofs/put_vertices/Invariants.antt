@@ -1,0 +1,19 @@
+-- `put_vertices` meets its contract: the lines of the vertices before the one in hand are put.
+-- Assumes nothing.
+use Prim.Native.Nat.{ℕ, ◌+◌, ◌*◌, ◌-◌, ◌≤◌}
+use mathlib.Core.Path.{◌≡◌, refl, ap, ◌∙◌}
+use native.Mathlib.Omega.{arith}
+use borrow.Author.Rules.{rules}
+use lib.ListN.{length}
+use Rattle.laws.specs.Below.{below}
+use Rattle.lines.specs.Output.{vertex_line}
+use Rattle.laws.specs.Put.{Put}
+use Rattle.laws.proofs.Puts.{puts_none}
+use Rattle.lines.proofs.Texts.{vertex_more}
+use Rattle.lines.proofs.put_vertices.Given as goal
+
+abbrev pub invariant-loop-v : goal.invariant-loop-v
+invariant-loop-v l = (l.v ≤ l.count) × (l.next ≡ l.at + 63 * l.v) × Put l.initial.out l.at (below (vertex_line l.words l.offsets) l.v) l.out l.next × (length l.out ≡ length l.initial.out)
+
+abbrev pub decreases-loop-v : goal.decreases-loop-v
+decreases-loop-v l = l.count - l.v

@@ -1,0 +1,44 @@
+-- `plain_row` meets its contract. The loop's invariant: the active cubes of the words before w are plain, and counted. The measure is what is left
+-- of four words. Assumes nothing.
+use Prim.Native.Nat.{ℕ, ◌+◌, ◌-◌, ◌*◌, ◌≤◌, ◌<◌}
+use mathlib.Core.Path.{◌≡◌, sym, ap, ap₂, ◌∙◌, subst}
+use mathlib.Core.Bool.{Bool, true}
+use mathlib.Core.List.{List}
+use lib.Bits.{bit_and}
+use native.Mathlib.Omega.{arith}
+use borrow.Author.Rules.{rules}
+use borrow.Author.Tests.{not-true, not-false}
+use Rattle.planes.specs.Planes.{eight_of, active_of}
+use Rattle.rows.specs.Quiet.{active_in, words_in_row, every}
+use Rattle.rows.proofs.Quiets.{every_start, every_more, every_not}
+use Rattle.loop_counts.specs.PlainRow.{plain_word, active_to}
+use Rattle.loop_counts.proofs.PlainRows.{active_start, active_more, plain_all, plain_doubt}
+use Rattle.loop_counts.proofs.plain_row.Goals as goal
+use Rattle.loop_counts.proofs.plain_row.Invariants.{plainAt}
+
+pub loop-w-init : goal.loop-w-init
+loop-w-init c =
+    let a = c.args in
+    (omega arith, every_start (plainAt a.a.now a.b.now a.row.nx a.row.j), active_start a.a.now a.b.now a.row.nx a.row.j, omega arith)
+
+pub returns-then-not-plain_word : goal.returns-then-not-plain_word
+returns-then-not-plain_word c =
+    let four : (c.loop-w.w < 4) × (c.loop-w.w < words_in_row c.args.row.nx) = (omega (arith, c.loop-w-test.true, c.requires.1), omega (arith, c.loop-w-test.true, c.requires.0)) in
+    let act_is : let a = c.args in bit_and c.active.result c.limit.result ≡ active_in a.a.now a.b.now a.row.nx a.row.j c.loop-w.w = ap₂ bit_and (c.active.ensures ∙ ap active_of c.eight-e.ensures) c.limit.ensures in
+    let plain-is : let a = c.args in c.plain_word.result ≡ plainAt a.a.now a.b.now a.row.nx a.row.j c.loop-w.w = c.plain_word.ensures ∙ ap₂ plain_word c.eight-e.ensures (act_is) in
+    let a = c.args in
+    plain_doubt a.a.now a.b.now a.row.nx a.row.j
+    (every_not (plainAt a.a.now a.b.now a.row.nx a.row.j) c.loop-w.w (words_in_row a.row.nx) (sym plain-is ∙ not-true _ c.if-not-plain_word.true) four.1)
+
+pub loop-w-preserved : goal.loop-w-preserved
+loop-w-preserved c =
+    let four : (c.loop-w.w < 4) × (c.loop-w.w < words_in_row c.args.row.nx) = (omega (arith, c.loop-w-test.true, c.requires.1), omega (arith, c.loop-w-test.true, c.requires.0)) in
+    let act_is : let a = c.args in bit_and c.active.result c.limit.result ≡ active_in a.a.now a.b.now a.row.nx a.row.j c.loop-w.w = ap₂ bit_and (c.active.ensures ∙ ap active_of c.eight-e.ensures) c.limit.ensures in
+    let plain-is : let a = c.args in c.plain_word.result ≡ plainAt a.a.now a.b.now a.row.nx a.row.j c.loop-w.w = c.plain_word.ensures ∙ ap₂ plain_word c.eight-e.ensures (act_is) in
+    let h = c.loop-w in
+    let a = c.args in (
+      omega (arith, four.1),
+      every_more (plainAt a.a.now a.b.now a.row.nx a.row.j) h.w h.invariant.1 (sym plain-is ∙ not-false _ c.if-not-plain_word.false),
+      active_more a.a.now a.b.now a.row.nx a.row.j h.w h.m c.ones_of-m.result _ h.invariant.2 act_is c.ones_of-m.ensures.value,
+      omega (arith, h.invariant.3, c.ones_of-m.ensures.upper_bound),
+    )

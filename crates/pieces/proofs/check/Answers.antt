@@ -1,0 +1,21 @@
+-- `check` meets its contract: the first of the rows that refuses decides.
+-- Assumes nothing.
+use mathlib.Core.Path.{sym, ◌∙◌}
+use Rattle.block.proofs.Order.{order_refuses, order_passes, order_last}
+use borrow.Author.Rules.{rules}
+use Rattle.pieces.proofs.check.Goals as goal
+
+pub returns-in-Refuses : goal.returns-in-Refuses
+returns-in-Refuses c = sym (order_refuses _ _ _ (sym c.check_length-whole.ensures ∙ c.in-Refuses.is))
+
+pub returns-in-Refuses-known : goal.returns-in-Refuses-known
+returns-in-Refuses-known c =
+    sym (order_passes _ _ (sym c.check_length-whole.ensures ∙ c.in_default.is)
+    ∙ order_refuses _ _ _ (sym c.check_numbers-known.ensures ∙ c.in-Refuses-known.is))
+
+pub returns : goal.returns
+returns c =
+    sym (order_passes _ _ (sym c.check_length-whole.ensures ∙ c.in_default.is)
+    ∙ order_passes _ _ (sym c.check_numbers-known.ensures ∙ c.in_default-known.is)
+    ∙ order_last _
+    ∙ sym c.check_buffers.ensures)

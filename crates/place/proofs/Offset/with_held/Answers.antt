@@ -1,0 +1,15 @@
+-- `Offset::with_held` meets its contract: an edge that the mask does not hold leaves the sum as it is, and one that it holds is added.
+-- Assumes nothing.
+use mathlib.Core.Path.{◌∙◌}
+use borrow.Author.Rules.{rules}
+use Rattle.place.proofs.Visit.{sum_skips, sum_asks, sum_adds}
+use Rattle.place.proofs.Offset.with_held.Goals as goal
+
+pub returns-then-mask-e-eq0 : goal.returns-then-mask-e-eq0
+returns-then-mask-e-eq0 c =
+    let a = c.args in sum_skips a.cut a.corners a.mask a.e c.if-mask-e-eq0.true a.self
+
+pub returns : goal.returns
+returns c =
+    let a = c.args in
+    λ is. c.with_edge.ensures ∙ sum_adds a.cut a.corners a.mask a.e c.if-mask-e-eq0.false a.self is

@@ -1,0 +1,11 @@
+-- `lower_corner` meets its contract: the digits are the edges' lower corners.
+-- Assumes nothing.
+use borrow.Author.Rules.{rules}
+use Rattle.laws.proofs.Tests.{below}
+use Rattle.cube_rule.specs.Edges.{lower}
+use Rattle.place.proofs.Corners.{agree}
+use Rattle.place.proofs.lower_corner.Goals as goal
+
+pub returns-clause-upper_bound : goal.returns-clause-upper_bound
+unfolding below
+returns-clause-upper_bound c = (agree _ lower tt c.args.e (search rules)).1

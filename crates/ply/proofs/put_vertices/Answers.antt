@@ -1,0 +1,35 @@
+-- `put_vertices` meets its contract: the vertices before the one in hand are put.
+-- Assumes nothing.
+use borrow.Author.Rules.{rules}
+use Prim.Native.Nat.{ℕ, ◌+◌, ◌*◌, ◌-◌, ◌≤◌}
+use mathlib.Core.Path.{◌≡◌, refl, ap, ◌∙◌}
+use native.Mathlib.Omega.{arith}
+use lib.ListN.{length}
+use Rattle.laws.specs.Below.{below}
+use Rattle.laws.specs.Put.{Put}
+use Rattle.laws.proofs.Puts.{puts_none}
+use Rattle.block.specs.Size.{size_of}
+use Rattle.ply.specs.File.{vertex_bytes}
+use Rattle.ply.proofs.Accepted.{three_numbers}
+use Rattle.ply.proofs.Files.{vertex_more}
+use Rattle.ply.proofs.put_vertices.Goals as goal
+
+pub loop-v-init : goal.loop-v-init
+loop-v-init c = (search rules, search rules, puts_none _ _ _, refl)
+
+pub put_vertex-next-requires-clause-number : goal.put_vertex-next-requires-clause-number
+put_vertex-next-requires-clause-number c =
+    let l = c.loop-v in
+    let a = c.args in
+    let t = c.loop-v-test.true in (((omega (arith, c.requires.le_nx.0), omega (arith, c.requires.le_nx.1)), (three_numbers (size_of a.nx a.ny a.nz) a.words.now a.offsets.now a.s a.count c.requires.count_in_bounds.1 l.v t, omega (arith, t, l.invariant.1, l.invariant.3, c.requires.count_in_bounds.0.2)))).1
+
+pub loop-v-preserved : goal.loop-v-preserved
+loop-v-preserved c =
+    let a = c.args in
+    let i = c.loop-v.invariant in
+    let p = c.put_vertex-next.ensures in (
+      search rules,
+      omega (arith, i.1, p.1),
+      vertex_more (size_of a.nx a.ny a.nz) a.words.now a.offsets.now a.s _ _ _ refl refl i.2 p.0,
+      c.put_vertex-next.auto.0 ∙ i.3,
+    )

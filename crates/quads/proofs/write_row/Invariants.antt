@@ -1,0 +1,23 @@
+-- `write_row` meets its contract. The loop's invariant: the quads of the words before w are written. The measure is what is left of the words.
+-- Assumes nothing.
+use Rattle.std.proofs.Common.{◌≡◌, ℕ, ◌+◌, ◌-◌, ◌*◌, ◌<◌, ◌≤◌, List, length, get_or, sym, ap, subst, arith, rules}
+use Rattle.laws.specs.Below.{below}
+use Rattle.quads.specs.declared.Order.{Order}
+use Rattle.quads.specs.Edges.{words_in, edges_of}
+use Rattle.quads.specs.Writing.{order_of, word_by}
+use Rattle.laws.specs.Put.{Put}
+use Rattle.laws.proofs.Puts.{put_length, put_as}
+use Rattle.quads.proofs.RowQuads.{edge_reach}
+use Rattle.quads.proofs.Writes.{words_none, words_more, words_room}
+use Rattle.quads.proofs.write_row.Given as goal
+
+-- the quads of a run
+abbrev pub run_by : Order → List ℕ → List ℕ → List ℕ → List ℕ → ℕ → ℕ → ℕ → List ℕ
+run_by o n0 n1 n2 n3 d up x = word_by o.e o.back o.sign n0 n1 n2 n3 d up x
+
+abbrev pub invariant-loop-w : goal.invariant-loop-w
+invariant-loop-w l = (l.w ≤ words_in l.nx)
+    × Put l.initial.quads l.initial.p (below (λ (v : ℕ). run_by (order_of l.along) l.n0 l.n1 l.n2 l.n3 (edges_of l.along l.a l.b l.nx l.j v) (get_or l.a (5 * l.j + v) 0) (64 * v)) l.w) l.quads l.p
+
+abbrev pub decreases-loop-w : goal.decreases-loop-w
+decreases-loop-w l = words_in l.nx - l.w

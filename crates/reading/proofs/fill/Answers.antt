@@ -1,0 +1,22 @@
+-- `fill` meets its contract: the samples before the one in hand stand at the front of the buffer.
+-- Assumes nothing.
+use Prim.Native.Nat.{ℕ, ◌+◌, ◌*◌, ◌-◌, ◌/◌, ◌%◌, ◌≤◌, ◌<◌}
+use mathlib.Core.Path.{◌≡◌, refl}
+use native.Mathlib.Omega.{arith}
+use borrow.Author.Rules.{rules}
+use lib.ListN.{length}
+use Rattle.laws.specs.Below.{over}
+use Rattle.laws.proofs.Over.{each, over_none, over_put}
+use Rattle.reading.specs.Steps.{sample_read}
+use Rattle.reading.proofs.Reading.{sample_place_small}
+use Rattle.reading.proofs.fill.Goals as goal
+
+pub loop-i-init : goal.loop-i-init
+loop-i-init c = (search rules, over_none _ _, refl)
+
+pub loop-i-preserved : goal.loop-i-preserved
+loop-i-preserved c = (
+  search rules,
+  over_put (sample_read c.args.input.now c.args.nx) _ _ _ _ c.loop-i.invariant.1 c.number.ensures (omega (arith, c.loop-i-test.true, c.requires.3)),
+  search rules,
+)

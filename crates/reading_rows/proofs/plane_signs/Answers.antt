@@ -1,0 +1,37 @@
+-- `plane_signs` meets its contract. The loop's invariant: the words of the first j rows stand at the front of the buffer, and the rest is as it
+-- was. The measure is the number of rows left. Assumes nothing.
+use mathlib.Core.Path.{◌≡◌, ap, ◌∙◌}
+use mathlib.Core.List.{List}
+use Prim.Native.Nat.{ℕ, ◌+◌, ◌-◌, ◌*◌, ◌≤◌}
+use lib.ListN.{length}
+use Rattle.laws.specs.Below.{over}
+use Rattle.laws.proofs.Over.{each, over_none}
+use Rattle.signs.specs.Steps.{plane_from}
+use Rattle.signs.proofs.Planes.{rows_small, rows_room, plane_made}
+use Rattle.reading_rows.proofs.Windows.{reading_short, reading_stored}
+use Rattle.readings.specs.Reading.{greys_of}
+use Rattle.readings.proofs.Readings.{sound_part}
+use borrow.Author.Rules.{rules}
+use native.Mathlib.Omega.{arith}
+use Rattle.reading_rows.proofs.plane_signs.Goals as goal
+
+pub loop-j-init : goal.loop-j-init
+loop-j-init c = (omega arith, c.requires.3, over_none _ _)
+
+pub loop-j-preserved : goal.loop-j-preserved
+loop-j-preserved c =
+    let inside : let nx = c.nx-nx.result in let a = c.args in nx * (c.loop-j.j + c.ny-ny.result * a.k) + nx ≤ length a.readings.now = omega (arith, c.requires.1, rows_room c.args.size _ _ c.args.k c.nx-nx.ensures c.ny-ny.ensures c.requires.2 c.loop-j.j c.loop-j-test.true) in
+    let few : (c.ny-ny.result * c.args.k ≤ 65536) × (c.ny-ny.result ≤ 256) = (rows_small c.args.size _ c.args.k c.ny-ny.ensures c.requires.0 c.requires.2, omega (arith, c.ny-ny.ensures, c.requires.0.y_high)) in
+    let h = c.loop-j in (
+      omega (arith, c.loop-j-test.true),
+      c.row_signs.auto.1.1.0 ∙ h.invariant.1,
+      reading_stored c.args.readings.now c.args.cut c.nx-nx.result c.ny-ny.result h.j c.args.k inside _ _ _ h.invariant.2 c.row_signs.ensures
+          (omega (arith, few, c.loop-j-test.true, c.requires.3)),
+    )
+
+pub returns : goal.returns
+returns c =
+    let h = c.loop-j in
+    h.invariant.2
+    ∙ ap (λ (ws : List ℕ). over ws c.args.plane.now)
+    (plane_made c.args.size (greys_of c.args.readings.now) c.args.cut c.args.k _ _ (5 * h.j) c.nx-nx.ensures c.ny-ny.ensures (omega (arith, c.loop-j-test.false, h.invariant.0)))

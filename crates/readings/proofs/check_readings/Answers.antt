@@ -1,0 +1,18 @@
+-- `check_readings` meets its contract. The loop's invariant: none of the first p readings is at fault. The measure is what is left of the readings.
+-- Assumes nothing.
+use Prim.Native.Nat.{◌-◌}
+use mathlib.Core.Path.{sym}
+use borrow.Author.Rules.{rules}
+use native.Mathlib.Omega.{arith}
+use Rattle.readings.specs.Steps.{SoundTo}
+use Rattle.readings.proofs.Rows.{row_passes, sound_none, sound_run, sound_all}
+use Rattle.readings.proofs.check_readings.Goals as goal
+
+pub loop-p-preserved : goal.loop-p-preserved
+loop-p-preserved c =
+    let l = c.loop-p in
+    sound_run c.args.readings.now l.p c.run_end-end.result c.run_end-end.ensures.lower_bound (omega (arith, c.run_end-end.ensures.upper_bound)) l.invariant (c.some_fault.ensures c.if-some_fault.false)
+
+pub returns : goal.returns
+returns c =
+    let l = c.loop-p in let xs = c.args.readings.now in sym (row_passes xs (sound_all xs l.p (omega (arith, c.loop-p-test.false)) l.invariant))

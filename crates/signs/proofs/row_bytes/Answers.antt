@@ -1,0 +1,14 @@
+-- `row_bytes` meets its contract. The loop's invariant: the first i bytes are the signs of the first i samples, and the others are 0. The measure
+-- is the number of samples left.
+-- Assumes nothing.
+use mathlib.Core.Path.{◌≡◌, refl, subst, ◌∙◌}
+use Prim.Native.Nat.{ℕ, ◌-◌, ◌≤◌, ◌<◌}
+use native.Mathlib.Omega.{arith}
+use borrow.Author.Rules.{rules}
+use lib.ListN.{length, length-set}
+use Rattle.signs.specs.Steps.{SignBytes}
+use Rattle.signs.proofs.Rows.{bytes_none, bytes_more}
+use Rattle.signs.proofs.row_bytes.Goals as goal
+
+pub loop-i-init : goal.loop-i-init
+loop-i-init c = (omega arith, refl, bytes_none c.args.row.now c.args.t 256)
