@@ -29,7 +29,7 @@ returns-then-not-sound c =
     let judged-at : (r : Bool) → c.sound.result ≡ r → side_sound c.args.quads.now c.loop-n.n ≡ r = λ r is. let e = c.next-e in let l = c.loop-n in let quads = c.args.quads.now in side_judged quads l.n e.result c.walks_from-there.result c.walks_from-back.result (length quads) r e.ensures (omega arith) (omega arith) c.walks_from-there.ensures c.walks_from-back.ensures (sym is ∙ c.sound.ensures) in
     let quads = c.args.quads.now in
     let l = c.loop-n in
-    sym (leading_at (side_sound quads) (length quads) l.n (omega arith) l.invariant.1 (judged-at false (not-true _ c.if-not-sound.true)))
+    sym (leading_at (side_sound quads) (length quads) l.n (omega arith) l.invariant.1 (judged-at false c.if-not-sound.true))
 
 pub returns : goal.returns
 returns c =

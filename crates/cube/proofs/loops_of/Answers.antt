@@ -23,12 +23,12 @@ loop-n-init c =
 
 pub loop_from-l-requires : goal.loop_from-l-requires
 loop_from-l-requires c =
-    let some_left : 0 < c.loop-n.left = let m = c.loop-n.left in let e = eqb-false m 0 (not-true (eqb m 0) c.if-left-ne0.true) in omega arith in
+    let some_left : 0 < c.loop-n.left = let m = c.loop-n.left in let e = eqb-false m 0 c.if-left-ne0.true in omega arith in
     (some_left, found_last _ _ c.loop-n.left c.loop-n.n c.loop-n.masks c.loop-n.invariant c.loop-n-test.true some_left)
 
 pub loop-n-preserved : goal.loop-n-preserved
 loop-n-preserved c =
-    let some_left : 0 < c.loop-n.left = let m = c.loop-n.left in let e = eqb-false m 0 (not-true (eqb m 0) c.if-left-ne0.true) in omega arith in
+    let some_left : 0 < c.loop-n.left = let m = c.loop-n.left in let e = eqb-false m 0 c.if-left-ne0.true in omega arith in
     found_more _ _ c.loop-n.left c.loop-n.n c.loop_from-l.result c.loop-n.masks c.loop-n.invariant c.loop-n-test.true some_left c.loop_from-l.ensures
 
 pub returns-clause-value : goal.returns-clause-value

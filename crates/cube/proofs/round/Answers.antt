@@ -25,7 +25,7 @@ pub loop-k-preserved : goal.loop-k-preserved
 loop-k-preserved c =
     let k = c.loop-k.k in
     let ls = c.args.links in
-    let n : length ls ≡ 12 = c.well-formed.0.1.0.1 in
+    let n : length ls ≡ 12 = c.well_formed.0.1.0.1 in
     let h : k < length ls = omega arith in (
       omega arith,
       ap (λ (x : ℕ). grow x (drop (k + 1) ls)) c.join_link-x.ensures
@@ -36,5 +36,5 @@ loop-k-preserved c =
 pub returns : goal.returns
 returns c =
     let ls = c.args.links in
-    let n : length ls ≡ 12 = c.well-formed.0.1.0.1 in
+    let n : length ls ≡ 12 = c.well_formed.0.1.0.1 in
     sym (grow-all c.loop-k.x c.loop-k.k ls (omega arith)) ∙ c.loop-k.invariant.1

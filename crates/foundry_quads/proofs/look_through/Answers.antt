@@ -15,7 +15,7 @@ pub returns-then-not-fits_edge-clause-at_value : goal.returns-then-not-fits_edge
 returns-then-not-fits_edge-clause-at_value c =
     let l = c.loop-q in
     let four = c.begun_at-four in look_stops (quad_fits c.args.size c.args.samples.now c.args.cut c.args.words.now c.args.quads.now) l.q (quad_total c.args.quads.now) c.loop-q-test.true l.invariant.1
-    (fits_known c.args.size c.args.samples.now c.args.cut c.args.words.now c.args.quads.now l.q four.result four.ensures.result_value c.fits_edge.ensures (not-true _ c.if-not-fits_edge.true))
+    (fits_known c.args.size c.args.samples.now c.args.cut c.args.words.now c.args.quads.now l.q four.result four.ensures.result_value c.fits_edge.ensures c.if-not-fits_edge.true)
 
 pub loop-q-preserved : goal.loop-q-preserved
 loop-q-preserved c =
@@ -23,7 +23,7 @@ loop-q-preserved c =
     let four = c.begun_at-four in
     let key = c.key_of-key in (
       search rules,
-      holds_more (quad_fits c.args.size c.args.samples.now c.args.cut c.args.words.now c.args.quads.now) l.q l.invariant.1 (fits_known c.args.size c.args.samples.now c.args.cut c.args.words.now c.args.quads.now l.q four.result four.ensures.result_value c.fits_edge.ensures (not-false _ c.if-not-fits_edge.false)),
+      holds_more (quad_fits c.args.size c.args.samples.now c.args.cut c.args.words.now c.args.quads.now) l.q l.invariant.1 (fits_known c.args.size c.args.samples.now c.args.cut c.args.words.now c.args.quads.now l.q four.result four.ensures.result_value c.fits_edge.ensures c.if-not-fits_edge.false),
       rw (c.still-rises.ensures, key_known c.args.words.now c.args.quads.now c.args.wide c.args.layer l.q four.result four.ensures.result_value refl key.ensures.value)
           (rising_more (key_by c.args.words.now c.args.wide c.args.layer c.args.quads.now) l.q l.last l.rises l.invariant.2),
     )

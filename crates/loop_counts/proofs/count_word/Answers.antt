@@ -44,7 +44,7 @@ overflow_add-s c =
     let left : ℕ = bit_xor c.args.act (bit_and c.sorted-sorts.result.one c.args.act) in
     let set : holds c.args.act (next) ≡ true = rest_in c.args.act c.sorted-sorts.result.one _ (rest_in (left) c.sorted-sorts.result.two _ (visit_set _ c.loop-w.invariant.0 c.loop-w-test.true)) in
     let low_in : c.args.s + next + 1 + c.args.row.nx < length c.args.lo.now = c.requires.low_in _ (inside) (set) in
-    omega (arith, low_in, c.well-formed)
+    omega (arith, low_in, c.well_formed)
 
 pub corners-cs-requires : goal.corners-cs-requires
 corners-cs-requires c =

@@ -28,7 +28,7 @@ returns-then-not-plain_word c =
     let plain-is : let a = c.args in c.plain_word.result ≡ plainAt a.a.now a.b.now a.row.nx a.row.j c.loop-w.w = c.plain_word.ensures ∙ ap₂ plain_word c.eight-e.ensures (act_is) in
     let a = c.args in
     plain_doubt a.a.now a.b.now a.row.nx a.row.j
-    (every_not (plainAt a.a.now a.b.now a.row.nx a.row.j) c.loop-w.w (words_in_row a.row.nx) (sym plain-is ∙ not-true _ c.if-not-plain_word.true) four.1)
+    (every_not (plainAt a.a.now a.b.now a.row.nx a.row.j) c.loop-w.w (words_in_row a.row.nx) (sym plain-is ∙ c.if-not-plain_word.true) four.1)
 
 pub loop-w-preserved : goal.loop-w-preserved
 loop-w-preserved c =
@@ -38,7 +38,7 @@ loop-w-preserved c =
     let h = c.loop-w in
     let a = c.args in (
       omega (arith, four.1),
-      every_more (plainAt a.a.now a.b.now a.row.nx a.row.j) h.w h.invariant.1 (sym plain-is ∙ not-false _ c.if-not-plain_word.false),
+      every_more (plainAt a.a.now a.b.now a.row.nx a.row.j) h.w h.invariant.1 (sym plain-is ∙ c.if-not-plain_word.false),
       active_more a.a.now a.b.now a.row.nx a.row.j h.w h.m c.ones_of-m.result _ h.invariant.2 act_is c.ones_of-m.ensures.value,
       omega (arith, h.invariant.3, c.ones_of-m.ensures.upper_bound),
     )

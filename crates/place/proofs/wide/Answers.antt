@@ -26,5 +26,5 @@ eight (a ∷ b ∷ c ∷ d ∷ e ∷ f ∷ g ∷ h ∷ i ∷ xs) l = absurd (ome
 pub returns-clause-sixteen_bit : goal.returns-clause-sixteen_bit
 returns-clause-sixteen_bit c =
     let xs = c.args.corners in
-    let e = eight xs c.well-formed.0.1.0.1 in
+    let e = eight xs c.well_formed.0.1.0.1 in
     let g : (k : ℕ) → Fits w16 (get_or xs k 0) = λ k. search rules in λ k. subst (λ (l : List ℕ). get_or l k 0 < 65536) (sym e) (g k).fits
