@@ -20,11 +20,11 @@ returns-then-under c =
     let u = c.unite-under in
     let b = c.search-second in
     let longest = c.larger-longest.ensures ∙ ap (max c.args.first.longest) c.larger.ensures in
-    joins_under c.args.up.now c.args.size.now _ _ c.args.w c.args.first.top c.args.first.links c.args.first.longest _ _ _ u.result c.requires.0 c.requires.1 b.ensures.top_value b.ensures.links_value.0 u.ensures.unites u.ensures.value longest c.if-under.true
+    joins_under c.args.up.now c.args.size.now _ _ c.args.w c.args.first.top c.args.first.links c.args.first.longest _ _ _ u.result c.requires.0 c.requires.1 b.ensures.top_value b.ensures.links_value u.ensures.unites u.ensures.value longest c.if-under.true
 
 pub returns : goal.returns
 returns c =
     let u = c.unite-under in
     let b = c.search-second in
     let longest = c.larger-longest.ensures ∙ ap (max c.args.first.longest) c.larger.ensures in
-    joins_over c.args.up.now c.args.size.now _ _ c.args.w c.args.first.top c.args.first.links c.args.first.longest _ _ _ u.result c.requires.0 c.requires.1 b.ensures.top_value b.ensures.links_value.0 u.ensures.unites u.ensures.value longest c.if-under.false
+    joins_over c.args.up.now c.args.size.now _ _ c.args.w c.args.first.top c.args.first.links c.args.first.longest _ _ _ u.result c.requires.0 c.requires.1 b.ensures.top_value b.ensures.links_value u.ensures.unites u.ensures.value longest c.if-under.false

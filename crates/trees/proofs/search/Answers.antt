@@ -19,10 +19,12 @@ pub returns-clause-top_value : goal.returns-clause-top_value
 returns-clause-top_value c =
     let l = c.loop-above in
     let up = c.args.up.now in
-    let over = at_top (at up) (length up) l.top (sym l.invariant.2 ∙ c.loop-above-test.false) in ((sym (l.invariant.3 ∙ over.0), (omega (arith, l.invariant.4, over.1), l.invariant.0))).0
+    let over = at_top (at up) (length up) l.top (sym l.invariant.2 ∙ c.loop-above-test.false) in
+    sym (l.invariant.3 ∙ over.0)
 
 pub returns-clause-links_value : goal.returns-clause-links_value
 returns-clause-links_value c =
     let l = c.loop-above in
     let up = c.args.up.now in
-    let over = at_top (at up) (length up) l.top (sym l.invariant.2 ∙ c.loop-above-test.false) in ((sym (l.invariant.3 ∙ over.0), (omega (arith, l.invariant.4, over.1), l.invariant.0))).1
+    let over = at_top (at up) (length up) l.top (sym l.invariant.2 ∙ c.loop-above-test.false) in
+    omega (arith, l.invariant.4, over.1)
