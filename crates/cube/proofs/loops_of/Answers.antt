@@ -14,6 +14,7 @@ use Rattle.cube_rule.proofs.Laws.{cube_lasts}
 use Rattle.cube.specs.Answer.{answered}
 use Rattle.cube.proofs.Filling.{Found, found_none, found_last, found_more, found_all}
 use Rattle.cube.proofs.loops_of.Goals as goal
+use Rattle.cube.proofs.loops_of.Goals.{then-loop-n-test+else-left-ne0, else-loop-n-test}
 
 pub loop-n-init : goal.loop-n-init
 unfolding loops_by
@@ -23,17 +24,20 @@ loop-n-init c =
 
 pub loop_from-l-requires : goal.loop_from-l-requires
 loop_from-l-requires c =
-    let some_left : 0 < c.loop-n.left = let m = c.loop-n.left in let e = eqb-false m 0 c.if-left-ne0.true in omega arith in
+    let some_left : 0 < c.loop-n.left = omega (arith, c.if-left-ne0.true) in
     (some_left, found_last _ _ c.loop-n.left c.loop-n.n c.loop-n.masks c.loop-n.invariant c.loop-n-test.true some_left)
 
 pub loop-n-preserved : goal.loop-n-preserved
 loop-n-preserved c =
-    let some_left : 0 < c.loop-n.left = let m = c.loop-n.left in let e = eqb-false m 0 c.if-left-ne0.true in omega arith in
+    let some_left : 0 < c.loop-n.left = omega (arith, c.if-left-ne0.true) in
     found_more _ _ c.loop-n.left c.loop-n.n c.loop_from-l.result c.loop-n.masks c.loop-n.invariant c.loop-n-test.true some_left c.loop_from-l.ensures
 
 pub returns-clause-value : goal.returns-clause-value
 unfolding loops_by
 returns-clause-value c =
     found_all _ _ c.loop-n.left c.loop-n.n c.loop-n.masks c.loop-n.invariant
-    (⊎_elim (λ w. inr (eqb-true _ _ (not-false _ w.1.left))) (λ w. inl (omega arith)) c.loop-n-test.branch)
+    (elim c.loop-n-test.branch [
+      | then-loop-n-test+else-left-ne0 w ↦ inr w.if-left-ne0.false
+      | else-loop-n-test w ↦ inl (omega arith)
+    ])
     ∙ ap₂ (λ (ls : List ℕ) (m : ℕ). answered (loops_from 4 ls m)) c.links_of-links.ensures c.requires

@@ -1,7 +1,6 @@
 -- `cube::pattern` meets its contract. The loop's invariant: `p` is the mask of the positive corners below `c`.
 -- The measure is what is left of the eight. Assumes nothing.
 use mathlib.Core.Path.{◌≡◌, refl, ap, ◌∙◌}
-use mathlib.Core.Logic.{⊎_elim}
 use mathlib.Core.Bool.{Bool, true, false}
 use mathlib.Core.List.{List}
 use Prim.Native.Nat.{ℕ, ◌+◌, ◌-◌, ◌*◌, ◌^◌, ◌%◌, ◌≤◌, ◌<◌}
@@ -17,6 +16,7 @@ use Rattle.block.specs.declared.Cut.{Cut}
 use Rattle.block.specs.Grey.{positive}
 use Rattle.cube_rule.specs.Edges.{corner_sample, pattern_of}
 use Rattle.cube.proofs.pattern.Goals as goal
+use Rattle.cube.proofs.pattern.Goals.{then-cut-corners, else-cut-corners}
 use Rattle.cube.proofs.pattern.Invariants.{signs}
 
 -- the mask before the first corner, and after a corner that is positive or negative
@@ -50,10 +50,12 @@ loop-c-preserved c =
     let sample = corner_sample c.args.corners c.loop-c.c in
     let f = signs c.args.cut c.args.corners in (
       search rules,
-      ⊎_elim
-          (λ w. w.1 ∙ mask_next f c.loop-c.p c.loop-c.c c.loop-c.invariant.1 (le-leb t sample (omega arith)) (omega arith))
-          (λ w. w.1 ∙ mask-kept f c.loop-c.p c.loop-c.c c.loop-c.invariant.1 (lt-leb t sample (omega arith)))
-          c.if-cut-corners.branch,
+      elim c.if-cut-corners.branch [
+        | then-cut-corners w ↦
+            w.p-is
+            ∙ mask_next f c.loop-c.p c.loop-c.c c.loop-c.invariant.1 (le-leb t sample (omega arith)) (omega arith)
+        | else-cut-corners w ↦ w.p-is ∙ mask-kept f c.loop-c.p c.loop-c.c c.loop-c.invariant.1 (lt-leb t sample (omega arith))
+      ],
     )
 
 pub returns-clause-value : goal.returns-clause-value
