@@ -6,7 +6,6 @@ use lib.IntN.{ℤ, pos, ◌+ℤ◌, ◌*ℤ◌}
 use lib.Signed.{le_z}
 use mir.Syntax.{w32, w64}
 use mir.Val.{to_z, of_z}
-use borrow.Author.Rules.{rules}
 use borrow.Author.Tests.{le-leb, lt-leb}
 use Rattle.laws.proofs.Signed.{back}
 use Rattle.block.specs.declared.Cut.{Cut}

@@ -3,7 +3,6 @@
 use mathlib.Core.Path.{refl}
 use native.Mathlib.Omega.{arith}
 use Rattle.cube.proofs.Faces.{links_next}
-use borrow.Author.Rules.{rules}
 use Rattle.cube.proofs.links_of.Goals as goal
 
 pub returns : goal.returns

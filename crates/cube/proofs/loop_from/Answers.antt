@@ -5,7 +5,6 @@ use mathlib.Core.Path.{◌≡◌, ap, sym, ◌∙◌}
 use mathlib.Core.List.{List}
 use Prim.Native.Nat.{ℕ, ◌<◌, ◌^◌}
 use lib.Count.{count_trailing_zeros}
-use borrow.Author.Rules.{rules}
 use Rattle.laws.proofs.Trailing.{trailing_lt}
 use Rattle.laws.proofs.Bits.{shift_one}
 use Rattle.cube_rule.specs.Loops.{grow, loop_from}

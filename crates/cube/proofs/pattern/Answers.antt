@@ -2,8 +2,7 @@
 -- The measure is what is left of the eight. Assumes nothing.
 use mathlib.Core.Path.{◌≡◌, refl, ap, ◌∙◌}
 use mathlib.Core.Bool.{Bool, true, false}
-use mathlib.Core.List.{List}
-use Prim.Native.Nat.{ℕ, ◌+◌, ◌-◌, ◌*◌, ◌^◌, ◌%◌, ◌≤◌, ◌<◌}
+use Prim.Native.Nat.{ℕ, ◌+◌, ◌*◌, ◌^◌, ◌%◌, ◌<◌}
 use native.Mathlib.Numerals.{add-one}
 use native.Mathlib.Nat.{one-mul, zero-mul, add-zero}
 use native.Mathlib.Omega.{arith}
@@ -12,8 +11,6 @@ use borrow.Author.Rules.{rules}
 use borrow.Author.Tests.{le-leb, lt-leb}
 use Rattle.laws.specs.Bits.{mask_of}
 use Rattle.laws.proofs.Bits.{mask_lt, shift_one}
-use Rattle.block.specs.declared.Cut.{Cut}
-use Rattle.block.specs.Grey.{positive}
 use Rattle.cube_rule.specs.Edges.{corner_sample, pattern_of}
 use Rattle.cube.proofs.pattern.Goals as goal
 use Rattle.cube.proofs.pattern.Goals.{then-cut-corners, else-cut-corners}

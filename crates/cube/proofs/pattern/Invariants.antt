@@ -1,21 +1,13 @@
 -- `cube::pattern` meets its contract. The loop's invariant: `p` is the mask of the positive corners below `c`.
 -- The measure is what is left of the eight. Assumes nothing.
-use mathlib.Core.Path.{◌≡◌, refl, ap, ◌∙◌}
-use mathlib.Core.Logic.{⊎_elim}
-use mathlib.Core.Bool.{Bool, true, false}
+use mathlib.Core.Path.{◌≡◌}
+use mathlib.Core.Bool.{Bool}
 use mathlib.Core.List.{List}
-use Prim.Native.Nat.{ℕ, ◌+◌, ◌-◌, ◌*◌, ◌^◌, ◌%◌, ◌≤◌, ◌<◌}
-use native.Mathlib.Numerals.{add-one}
-use native.Mathlib.Nat.{one-mul, zero-mul, add-zero}
-use native.Mathlib.Omega.{arith}
-use lib.Pow.{pow-lt}
-use borrow.Author.Rules.{rules}
-use borrow.Author.Tests.{le-leb, lt-leb}
+use Prim.Native.Nat.{ℕ, ◌-◌, ◌≤◌}
 use Rattle.laws.specs.Bits.{mask_of}
-use Rattle.laws.proofs.Bits.{mask_lt, shift_one}
 use Rattle.block.specs.declared.Cut.{Cut}
 use Rattle.block.specs.Grey.{positive}
-use Rattle.cube_rule.specs.Edges.{corner_sample, pattern_of}
+use Rattle.cube_rule.specs.Edges.{corner_sample}
 use Rattle.cube.proofs.pattern.Given as goal
 
 abbrev pub signs : Cut → List ℕ → ℕ → Bool

@@ -1,14 +1,9 @@
 -- `cube::round` meets its contract. The loop's invariant: from `x`, the links that are left lead where all of them lead from `m`.
 -- The measure is what is left of the twelve. Assumes nothing.
-use mathlib.Core.Path.{◌≡◌, refl, sym, ap, ◌∙◌}
-use mathlib.Core.List.{List}
-use Prim.Native.Nat.{ℕ, ◌≤◌, ◌<◌, ◌-◌, ◌+◌}
-use native.Mathlib.Numerals.{add-one}
-use native.Mathlib.Omega.{arith}
-use lib.ListN.{drop, length, get_or, drop_of_length-le}
-use lib.Seq.{drop-cons}
-use borrow.Author.Rules.{rules}
-use Rattle.cube_rule.specs.Loops.{grow, join}
+use mathlib.Core.Path.{◌≡◌}
+use Prim.Native.Nat.{◌≤◌, ◌-◌}
+use lib.ListN.{drop}
+use Rattle.cube_rule.specs.Loops.{grow}
 use Rattle.cube.proofs.round.Given as goal
 
 abbrev pub invariant-loop-k : goal.invariant-loop-k

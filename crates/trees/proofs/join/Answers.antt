@@ -3,10 +3,8 @@
 use mathlib.Core.Path.{ap, ◌∙◌}
 use Prim.Native.Nat.{max}
 use native.Mathlib.Omega.{arith}
-use Rattle.trees.proofs.Searches.{tops}
 use Rattle.trees.proofs.Trees.{shallow}
 use Rattle.trees.proofs.Joins.{joins_under, joins_over}
-use borrow.Author.Rules.{rules}
 use Rattle.trees.proofs.join.Goals as goal
 
 pub overflow_add-result : goal.overflow_add-result

@@ -1,10 +1,8 @@
 -- `join_quad` meets its contract: the way of the first vertex is known at each join.
 -- Assumes nothing.
-use mathlib.Core.Path.{◌∙◌}
 use lib.ListN.{length}
 use Rattle.trees.specs.Steps.{Follows}
-use Rattle.trees.proofs.Joins.{ready_on, quad_is}
-use borrow.Author.Rules.{rules}
+use Rattle.trees.proofs.Joins.{ready_on}
 use Rattle.trees.proofs.join_quad.Goals as goal
 
 pub join-b-requires : goal.join-b-requires

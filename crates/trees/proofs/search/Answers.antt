@@ -1,12 +1,11 @@
 -- `search` meets its contract: what is left of the search leads to the same top.
 -- Assumes nothing.
-use mathlib.Core.Path.{◌≡◌, refl, sym, ◌∙◌}
+use mathlib.Core.Path.{◌≡◌, sym, ◌∙◌}
 use Prim.Native.Nat.{◌+◌, ◌<◌}
 use native.Mathlib.Omega.{arith}
-use borrow.Author.Rules.{rules}
 use lib.ListN.{length}
 use Rattle.trees.specs.Forest.{at, top_of, links_of}
-use Rattle.trees.proofs.Searches.{links_le, at_top, inside, nearer_to}
+use Rattle.trees.proofs.Searches.{links_le, at_top, nearer_to}
 use Rattle.trees.proofs.search.Goals as goal
 
 pub overflow_add-links : goal.overflow_add-links

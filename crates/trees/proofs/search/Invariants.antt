@@ -1,12 +1,9 @@
 -- `search` meets its contract: what is left of the search leads to the same top.
 -- Assumes nothing.
-use mathlib.Core.Path.{◌≡◌, refl, sym, ◌∙◌}
+use mathlib.Core.Path.{◌≡◌}
 use Prim.Native.Nat.{◌+◌, ◌<◌}
-use native.Mathlib.Omega.{arith}
-use borrow.Author.Rules.{rules}
 use lib.ListN.{length}
 use Rattle.trees.specs.Forest.{at, top_of, links_of}
-use Rattle.trees.proofs.Searches.{links_le, at_top, inside, nearer_to}
 use Rattle.trees.proofs.search.Given as goal
 
 abbrev pub invariant-loop-above : goal.invariant-loop-above

@@ -1,8 +1,7 @@
 -- `unite` meets its contract.
 -- Assumes nothing.
 use mathlib.Core.Path.{sym}
-use Rattle.trees.proofs.Unites.{unites_one, unites_under, unites_over, hangable, turned}
-use borrow.Author.Rules.{rules}
+use Rattle.trees.proofs.Unites.{hangable, turned}
 use Rattle.trees.proofs.unite.Goals as goal
 
 pub hang-requires : goal.hang-requires
