@@ -6,7 +6,6 @@ use mathlib.Core.List.{[], ◌∷◌}
 use lib.Ieee.{Float}
 use Rattle.block.specs.Answer.{accepted}
 use Rattle.block.specs.Grey.{cut_of, no_threshold}
-use borrow.Author.Rules.{rules}
 use Rattle.place.proofs.Answers.{bad-zero, bad-ceiling, good-threshold, edge-answers-threshold, edge-answers-fraction, edge-answers-nothing}
 use Rattle.place.proofs.edge.Goals as goal
 

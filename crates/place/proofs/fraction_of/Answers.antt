@@ -3,7 +3,6 @@
 use mathlib.Core.Path.{ap₂}
 use Prim.Native.Nat.{ℕ}
 use lib.Ieee.{Float, binary64, div}
-use borrow.Author.Rules.{rules}
 use Rattle.place.specs.Crossing.{float, fraction}
 use Rattle.place.proofs.fraction_of.Goals as goal
 

@@ -1,7 +1,6 @@
 -- `local_on` meets its contract: along the edge the fraction, across it the coordinate of the lower corner.
 -- Assumes nothing.
 use mathlib.Core.Path.{sym}
-use borrow.Author.Rules.{rules}
 use Rattle.place.proofs.Steps.{local_along, local_across}
 use Rattle.place.proofs.local_on.Goals as goal
 

@@ -1,8 +1,6 @@
 -- `place` meets its contract: after each step the sum is that over the mask's edges so far.
 -- Assumes nothing.
 use mathlib.Core.Path.{◌∙◌}
-use native.Mathlib.Omega.{arith}
-use borrow.Author.Rules.{rules}
 use Rattle.place.proofs.Steps.{zero_bits}
 use Rattle.place.proofs.Visit.{sum_none, sum_all}
 use Rattle.place.proofs.place.Goals as goal

@@ -1,6 +1,5 @@
 -- `Offset::plus` meets its contract: one rounded sum on each axis.
 -- Assumes nothing.
-use borrow.Author.Rules.{rules}
 use Rattle.place.specs.Steps.{plus_crossing}
 use Rattle.place.proofs.Offset.plus.Goals as goal
 

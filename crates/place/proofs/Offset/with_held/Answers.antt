@@ -1,8 +1,7 @@
 -- `Offset::with_held` meets its contract: an edge that the mask does not hold leaves the sum as it is, and one that it holds is added.
 -- Assumes nothing.
 use mathlib.Core.Path.{◌∙◌}
-use borrow.Author.Rules.{rules}
-use Rattle.place.proofs.Visit.{sum_skips, sum_asks, sum_adds}
+use Rattle.place.proofs.Visit.{sum_skips, sum_adds}
 use Rattle.place.proofs.Offset.with_held.Goals as goal
 
 pub returns-then-mask-e-eq0 : goal.returns-then-mask-e-eq0
