@@ -2,23 +2,18 @@
 -- first m sides are walked from one end to the other, and how many the other way. The measures are the quads, the sides and the walks that are left.
 -- Assumes nothing.
 use mathlib.Core.Path.{◌≡◌, sym, ◌∙◌}
-use mathlib.Core.Bool.{true, false}
+use mathlib.Core.Bool.{false}
 use mathlib.Core.List.{List}
-use mathlib.Core.Logic.{⊎_elim}
-use Prim.Native.Nat.{ℕ, ◌+◌, ◌*◌, ◌-◌, ◌%◌, ◌≤◌}
-use native.Mathlib.Nat.{add-zero, add_assoc}
+use Prim.Native.Nat.{ℕ, ◌+◌, ◌*◌}
 use native.Mathlib.Omega.{arith}
 use borrow.Author.Rules.{rules}
-use borrow.Author.Tests.{not-true, not-false}
-use lib.ListN.{length, get_or}
-use Rattle.laws.proofs.Leading.{HoldsTo, holds_to_none, holds_more}
+use lib.ListN.{get_or}
 use Rattle.block.specs.declared.Checked.TheVariants.{Passes}
 use Rattle.lists.specs.Rows.{length_row}
-use Rattle.lists.proofs.Rows.{length_exactly}
 use Rattle.closed.specs.Closed.{side_sound, all_sound, open_at}
-use Rattle.closed.specs.Steps.{walks_before}
 use Rattle.closed.proofs.Search.{walks_none, walks_more, side_judged, finding_all, finding_open, answer_refused, answer_found}
 use Rattle.closed.proofs.closed.Goals as goal
+use Rattle.closed.proofs.closed.Goals.{else-quads-test, then-quads-test+then-sides-test+else-walks-test+then-not-sound}
 
 pub returns-in-Refuses : goal.returns-in-Refuses
 returns-in-Refuses c = answer_refused c.args.quads.now _ (sym c.check_length-row.ensures ∙ c.in-Refuses.is)
@@ -50,22 +45,22 @@ returns-then-quad-count c =
     let passed : length_row (quads_of) ≡ Passes = sym c.check_length-row.ensures ∙ c.in_default.is in
     let quads = quads_of in
     let q = c.quads.quad in
-    ⊎_elim
-    (λ w. absurd (omega arith))
-    (λ w.
-    let s = w.1.side in
-    let bad : side_sound quads (4 * q + s) ≡ false =
-    side_judged quads (4 * q + s) w.4.result w.6.there w.6.back w.6.m false w.4.ensures (omega arith) w.6.inv.0 w.6.inv.3 w.6.inv.4
-    (sym (not-true _ w.9.taken) ∙ w.8.ensures) in
-    rw w.10 (answer_found quads passed (open_at q s) (finding_open quads q s w.2.taken (omega arith) w.1.inv.1 bad)))
-    c.quads-test.branch
+    elim c.quads-test.branch [
+      | else-quads-test w ↦ absurd (omega arith)
+      | then-quads-test+then-sides-test+else-walks-test+then-not-sound w ↦
+          let s = w.sides.side in
+          let bad : side_sound quads (4 * q + s) ≡ false =
+          side_judged quads (4 * q + s) w.next-e.result w.walks.there w.walks.back w.walks.m false w.next-e.ensures (omega arith) w.walks.invariant.0 w.walks.invariant.3 w.walks.invariant.4
+          (sym w.if-not-sound.true ∙ w.sound.ensures) in
+          rw w.side-is (answer_found quads passed (open_at q s) (finding_open quads q s w.sides-test.true (omega arith) w.sides.invariant.1 bad))
+    ]
 
 pub returns-else-quad-count : goal.returns-else-quad-count
 returns-else-quad-count c =
     let quads_of : List ℕ = c.args.quads.now in
     let passed : length_row (quads_of) ≡ Passes = sym c.check_length-row.ensures ∙ c.in_default.is in
     let quads = quads_of in
-    ⊎_elim
-    (λ w. answer_found quads passed all_sound (finding_all quads (4 * c.quads.quad) (omega arith) c.quads.invariant.1))
-    (λ w. absurd (omega arith))
-    c.quads-test.branch
+    elim c.quads-test.branch [
+      | else-quads-test w ↦ answer_found quads passed all_sound (finding_all quads (4 * c.quads.quad) (omega arith) c.quads.invariant.1)
+      | then-quads-test+then-sides-test+else-walks-test+then-not-sound w ↦ absurd (omega arith)
+    ]

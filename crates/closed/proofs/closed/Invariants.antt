@@ -1,23 +1,12 @@
 -- `closed` meets its promise. The side in hand is 4·quad + side, and every side before it is in order; `there` and `back` are how many of the
 -- first m sides are walked from one end to the other, and how many the other way. The measures are the quads, the sides and the walks that are left.
 -- Assumes nothing.
-use mathlib.Core.Path.{◌≡◌, sym, ◌∙◌}
-use mathlib.Core.Bool.{true, false}
-use mathlib.Core.List.{List}
-use mathlib.Core.Logic.{⊎_elim}
-use Prim.Native.Nat.{ℕ, ◌+◌, ◌*◌, ◌-◌, ◌%◌, ◌≤◌}
-use native.Mathlib.Nat.{add-zero, add_assoc}
-use native.Mathlib.Omega.{arith}
-use borrow.Author.Rules.{rules}
-use borrow.Author.Tests.{not-true, not-false}
-use lib.ListN.{length, get_or}
-use Rattle.laws.proofs.Leading.{HoldsTo, holds_to_none, holds_more}
-use Rattle.block.specs.declared.Checked.TheVariants.{Passes}
-use Rattle.lists.specs.Rows.{length_row}
-use Rattle.lists.proofs.Rows.{length_exactly}
-use Rattle.closed.specs.Closed.{side_sound, all_sound, open_at}
+use mathlib.Core.Path.{◌≡◌}
+use Prim.Native.Nat.{◌+◌, ◌*◌, ◌-◌, ◌%◌, ◌≤◌}
+use lib.ListN.{length}
+use Rattle.laws.proofs.Leading.{HoldsTo}
+use Rattle.closed.specs.Closed.{side_sound}
 use Rattle.closed.specs.Steps.{walks_before}
-use Rattle.closed.proofs.Search.{walks_none, walks_more, side_judged, finding_all, finding_open, answer_refused, answer_found}
 use Rattle.closed.proofs.closed.Given as goal
 
 abbrev pub invariant-walks : goal.invariant-walks
