@@ -1,10 +1,10 @@
 -- `chain_sides` meets its contract: the sides from m on are chained.
 -- Assumes nothing.
 use mathlib.Core.Path.{◌≡◌, subst}
-use Prim.Native.Nat.{ℕ, ◌+◌, ◌-◌, ◌≤◌}
+use Prim.Native.Nat.{ℕ, ◌+◌, ◌-◌}
 use native.Mathlib.Omega.{arith}
 use borrow.Author.Rules.{rules}
-use lib.ListN.{length, get_or, length-set}
+use lib.ListN.{get_or, length-set}
 use Rattle.closed.proofs.Chains.{top_above}
 use Rattle.closed_with.specs.Steps.{Chained}
 use Rattle.closed_with.proofs.Chains.{chained_more}

@@ -1,11 +1,8 @@
 -- `clear_heads` meets its contract: the words of the vertices before v are written, and no other.
 -- Assumes nothing.
-use mathlib.Core.Path.{◌≡◌, refl}
+use mathlib.Core.Path.{◌≡◌}
 use Prim.Native.Nat.{ℕ, ◌-◌, ◌≤◌, ◌<◌}
-use native.Mathlib.Omega.{arith}
-use borrow.Author.Rules.{rules}
 use lib.ListN.{length, get_or}
-use Rattle.closed_with.proofs.Chains.{cleared_more, chained_none}
 use Rattle.closed_with.proofs.clear_heads.Given as goal
 
 abbrev pub invariant-loop-v : goal.invariant-loop-v

@@ -3,20 +3,14 @@
 use mathlib.Core.Path.{◌≡◌, refl, sym, ap, ◌∙◌}
 use mathlib.Core.List.{List}
 use Prim.Native.Nat.{ℕ, ◌+◌}
-use native.Mathlib.Omega.{arith}
-use lib.Dec.{leb}
 use lib.ListN.{length}
-use borrow.Author.Tests.{leb-true}
 use Rattle.laws.proofs.Leading.{leading_le}
 use Rattle.block.specs.declared.Checked.TheVariants.{Passes}
 use Rattle.block.specs.Rows.{room_row}
-use Rattle.block.proofs.Rows.{unless_none}
 use Rattle.lists.specs.Rows.{length_row}
-use Rattle.lists.proofs.Rows.{length_exactly}
 use Rattle.closed.specs.Closed.{side_sound}
 use Rattle.closed.specs.Chains.{words_needed}
 use Rattle.closed.proofs.With.{finding_at_lem, finding_none, length_refused, room_refused, found_with}
-use borrow.Author.Rules.{rules}
 use Rattle.closed_with.proofs.closed_with.Goals as goal
 
 pub returns-in-Refuses : goal.returns-in-Refuses

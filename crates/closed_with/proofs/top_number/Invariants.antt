@@ -1,13 +1,8 @@
 -- `top_number` meets its contract. Each number before n is below `top`, which is never more than is needed.
 -- Assumes nothing.
-use mathlib.Core.Logic.{⊎_elim}
 use Prim.Native.Nat.{ℕ, ◌-◌, ◌≤◌, ◌<◌}
-use native.Mathlib.Omega.{arith}
-use borrow.Author.Rules.{rules}
 use lib.ListN.{length, get_or}
-use Rattle.laws.proofs.Leading.{before_more}
 use Rattle.closed.specs.Chains.{top_number}
-use Rattle.closed.proofs.Chains.{top_above, top_least}
 use Rattle.closed_with.proofs.top_number.Given as goal
 
 abbrev pub invariant-loop-n : goal.invariant-loop-n
