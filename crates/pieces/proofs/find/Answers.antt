@@ -20,18 +20,21 @@ returns-clause-numbers c =
     let small : c.args.n < 4294967296 = search rules in
     let b = c.begin in
     let j = c.join_all-longest in
-    let long = begun c.args.n small c.args.quads.now c.requires.2 c.requires.3 _ _ b.ensures in (found_all c.args.n small c.args.quads.now c.requires.2 c.requires.3 _ _ _ _ long j.ensures _ _ _ c.number_all-count.ensures).0
+    let long = begun c.args.n small c.args.quads.now c.requires.2 c.requires.3 _ _ b.ensures in
+    (found_all c.args.n small c.args.quads.now c.requires.2 c.requires.3 _ _ _ _ long j.ensures _ _ _ c.number_all-count.ensures).0
 
 pub returns-clause-size_after : goal.returns-clause-size_after
 returns-clause-size_after c =
     let small : c.args.n < 4294967296 = search rules in
     let b = c.begin in
     let j = c.join_all-longest in
-    let long = begun c.args.n small c.args.quads.now c.requires.2 c.requires.3 _ _ b.ensures in (found_all c.args.n small c.args.quads.now c.requires.2 c.requires.3 _ _ _ _ long j.ensures _ _ _ c.number_all-count.ensures).1
+    let long = begun c.args.n small c.args.quads.now c.requires.2 c.requires.3 _ _ b.ensures in
+    (found_all c.args.n small c.args.quads.now c.requires.2 c.requires.3 _ _ _ _ long j.ensures _ _ _ c.number_all-count.ensures).1.0
 
 pub returns-clause-value : goal.returns-clause-value
 returns-clause-value c =
     let small : c.args.n < 4294967296 = search rules in
     let b = c.begin in
     let j = c.join_all-longest in
-    let long = begun c.args.n small c.args.quads.now c.requires.2 c.requires.3 _ _ b.ensures in (found_all c.args.n small c.args.quads.now c.requires.2 c.requires.3 _ _ _ _ long j.ensures _ _ _ c.number_all-count.ensures).2
+    let long = begun c.args.n small c.args.quads.now c.requires.2 c.requires.3 _ _ b.ensures in
+    (found_all c.args.n small c.args.quads.now c.requires.2 c.requires.3 _ _ _ _ long j.ensures _ _ _ c.number_all-count.ensures).1.1

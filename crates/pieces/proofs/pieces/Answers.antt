@@ -48,4 +48,4 @@ returns-in-Passes c =
     let passed : let a = c.args in pieces_verdict a.n a.quads.now (length a.piece.now) (length a.size.now) ≡ Passes = sym c.check.ensures ∙ c.in-Passes.is in
     let a = c.args in
     let f = c.find in
-    found_by _ a.n a.quads.now a.piece.now a.size.now passed _ _ _ f.ensures.numbers f.ensures.size_after.0 f.ensures.size_after.1
+    found_by _ a.n a.quads.now a.piece.now a.size.now passed _ _ _ f.ensures.numbers f.ensures.size_after f.ensures.value
