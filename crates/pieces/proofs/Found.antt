@@ -8,7 +8,6 @@ use lib.Dec.{eqb}
 use lib.ListN.{length, get_or, drop}
 use lib.Seq.{ext_get_or}
 use Rattle.laws.specs.Below.{over}
-use Rattle.laws.specs.Counting.{count}
 use Rattle.laws.proofs.Counting.{count_same}
 use Rattle.laws.proofs.Over.{each, each_length, each_at}
 use Rattle.block.specs.declared.Refusal.{Refusal}

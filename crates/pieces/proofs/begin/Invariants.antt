@@ -1,14 +1,10 @@
 -- `begin` meets its contract: the first v vertices are pieces of their own.
 -- Assumes nothing.
-use mathlib.Core.Path.{◌≡◌, refl, ap₂, ◌∙◌}
-use mathlib.Core.List.{List}
+use mathlib.Core.Path.{◌≡◌}
 use Prim.Native.Nat.{ℕ, ◌-◌, ◌≤◌}
-use native.Mathlib.Omega.{arith}
-use borrow.Author.Rules.{rules}
-use lib.ListN.{length, length-set}
+use lib.ListN.{length}
 use Rattle.laws.specs.Below.{over}
-use Rattle.laws.proofs.Over.{each, over_none, over_put, over_each}
-use Rattle.trees.specs.Steps.{stored}
+use Rattle.laws.proofs.Over.{each}
 use Rattle.pieces.proofs.begin.Given as goal
 
 abbrev pub invariant-loop-v : goal.invariant-loop-v

@@ -1,12 +1,11 @@
 -- `join_all` meets its contract: the first q quads are joined.
 -- Assumes nothing.
-use mathlib.Core.Path.{◌≡◌, refl, sym, ◌∙◌, ap}
-use Prim.Native.Nat.{ℕ, ◌/◌, ◌-◌, ◌≤◌, ◌<◌}
+use mathlib.Core.Path.{refl, sym, ◌∙◌}
+use Prim.Native.Nat.{ℕ, ◌<◌}
 use native.Mathlib.Omega.{arith}
 use borrow.Author.Rules.{rules}
 use lib.ListN.{length}
-use Rattle.trees.specs.Forest.{at, after}
-use Rattle.trees.specs.Steps.{stored}
+use Rattle.trees.specs.Forest.{at}
 use Rattle.pieces.proofs.Quads.{after_none, after_more, ready_at}
 use Rattle.pieces.proofs.join_all.Goals as goal
 

@@ -1,13 +1,10 @@
 -- `join_all` meets its contract: the first q quads are joined.
 -- Assumes nothing.
-use mathlib.Core.Path.{◌≡◌, refl, sym, ◌∙◌, ap}
-use Prim.Native.Nat.{ℕ, ◌/◌, ◌-◌, ◌≤◌, ◌<◌}
-use native.Mathlib.Omega.{arith}
-use borrow.Author.Rules.{rules}
+use mathlib.Core.Path.{◌≡◌}
+use Prim.Native.Nat.{◌/◌, ◌-◌, ◌≤◌}
 use lib.ListN.{length}
-use Rattle.trees.specs.Forest.{at, after}
+use Rattle.trees.specs.Forest.{after}
 use Rattle.trees.specs.Steps.{stored}
-use Rattle.pieces.proofs.Quads.{after_none, after_more, ready_at}
 use Rattle.pieces.proofs.join_all.Given as goal
 
 abbrev pub invariant-loop-q : goal.invariant-loop-q

@@ -1,12 +1,7 @@
 -- `number_all` meets its contract: the vertices below v have their numbers.
 -- Assumes nothing.
-use mathlib.Core.Path.{◌≡◌, ap, sym, ◌∙◌, subst}
-use Prim.Native.Nat.{ℕ, ◌-◌, ◌≤◌}
-use native.Mathlib.Omega.{arith}
-use borrow.Author.Rules.{rules}
-use Rattle.trees.specs.Forest.{at, top_of}
-use Rattle.trees.specs.Steps.{Ends}
-use Rattle.pieces.proofs.Midway.{Midway, midway_first, midway_ends, midway_top, midway_next, midway_last}
+use Prim.Native.Nat.{◌-◌, ◌≤◌}
+use Rattle.pieces.proofs.Midway.{Midway}
 use Rattle.pieces.proofs.number_all.Given as goal
 
 abbrev pub invariant-loop-v : goal.invariant-loop-v
