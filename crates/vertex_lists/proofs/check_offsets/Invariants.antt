@@ -1,13 +1,8 @@
 -- `check_offsets` meets its promise: the vertices before the one in hand are in order.
 -- Assumes nothing.
-use borrow.Author.Rules.{rules}
 use Prim.Native.Nat.{◌-◌, ◌/◌, ◌≤◌}
-use mathlib.Core.Path.{sym, ◌∙◌}
-use native.Mathlib.Omega.{arith}
 use lib.ListN.{length}
-use Rattle.laws.proofs.Leading.{HoldsTo, holds_to_none, holds_more}
-use Rattle.block.proofs.Searches.{search_passes, search_fails}
-use borrow.Author.Tests.{not-true, not-false}
+use Rattle.laws.proofs.Leading.{HoldsTo}
 use Rattle.vertex_lists.specs.Rows.{offset_inside}
 use Rattle.vertex_lists.proofs.check_offsets.Given as goal
 
