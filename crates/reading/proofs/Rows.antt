@@ -14,7 +14,7 @@ use Rattle.laws.proofs.Tests.{lt_or_ge}
 use Rattle.block.specs.declared.Refusal.{Refusal}
 use Rattle.block.specs.declared.Checked.{Checked}
 use Rattle.block.specs.declared.Checked.TheVariants.{Passes, Refuses}
-use Rattle.block.specs.Answer.{refuses, in_order, First}
+use Rattle.block.specs.Answer.{in_order, First}
 use Rattle.block.proofs.Order.{passes_refuses, order_last, orders_pass, first_exactly, none_exactly}
 use Rattle.block.proofs.Rows.{given_small, holds_unless, unless_none}
 use Rattle.reading.specs.Text.{ended, read_at}

@@ -20,7 +20,7 @@ loop-q-preserved c =
     let i = c.loop-q.invariant in
     let p = c.put_quad-next.ensures in (
       search rules,
-      omega (arith, i.1, p.1),
-      quad_more c.args.quads.now _ i.2 p.0,
-      c.put_quad-next.auto.0 ∙ i.3,
+      omega (arith, i.1, p.value),
+      quad_more c.args.quads.now _ i.2 p.put,
+      c.put_quad-next.auto.out ∙ i.3,
     )

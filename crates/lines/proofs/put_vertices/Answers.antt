@@ -20,7 +20,7 @@ loop-v-preserved c =
     let i = c.loop-v.invariant in
     let p = c.put_vertex-next.ensures in (
       search rules,
-      omega (arith, i.1, p.1),
-      vertex_more c.args.words.now c.args.offsets.now _ i.2 p.0,
-      c.put_vertex-next.auto.0 ∙ i.3,
+      omega (arith, i.1, p.value),
+      vertex_more c.args.words.now c.args.offsets.now _ i.2 p.put,
+      c.put_vertex-next.auto.out ∙ i.3,
     )

@@ -16,6 +16,6 @@ loop-j-preserved c =
     let h = c.loop-j in
     let l = lent in (
       omega (arith, c.loop-j-test.true),
-      c.row_signs.auto.1.1.0 ∙ h.invariant.1,
+      c.row_signs.auto.plane ∙ h.invariant.1,
       signed_more c.args.nx h.j (item_at c.args.plane.now) c.args.cut _ h.signs _ l.0 l.1 (omega (arith, h.invariant.1, c.loop-j-test.true, c.requires.1)) c.row_signs.ensures h.invariant.2,
     )

@@ -16,10 +16,10 @@ slice_bounds-row_step-end-2 c =
 
 pub row_step-requires : goal.row_step-requires
 row_step-requires c =
-    let long : length c.unpack.new.1.0 ≡ 514 = c.unpack.auto.1.0 ∙ c.requires.0 in
+    let long : length c.unpack.new.window ≡ 514 = c.unpack.auto.window ∙ c.requires.0 in
     written_ready c.requires.1 c.requires.2 _ _ c.nx-nx.ensures c.requires.3.row _ long c.unpack.ensures _ c.row_of-row.ensures c.args.under.now c.args.tab.now c.requires.3
 
 pub returns : goal.returns
 returns c =
-    let long : length c.unpack.new.1.0 ≡ 514 = c.unpack.auto.1.0 ∙ c.requires.0 in
+    let long : length c.unpack.new.window ≡ 514 = c.unpack.auto.window ∙ c.requires.0 in
     row_taken c.requires.1 c.requires.2 _ _ c.nx-nx.ensures c.requires.3.row _ long c.unpack.ensures _ c.row_of-row.ensures c.requires.3 c.row_step.ensures

@@ -33,7 +33,7 @@ loop-j-preserved c =
     let wide : ℕ = 2 * c.nx-nx.result in
     let wide_is : wide ≡ 2 * c.args.layer.size.nx = ap (λ (x : ℕ). 2 * x) c.nx-nx.ensures in (
       omega (arith, in-layer),
-      c.step_row-m.auto.1.1.1.1.1.1.1.1.1.1.1.0 ∙ c.loop-j.invariant.1,
+      c.step_row-m.auto.lo ∙ c.loop-j.invariant.1,
       state_more c.requires.0 c.requires.2 c.requires.3 c.loop-j.invariant.2 in-layer _ _ _ at-is refl wide_is _ c.copy.ensures c.step_row-m.ensures _ c.copy-in-loop-j.ensures c.step_row-m.auto.1.1.1.1.1.1.0 c.step_row-m.auto.1.1.1.1.1.1.1.0 c.step_row-m.auto.1.1.1.1.1.1.1.1.0,
     )
 

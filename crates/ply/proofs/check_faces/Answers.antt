@@ -13,7 +13,7 @@ returns-in-Refuses c = sym (order_refuses _ _ _ (sym c.check_length-whole.ensure
 pub returns-in-Refuses-good : goal.returns-in-Refuses-good
 returns-in-Refuses-good c =
     sym (order_passes _ _ (sym c.check_length-whole.ensures ∙ c.in_default.is)
-    ∙ order_refuses _ _ _ (sym c.check_spacing-good.ensures ∙ c.good2.given.1))
+    ∙ order_refuses _ _ _ (sym c.check_spacing-good.ensures ∙ c.in-Refuses-good.is))
 
 pub returns-in-Refuses-known : goal.returns-in-Refuses-known
 returns-in-Refuses-known c =

@@ -10,4 +10,4 @@ float_to_bits-cube c = c.requires.number
 
 pub returns-clause-put : goal.returns-clause-put
 unfolding millimetres double
-returns-clause-put c = (c.put_eight.ensures).0
+returns-clause-put c = c.put_eight.ensures.put

@@ -20,4 +20,4 @@ loop-q-preserved c =
     let a = c.args in
     let i = c.loop-q.invariant in
     let p = c.put_face-next.ensures in
-    (search rules, omega (arith, i.1, p.1), face_more a.quads.now _ i.2 p.0, c.put_face-next.auto.0 ∙ i.3)
+    (search rules, omega (arith, i.1, p.value), face_more a.quads.now _ i.2 p.put, c.put_face-next.auto.out ∙ i.3)

@@ -12,32 +12,22 @@ use Rattle.ply.proofs.put_file.Goals as goal
 
 pub put_header-a-requires : goal.put_header-a-requires
 put_header-a-requires c =
-    let accepted-of : Accepted c.args.nx c.args.ny c.args.nz c.args.words.now c.args.offsets.now c.args.quads.now c.args.s (length c.args.out.now) = accepted_is c.args.nx c.args.ny c.args.nz c.args.words.now c.args.offsets.now c.args.quads.now c.args.s (length c.args.out.now) c.requires in
-    omega (arith, accepted-of.ranges)
+    let ok = accepted_is c.args.nx c.args.ny c.args.nz c.args.words.now c.args.offsets.now c.args.quads.now c.args.s (length c.args.out.now) c.requires in
+    omega (arith, ok.fits)
 
-pub put_vertices-b-requires-clause-le_nx : goal.put_vertices-b-requires-clause-le_nx
-put_vertices-b-requires-clause-le_nx c =
-    let accepted-of : Accepted c.args.nx c.args.ny c.args.nz c.args.words.now c.args.offsets.now c.args.quads.now c.args.s (length c.args.out.now) = accepted_is c.args.nx c.args.ny c.args.nz c.args.words.now c.args.offsets.now c.args.quads.now c.args.s (length c.args.out.now) c.requires in
-    let numbers_of : AllNumbers (size_of c.args.nx c.args.ny c.args.nz) c.args.words.now c.args.offsets.now c.args.s (length c.args.words.now / 2) = all_numbers c.args.nx c.args.ny c.args.nz c.args.words.now c.args.offsets.now c.args.quads.now c.args.s (length c.args.out.now) (accepted-of) in
-    let ok = accepted-of in (((ok.limits.x_low, ok.limits.y_low, ok.most), ((omega (arith, ok.twice), omega (arith, ok.thrice), omega (arith, ok.fits, c.put_header-a.ensures.value, c.put_header-a.auto.0)), numbers_of))).0
-
-pub put_vertices-b-requires-clause-count_in_bounds : goal.put_vertices-b-requires-clause-count_in_bounds
-put_vertices-b-requires-clause-count_in_bounds c =
-    let accepted-of : Accepted c.args.nx c.args.ny c.args.nz c.args.words.now c.args.offsets.now c.args.quads.now c.args.s (length c.args.out.now) = accepted_is c.args.nx c.args.ny c.args.nz c.args.words.now c.args.offsets.now c.args.quads.now c.args.s (length c.args.out.now) c.requires in
-    let numbers_of : AllNumbers (size_of c.args.nx c.args.ny c.args.nz) c.args.words.now c.args.offsets.now c.args.s (length c.args.words.now / 2) = all_numbers c.args.nx c.args.ny c.args.nz c.args.words.now c.args.offsets.now c.args.quads.now c.args.s (length c.args.out.now) (accepted-of) in
-    let ok = accepted-of in (((ok.limits.x_low, ok.limits.y_low, ok.most), ((omega (arith, ok.twice), omega (arith, ok.thrice), omega (arith, ok.fits, c.put_header-a.ensures.value, c.put_header-a.auto.0)), numbers_of))).1
-
-pub put_vertices-b-requires-clause-all_numbers : goal.put_vertices-b-requires-clause-all_numbers
-put_vertices-b-requires-clause-all_numbers c =
-    let accepted-of : Accepted c.args.nx c.args.ny c.args.nz c.args.words.now c.args.offsets.now c.args.quads.now c.args.s (length c.args.out.now) = accepted_is c.args.nx c.args.ny c.args.nz c.args.words.now c.args.offsets.now c.args.quads.now c.args.s (length c.args.out.now) c.requires in
-    let numbers_of : AllNumbers (size_of c.args.nx c.args.ny c.args.nz) c.args.words.now c.args.offsets.now c.args.s (length c.args.words.now / 2) = all_numbers c.args.nx c.args.ny c.args.nz c.args.words.now c.args.offsets.now c.args.quads.now c.args.s (length c.args.out.now) (accepted-of) in
-    let ok = accepted-of in (((ok.limits.x_low, ok.limits.y_low, ok.most), ((omega (arith, ok.twice), omega (arith, ok.thrice), omega (arith, ok.fits, c.put_header-a.ensures.value, c.put_header-a.auto.0)), numbers_of))).2
+pub put_vertices-b-requires : goal.put_vertices-b-requires
+put_vertices-b-requires c =
+    let ok = accepted_is c.args.nx c.args.ny c.args.nz c.args.words.now c.args.offsets.now c.args.quads.now c.args.s (length c.args.out.now) c.requires in
+    record {
+      le_nx = (ok.limits.x_low, ok.limits.y_low, ok.most);
+      count_in_bounds = (omega (arith, ok.twice), omega (arith, ok.thrice), omega (arith, ok.fits, c.put_header-a.ensures.value, c.put_header-a.auto.out));
+      all_numbers = all_numbers c.args.nx c.args.ny c.args.nz c.args.words.now c.args.offsets.now c.args.quads.now c.args.s (length c.args.out.now) ok;
+    }
 
 pub put_faces-requires : goal.put_faces-requires
 put_faces-requires c =
-    let accepted-of : Accepted c.args.nx c.args.ny c.args.nz c.args.words.now c.args.offsets.now c.args.quads.now c.args.s (length c.args.out.now) = accepted_is c.args.nx c.args.ny c.args.nz c.args.words.now c.args.offsets.now c.args.quads.now c.args.s (length c.args.out.now) c.requires in
-    let ok = accepted-of in
-    (omega (arith, ok.whole), omega (arith, ok.fits, c.put_header-a.ensures.value, c.put_header-a.auto.0, c.put_vertices-b.ensures.value, c.put_vertices-b.auto.0))
+    let ok = accepted_is c.args.nx c.args.ny c.args.nz c.args.words.now c.args.offsets.now c.args.quads.now c.args.s (length c.args.out.now) c.requires in
+    (omega (arith, ok.whole), omega (arith, ok.fits, c.put_header-a.ensures.value, c.put_header-a.auto.out, c.put_vertices-b.ensures.value, c.put_vertices-b.auto.out))
 
 pub returns : goal.returns
 returns c =

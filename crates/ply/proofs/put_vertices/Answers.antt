@@ -19,9 +19,8 @@ loop-v-init c = (search rules, search rules, puts_none _ _ _, refl)
 
 pub put_vertex-next-requires-clause-number : goal.put_vertex-next-requires-clause-number
 put_vertex-next-requires-clause-number c =
-    let l = c.loop-v in
     let a = c.args in
-    let t = c.loop-v-test.true in (((omega (arith, c.requires.le_nx.0), omega (arith, c.requires.le_nx.1)), (three_numbers (size_of a.nx a.ny a.nz) a.words.now a.offsets.now a.s a.count c.requires.count_in_bounds.1 l.v t, omega (arith, t, l.invariant.1, l.invariant.3, c.requires.count_in_bounds.0.2)))).1
+    three_numbers (size_of a.nx a.ny a.nz) a.words.now a.offsets.now a.s a.count c.requires.all_numbers c.loop-v.v c.loop-v-test.true
 
 pub loop-v-preserved : goal.loop-v-preserved
 loop-v-preserved c =
@@ -29,7 +28,7 @@ loop-v-preserved c =
     let i = c.loop-v.invariant in
     let p = c.put_vertex-next.ensures in (
       search rules,
-      omega (arith, i.1, p.1),
-      vertex_more (size_of a.nx a.ny a.nz) a.words.now a.offsets.now a.s _ _ _ refl refl i.2 p.0,
-      c.put_vertex-next.auto.0 ∙ i.3,
+      omega (arith, i.1, p.value),
+      vertex_more (size_of a.nx a.ny a.nz) a.words.now a.offsets.now a.s _ _ _ refl refl i.2 p.put,
+      c.put_vertex-next.auto.out ∙ i.3,
     )

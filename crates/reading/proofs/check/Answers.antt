@@ -4,7 +4,6 @@ use mathlib.Core.Path.{sym, ◌∙◌}
 use native.Mathlib.Omega.{arith}
 use Rattle.reading.proofs.Axes.{both_pass}
 use Rattle.reading.proofs.Verdicts.{first_refuses, axes_refuse, threshold_refuses, lines_decide}
-use borrow.Author.Rules.{rules}
 use Rattle.reading.proofs.check.Goals as goal
 
 pub returns-in-Refuses : goal.returns-in-Refuses

@@ -6,7 +6,6 @@ use Rattle.block.specs.Rows.{axis_row}
 use Rattle.block.specs.Size.{SizeMade}
 use Rattle.block.proofs.Sizes.{axis_refused, axis_passed}
 use Rattle.reading.proofs.Axes.{first_large, second_large, third_large, none_large, axis_first, then_large}
-use borrow.Author.Rules.{rules}
 use Rattle.reading.proofs.check_axes.Goals as goal
 
 pub returns-in-BadAxis : goal.returns-in-BadAxis

@@ -1,7 +1,6 @@
 -- `check_line` meets its contract: all bytes are right, or the first wrong one says what is wrong.
 -- Assumes nothing.
 use Rattle.reading.proofs.Faults.{line_passes, line_by}
-use borrow.Author.Rules.{rules}
 use Rattle.reading.proofs.check_line.Goals as goal
 
 pub returns-then-column-n : goal.returns-then-column-n

@@ -1,15 +1,9 @@
 -- `check_lines` meets its contract: all rows before the one in hand are right.
 -- Assumes nothing.
-use Prim.Native.Nat.{ℕ, ◌+◌, ◌-◌, ◌≤◌}
-use mathlib.Core.Path.{◌≡◌, sym, ◌∙◌}
-use native.Mathlib.Nat.{not-suc-le-zero}
-use native.Mathlib.Omega.{arith}
-use borrow.Author.Rules.{rules}
-use Rattle.laws.proofs.Leading.{before_more}
-use Rattle.block.specs.declared.Checked.TheVariants.{Passes}
+use Prim.Native.Nat.{◌-◌, ◌≤◌}
+use mathlib.Core.Path.{◌≡◌}
 use Rattle.reading.specs.Input.{row_place}
-use Rattle.reading.proofs.Reading.{rows_small}
-use Rattle.reading.proofs.Rows.{AllPass, row_check, at_row, next_row, row_refuses, behind_rows, surplus_passes, surplus_refuses}
+use Rattle.reading.proofs.Rows.{AllPass, row_check}
 use Rattle.reading.proofs.check_lines.Given as goal
 
 abbrev pub invariant-loop-j : goal.invariant-loop-j

@@ -1,8 +1,6 @@
 -- `digit` meets its contract: each return is one stretch of bytes.
 -- Assumes nothing.
-use native.Mathlib.Omega.{arith}
 use Rattle.reading.proofs.Digits.{before_digits, decimal_digit, between_digits, letter, behind_digits}
-use borrow.Author.Rules.{rules}
 use Rattle.reading.proofs.digit.Goals as goal
 
 pub returns-then-b-lt48-clause-value : goal.returns-then-b-lt48-clause-value

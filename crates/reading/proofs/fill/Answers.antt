@@ -1,14 +1,10 @@
 -- `fill` meets its contract: the samples before the one in hand stand at the front of the buffer.
 -- Assumes nothing.
-use Prim.Native.Nat.{ℕ, ◌+◌, ◌*◌, ◌-◌, ◌/◌, ◌%◌, ◌≤◌, ◌<◌}
-use mathlib.Core.Path.{◌≡◌, refl}
+use mathlib.Core.Path.{refl}
 use native.Mathlib.Omega.{arith}
 use borrow.Author.Rules.{rules}
-use lib.ListN.{length}
-use Rattle.laws.specs.Below.{over}
-use Rattle.laws.proofs.Over.{each, over_none, over_put}
+use Rattle.laws.proofs.Over.{over_none, over_put}
 use Rattle.reading.specs.Steps.{sample_read}
-use Rattle.reading.proofs.Reading.{sample_place_small}
 use Rattle.reading.proofs.fill.Goals as goal
 
 pub loop-i-init : goal.loop-i-init

@@ -1,14 +1,11 @@
 -- `fill` meets its contract: the samples before the one in hand stand at the front of the buffer.
 -- Assumes nothing.
-use Prim.Native.Nat.{ℕ, ◌+◌, ◌*◌, ◌-◌, ◌/◌, ◌%◌, ◌≤◌, ◌<◌}
-use mathlib.Core.Path.{◌≡◌, refl}
-use native.Mathlib.Omega.{arith}
-use borrow.Author.Rules.{rules}
+use Prim.Native.Nat.{◌-◌, ◌≤◌}
+use mathlib.Core.Path.{◌≡◌}
 use lib.ListN.{length}
 use Rattle.laws.specs.Below.{over}
-use Rattle.laws.proofs.Over.{each, over_none, over_put}
+use Rattle.laws.proofs.Over.{each}
 use Rattle.reading.specs.Steps.{sample_read}
-use Rattle.reading.proofs.Reading.{sample_place_small}
 use Rattle.reading.proofs.fill.Given as goal
 
 abbrev pub invariant-loop-i : goal.invariant-loop-i

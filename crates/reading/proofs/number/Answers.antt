@@ -1,7 +1,6 @@
 -- `number` meets its contract: four digits, each worth what the definition says.
 -- Assumes nothing.
 use Rattle.reading.proofs.Reading.{number_read}
-use borrow.Author.Rules.{rules}
 use Rattle.reading.proofs.number.Goals as goal
 
 pub returns : goal.returns

@@ -1,11 +1,8 @@
 -- `right_bytes` meets its contract: all columns before the one in hand are right.
 -- Assumes nothing.
 use Prim.Native.Nat.{◌+◌, ◌-◌, ◌≤◌}
-use native.Mathlib.Omega.{arith}
-use borrow.Author.Rules.{rules}
-use borrow.Author.Tests.{not-true, not-false}
-use Rattle.laws.proofs.Leading.{HoldsTo, holds_to_none, holds_more}
-use Rattle.reading.proofs.Line.{right_at, found_in, wrong_at, all_right}
+use Rattle.laws.proofs.Leading.{HoldsTo}
+use Rattle.reading.proofs.Line.{right_at}
 use Rattle.reading.proofs.right_bytes.Given as goal
 
 abbrev pub invariant-loop-column : goal.invariant-loop-column

@@ -24,7 +24,7 @@ loop-j-preserved c =
     let few : (c.ny-ny.result * c.args.k ≤ 65536) × (c.ny-ny.result ≤ 256) = (rows_small c.args.size _ c.args.k c.ny-ny.ensures c.requires.0 c.requires.2, omega (arith, c.ny-ny.ensures, c.requires.0.y_high)) in
     let h = c.loop-j in (
       omega (arith, c.loop-j-test.true),
-      c.row_signs.auto.1.1.0 ∙ h.invariant.1,
+      c.row_signs.auto.plane ∙ h.invariant.1,
       reading_stored c.args.readings.now c.args.cut c.nx-nx.result c.ny-ny.result h.j c.args.k inside _ _ _ h.invariant.2 c.row_signs.ensures
           (omega (arith, few, c.loop-j-test.true, c.requires.3)),
     )

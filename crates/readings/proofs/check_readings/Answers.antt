@@ -1,11 +1,8 @@
 -- `check_readings` meets its contract. The loop's invariant: none of the first p readings is at fault. The measure is what is left of the readings.
 -- Assumes nothing.
-use Prim.Native.Nat.{◌-◌}
 use mathlib.Core.Path.{sym}
-use borrow.Author.Rules.{rules}
 use native.Mathlib.Omega.{arith}
-use Rattle.readings.specs.Steps.{SoundTo}
-use Rattle.readings.proofs.Rows.{row_passes, sound_none, sound_run, sound_all}
+use Rattle.readings.proofs.Rows.{row_passes, sound_run, sound_all}
 use Rattle.readings.proofs.check_readings.Goals as goal
 
 pub loop-p-preserved : goal.loop-p-preserved

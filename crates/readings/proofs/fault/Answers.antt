@@ -1,6 +1,5 @@
 -- `fault` meets its contract, by cases on the float.
 -- Assumes nothing.
-use native.Mathlib.Omega.{arith}
 use lib.Ieee.{of_bits}
 use Rattle.readings.proofs.Cases.{fault_none_said, fault_past, fault_before}
 use Rattle.readings.proofs.fault.Goals as goal

@@ -1,14 +1,9 @@
 -- `fill` meets its contract. The loop's invariant: the grey values of the first i readings stand at the front. The measure is what is left of the part.
 -- Assumes nothing.
-use Prim.Native.Nat.{◌-◌, ◌≤◌}
 use mathlib.Core.Path.{◌≡◌, refl, ◌∙◌}
-use borrow.Author.Rules.{rules}
 use native.Mathlib.Omega.{arith}
-use lib.ListN.{length, get_or, length-set}
-use lib.Ieee.{nan}
-use Rattle.laws.specs.Below.{over}
-use Rattle.laws.proofs.Over.{each, over_none, over_put}
-use Rattle.readings.specs.Reading.{reading_of, grey_of}
+use lib.ListN.{length, length-set}
+use Rattle.laws.proofs.Over.{over_none, over_put}
 use Rattle.readings.proofs.Readings.{greys_each}
 use Rattle.readings.proofs.fill.Goals as goal
 

@@ -1,15 +1,12 @@
 -- `fill` meets its contract. The loop's invariant: the grey values of the first i readings stand at the front. The measure is what is left of the part.
 -- Assumes nothing.
 use Prim.Native.Nat.{◌-◌, ◌≤◌}
-use mathlib.Core.Path.{◌≡◌, refl, ◌∙◌}
-use borrow.Author.Rules.{rules}
-use native.Mathlib.Omega.{arith}
-use lib.ListN.{length, get_or, length-set}
+use mathlib.Core.Path.{◌≡◌}
+use lib.ListN.{length, get_or}
 use lib.Ieee.{nan}
 use Rattle.laws.specs.Below.{over}
-use Rattle.laws.proofs.Over.{each, over_none, over_put}
+use Rattle.laws.proofs.Over.{each}
 use Rattle.readings.specs.Reading.{reading_of, grey_of}
-use Rattle.readings.proofs.Readings.{greys_each}
 use Rattle.readings.proofs.fill.Given as goal
 
 abbrev pub invariant-loop-i : goal.invariant-loop-i

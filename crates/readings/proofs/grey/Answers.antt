@@ -1,7 +1,6 @@
 -- `grey` meets its contract: the whole part of the capped reading is the grey value.
 -- Assumes nothing.
 use mathlib.Core.Path.{◌≡◌, ◌∙◌}
-use borrow.Author.Rules.{rules}
 use Rattle.readings.proofs.Wholes.{cast_whole}
 use Rattle.readings.proofs.Readings.{grey_small}
 use Prim.Native.Nat.{◌/◌}

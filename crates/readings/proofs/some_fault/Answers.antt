@@ -1,14 +1,11 @@
 -- `some_fault` meets its contract. The loop's invariant: if no fault was seen, none of the first i readings is at fault. The measure is what is left of the part.
 -- Assumes nothing.
-use Prim.Native.Nat.{ℕ, ◌-◌, ◌≤◌, ◌<◌}
-use mathlib.Core.Path.{◌≡◌, sym, ◌∙◌}
-use borrow.Author.Rules.{rules}
+use Prim.Native.Nat.{◌<◌}
+use mathlib.Core.Path.{sym, ◌∙◌}
 use native.Mathlib.Omega.{arith}
 use lib.ListN.{length}
-use Rattle.readings.specs.Steps.{SoundTo}
-use borrow.Author.Tests.{eqb-true, not-false}
 use Rattle.laws.proofs.Pack.{or_none}
-use Rattle.readings.proofs.Rows.{bit_none, sound_none, sound_more, sound_all}
+use Rattle.readings.proofs.Rows.{bit_none, sound_more}
 use Rattle.readings.proofs.some_fault.Goals as goal
 
 pub loop-i-preserved : goal.loop-i-preserved

@@ -22,7 +22,7 @@ loop-k-init c =
 
 pub loop-k-preserved : goal.loop-k-preserved
 loop-k-preserved c =
-    let upper_of : Plane c.args.size c.args.samples.now c.args.cut (c.loop-k.k + 1) c.plane_signs-in-loop-k.new.1.1.1.1.0 = plane_of_lem c.args.size c.args.samples.now c.args.cut (c.loop-k.k + 1) _ _ c.requires.limits c.loop-k.invariant.2 c.plane_signs-in-loop-k.ensures in (
+    let upper_of : Plane c.args.size c.args.samples.now c.args.cut (c.loop-k.k + 1) c.plane_signs-in-loop-k.new.plane = plane_of_lem c.args.size c.args.samples.now c.args.cut (c.loop-k.k + 1) _ _ c.requires.limits c.loop-k.invariant.2 c.plane_signs-in-loop-k.ensures in (
       omega arith,
       upper_of,
       upper_of.room,

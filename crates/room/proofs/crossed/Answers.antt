@@ -15,10 +15,10 @@ crossed_of-requires c = (size_made c.args.nx c.args.ny c.args.nz _ (subst (SizeM
 
 pub returns-in-BadAxis : goal.returns-in-BadAxis
 returns-in-BadAxis c =
-    axis_judged c.args.nx c.args.ny c.args.nz (λ c. block_rows c c.args.samples.now c.args.cut) _ _
+    axis_judged c.args.nx c.args.ny c.args.nz (λ n. block_rows n c.args.samples.now c.args.cut) _ _
     (subst (SizeMade c.args.nx c.args.ny c.args.nz) c.in-BadAxis.is c.new-made.ensures)
 
 pub returns-in-Made : goal.returns-in-Made
 returns-in-Made c =
-    made_judged c.args.nx c.args.ny c.args.nz (λ c. block_rows c c.args.samples.now c.args.cut) (λ c. crossed_count c c.args.samples.now c.args.cut) _ (said_crossed c.crossed_of.result)
+    made_judged c.args.nx c.args.ny c.args.nz (λ n. block_rows n c.args.samples.now c.args.cut) (λ n. crossed_count n c.args.samples.now c.args.cut) _ (said_crossed c.crossed_of.result)
     (subst (SizeMade c.args.nx c.args.ny c.args.nz) c.in-Made.is c.new-made.ensures) c.crossed_of.ensures

@@ -10,4 +10,4 @@ returns-clause-value c =
     let a = c.args in
     let h = three_words a.x a.y a.z (search rules) (search rules) (search rules) in
     let s = c.ones_of-sums.ensures in
-    let t = c.ones_of-carries.ensures in omega (arith, h, s.0, t.0)
+    let t = c.ones_of-carries.ensures in omega (arith, h, s, t)
