@@ -18,4 +18,4 @@ pub returns : goal.returns
 returns c =
     let l = c.loop-base in
     ranged_all (key_by c.args.words.now c.args.wide c.args.layer c.args.quads.now) c.args.m l.base l.limit _ l.invariant c.loop-base-test.false
-    (λ q h. key_below c.args.words.now c.args.quads.now c.args.wide c.args.layer q c.requires.quads_below (omega (arith, h, c.requires.words_bound.1)))
+    (λ q h. key_below c.args.words.now c.args.quads.now c.args.wide c.args.layer q c.requires.quads_below (omega (arith, h, c.requires.words_bound)))

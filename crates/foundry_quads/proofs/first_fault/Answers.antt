@@ -12,7 +12,7 @@ returns-then-seen c =
     none_again c.args.size c.args.samples.now c.args.cut c.args.words.now c.args.quads.now c.row_of-wide.ensures c.layer_of-layer.ensures look.result.at look.ensures.at_value (look.ensures.holds_to c.if-seen.true)
 
 pub first_again-requires-clause-m_bound : goal.first_again-requires-clause-m_bound
-first_again-requires-clause-m_bound c = ((c.requires.quads_inside.below, (c.requires.quads_inside.few, at_most (quad_fits c.args.size c.args.samples.now c.args.cut c.args.words.now c.args.quads.now) c.look_through-seen.result.at (quad_total c.args.quads.now) c.look_through-seen.ensures.at_value))).2
+first_again-requires-clause-m_bound c = at_most (quad_fits c.args.size c.args.samples.now c.args.cut c.args.words.now c.args.quads.now) c.look_through-seen.result.at (quad_total c.args.quads.now) c.look_through-seen.ensures.at_value
 
 pub returns : goal.returns
 returns c =

@@ -35,7 +35,7 @@ loop-q-preserved c =
     let mark = c.mark in (
       search rules,
       run_more (key_by c.args.words.now c.args.wide c.args.layer c.args.quads.now) c.args.base l.q l.table place.result key.result l.invariant.1
-          (key_known c.args.words.now c.args.quads.now c.args.wide c.args.layer l.q four.result four.ensures.result_value refl key.ensures.value) place.ensures mark.new.0 c.if-k-ge262144.false
+          (key_known c.args.words.now c.args.quads.now c.args.wide c.args.layer l.q four.result four.ensures.result_value refl key.ensures.value) place.ensures mark.new.table c.if-k-ge262144.false
           (sym mark.ensures.value ∙ c.if-mark.false) mark.ensures.marked,
     )
 

@@ -23,4 +23,4 @@ loop-r-preserved c =
 pub returns : goal.returns
 returns c =
     let l = c.loop-r in
-    ranges_all c.args.size c.args.samples.now c.args.cut c.args.words.now c.args.m l.r l.limit c.requires.m_bound.1 (omega (arith, c.loop-r-test.false, c.cubes-end.ensures)) l.invariant.1
+    ranges_all c.args.size c.args.samples.now c.args.cut c.args.words.now c.args.m l.r l.limit c.requires.all_placed (omega (arith, c.loop-r-test.false, c.cubes-end.ensures)) l.invariant.1

@@ -17,16 +17,16 @@ returns-then-seen c =
 pub first_again-requires-clause-m_bound : goal.first_again-requires-clause-m_bound
 first_again-requires-clause-m_bound c =
     let seen = c.look_through-seen in
-    let sound = looks_sound c.args.size c.args.samples.now c.args.cut c.args.words.now c.args.offsets.now in
-    let fresh = fresh (vertex_key c.args.words.now c.args.size c.args.samples.now c.args.cut) in
-    let total = vertex_total c.args.words.now in ((search rules, (looked_le sound fresh total seen.result.at seen.ensures.at_value, λ v l. (and_both (placed c.args.size c.args.samples.now c.args.cut c.args.words.now v) (offset_inside c.args.offsets.now v) (looked_so sound fresh total seen.result.at seen.ensures.at_value v l)).0))).1
+    looked_le (looks_sound c.args.size c.args.samples.now c.args.cut c.args.words.now c.args.offsets.now) (fresh (vertex_key c.args.words.now c.args.size c.args.samples.now c.args.cut)) (vertex_total c.args.words.now) seen.result.at seen.ensures.at_value
 
 pub first_again-requires-clause-all_placed : goal.first_again-requires-clause-all_placed
 first_again-requires-clause-all_placed c =
     let seen = c.look_through-seen in
     let sound = looks_sound c.args.size c.args.samples.now c.args.cut c.args.words.now c.args.offsets.now in
     let fresh = fresh (vertex_key c.args.words.now c.args.size c.args.samples.now c.args.cut) in
-    let total = vertex_total c.args.words.now in ((search rules, (looked_le sound fresh total seen.result.at seen.ensures.at_value, λ v l. (and_both (placed c.args.size c.args.samples.now c.args.cut c.args.words.now v) (offset_inside c.args.offsets.now v) (looked_so sound fresh total seen.result.at seen.ensures.at_value v l)).0))).2
+    λ v l.
+        (and_both (placed c.args.size c.args.samples.now c.args.cut c.args.words.now v) (offset_inside c.args.offsets.now v)
+        (looked_so sound fresh (vertex_total c.args.words.now) seen.result.at seen.ensures.at_value v l)).0
 
 pub returns : goal.returns
 returns c =

@@ -1,12 +1,9 @@
 -- `is_far` meets its contract: none of 64 is counted.
 -- Assumes nothing.
-use mathlib.Core.Path.{sym}
-use mathlib.Core.Bool.{true≢false}
 use native.Mathlib.Omega.{arith}
 use borrow.Author.Tests.{eqb-true}
 use Rattle.foundry_vertices.proofs.Ranges.{all_far}
-use borrow.Author.Rules.{rules}
 use Rattle.foundry_vertices.proofs.is_far.Goals as goal
 
 pub returns : goal.returns
-returns c = all_far c.args.words.now c.args.r c.args.v i c.near.result c.near.ensures (eqb-true _ _ e) g (omega (arith, l, c.if-end-v-ne64.false))
+returns c = λ e i g l. all_far c.args.words.now c.args.r c.args.v i c.near.result c.near.ensures (eqb-true _ _ e) g (omega (arith, l, c.if-end-v-ne64.false))

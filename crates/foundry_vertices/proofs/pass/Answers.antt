@@ -3,7 +3,6 @@
 use Prim.Native.Nat.{◌*◌, ◌-◌, ◌≤◌}
 use native.Mathlib.Omega.{arith}
 use borrow.Author.Rules.{rules}
-use borrow.Author.Tests.{not-false}
 use Rattle.foundry_rule.specs.Spots.{vertex_key}
 use Rattle.repeats.specs.Fresh.{Table}
 use Rattle.repeats.proofs.Tables.{table_new, NewFrom, pass_stops, pass_table, pass_new, pass_ends, far_table, far_joined}
@@ -21,7 +20,7 @@ returns-then-a-end c =
 pub loop-v-preserved : goal.loop-v-preserved
 loop-v-preserved c =
     let l = c.loop-v in
-    let far = far_outside c.args.size c.args.samples.now c.args.cut c.args.words.now c.args.r l.v c.chunk_end-end.result (λ i k. c.requires.limit_bound.1 i (omega (arith, c.chunk_end-end.ensures.1, k))) (c.is_far.ensures (not-false _ c.if-not-is_far.false)) in
+    let far = far_outside c.args.size c.args.samples.now c.args.cut c.args.words.now c.args.r l.v c.chunk_end-end.result (λ i k. c.requires.all_placed i (omega (arith, c.chunk_end-end.ensures.1, k))) (c.is_far.ensures c.if-not-is_far.false) in
     (c.chunk_end-end.ensures.1, far_table _ _ l.v c.chunk_end-end.result (search rules) far l.table l.invariant.1, far_joined _ _ l.v c.chunk_end-end.result (search rules) far l.invariant.2)
 
 pub returns : goal.returns

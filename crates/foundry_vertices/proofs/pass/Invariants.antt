@@ -3,7 +3,6 @@
 use Prim.Native.Nat.{◌*◌, ◌-◌, ◌≤◌}
 use native.Mathlib.Omega.{arith}
 use borrow.Author.Rules.{rules}
-use borrow.Author.Tests.{not-false}
 use Rattle.foundry_rule.specs.Spots.{vertex_key}
 use Rattle.repeats.specs.Fresh.{Table}
 use Rattle.repeats.proofs.Tables.{table_new, NewFrom, pass_stops, pass_table, pass_new, pass_ends, far_table, far_joined}
