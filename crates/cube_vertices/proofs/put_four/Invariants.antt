@@ -1,11 +1,7 @@
 -- `put_four` meets its contract. The loop's invariant: the first i words and places are written. The measure is what is left of n.
 -- Assumes nothing.
-use Prim.Native.Nat.{◌-◌, ◌≤◌, ◌<◌}
-use mathlib.Core.Path.{◌≡◌, refl}
-use native.Mathlib.Omega.{arith}
-use borrow.Author.Rules.{rules}
-use lib.ListN.{length}
-use Rattle.cube_vertices.proofs.Stored.{FirstPut, put_more, put_words, put_offsets}
+use Prim.Native.Nat.{◌-◌, ◌≤◌}
+use Rattle.cube_vertices.proofs.Stored.{FirstPut}
 use Rattle.cube_vertices.proofs.put_four.Given as goal
 
 abbrev pub invariant-loop-i : goal.invariant-loop-i
