@@ -14,4 +14,4 @@ pub returns-clause-value : goal.returns-clause-value
 returns-clause-value c =
     let a = c.args in
     let r = a.row in ap (λ (x : ℕ). 4 * x) c.count_row.ensures.value
-    ∙ sym (step_counted a.along a.a.now a.b.now r.nx r.j r.lower c.has_quads.ensures (not-false _ c.if-not-has_quads.false))
+    ∙ sym (step_counted a.along a.a.now a.b.now r.nx r.j r.lower c.has_quads.ensures c.if-not-has_quads.false)

@@ -39,8 +39,8 @@ note_row-requires c =
 pub returns : goal.returns
 returns c =
     let block : List ℕ = block_of c.args.source c.args.samples.now c.args.readings.now in
-    let noted : List ℕ = c.note_row.new.1.1.1.1.1.0 in
-    let noted-long : length (noted) ≡ 512 = let t = c.args.under.now in c.note_row.auto.1.1.1.1.1.0 ∙ ap length (lent_half_lem c.args.j t) ∙ half_long c.args.j t c.requires.long in
+    let noted : List ℕ = c.note_row.new.numbers in
+    let noted-long : length (noted) ≡ 512 = let t = c.args.under.now in c.note_row.auto.numbers ∙ ap length (lent_half_lem c.args.j t) ∙ half_long c.args.j t c.requires.long in
     let row_read : let j = c.args.j in let z = c.args.k - 1 in 0 < c.args.k → (c.note_row.result ≡ rows_count loops_of c.args.size (block) c.args.cut (j + 1) z) × RowTable loops_of c.args.size (block) c.args.cut j z (noted) = λ h. read_row c.args.size (block) c.args.cut c.args.j (c.args.k - 1) _ _ _ _ _ _ _ c.nx-nx.ensures c.ny-ny.ensures (c.requires.passed_is h) (c.requires.part h) (c.requires.below_is h) c.requires.row c.note_row.ensures.row_read in
     let j = c.args.j in
     let t = c.args.under.now in

@@ -37,9 +37,9 @@ loop-k-init c =
 pub write_layer-m-requires : goal.write_layer-m-requires
 write_layer-m-requires c =
     let block : List ℕ = block_of c.args.source c.args.samples.now c.args.readings.now in
-    let upper_of : Plane c.args.size (block) c.args.cut (c.loop-k.k + 1) c.signs_of-in-loop-k.new.1.1.1.1.1.1.0 = plane_of_lem c.args.size (block) c.args.cut (c.loop-k.k + 1) _ _ c.requires.0.limits c.loop-k.invariant.2 c.signs_of-in-loop-k.ensures in
+    let upper_of : Plane c.args.size (block) c.args.cut (c.loop-k.k + 1) c.signs_of-in-loop-k.new.plane = plane_of_lem c.args.size (block) c.args.cut (c.loop-k.k + 1) _ _ c.requires.0.limits c.loop-k.invariant.2 c.signs_of-in-loop-k.ensures in
     let inside : c.loop-k.k + 1 < c.args.size.nz = omega (arith, c.nz-nz.ensures, c.loop-k-test.true) in
-    let layer_ready : Ready c.args.size (block) c.args.cut c.loop-k.a c.signs_of-in-loop-k.new.1.1.1.1.1.1.0 c.loop-k.k = record { limits = c.requires.0.limits; samples = c.requires.0.count; lower = c.loop-k.invariant.1; upper = upper_of; inside = inside } in (
+    let layer_ready : Ready c.args.size (block) c.args.cut c.loop-k.a c.signs_of-in-loop-k.new.plane c.loop-k.k = record { limits = c.requires.0.limits; samples = c.requires.0.count; lower = c.loop-k.invariant.1; upper = upper_of; inside = inside } in (
       layer_ready,
       c.requires.0,
       c.loop-k.invariant.3,
@@ -50,7 +50,7 @@ write_layer-m-requires c =
 pub loop-k-preserved : goal.loop-k-preserved
 loop-k-preserved c =
     let block : List ℕ = block_of c.args.source c.args.samples.now c.args.readings.now in
-    let upper_of : Plane c.args.size (block) c.args.cut (c.loop-k.k + 1) c.signs_of-in-loop-k.new.1.1.1.1.1.1.0 = plane_of_lem c.args.size (block) c.args.cut (c.loop-k.k + 1) _ _ c.requires.0.limits c.loop-k.invariant.2 c.signs_of-in-loop-k.ensures in
+    let upper_of : Plane c.args.size (block) c.args.cut (c.loop-k.k + 1) c.signs_of-in-loop-k.new.plane = plane_of_lem c.args.size (block) c.args.cut (c.loop-k.k + 1) _ _ c.requires.0.limits c.loop-k.invariant.2 c.signs_of-in-loop-k.ensures in
     let h = c.loop-k in
     let u = upper_of in (
       omega (arith, c.loop-k-test.true),
