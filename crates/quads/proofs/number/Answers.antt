@@ -6,4 +6,4 @@ use Rattle.quads.proofs.number.Goals as goal
 
 pub returns : goal.returns
 unfolding vertex_in
-returns c = c.wrapping_add_u32.ensures
+returns c = c.wrapping_add_u32.ensures.value
