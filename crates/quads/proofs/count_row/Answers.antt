@@ -1,10 +1,9 @@
 -- `count_row` meets its contract. The loop's invariant: m is the sum of the ones of the first w words. The measure is what is left of the row.
 -- Assumes nothing.
-use Rattle.std.proofs.Common.{◌≡◌, ℕ, ◌-◌, ◌*◌, ◌≤◌, sym, ap, ◌∙◌, arith, rules}
+use Rattle.std.proofs.Common.{ℕ, sym, ap, arith}
 use lib.Count.{ones}
-use Rattle.laws.specs.Counting.{total}
 use Rattle.laws.proofs.Sums.{total_none, total_one}
-use Rattle.quads.specs.Edges.{words_in, edges_of}
+use Rattle.quads.specs.Edges.{edges_of}
 use Rattle.quads.proofs.count_row.Goals as goal
 
 pub loop-w-init : goal.loop-w-init

@@ -1,6 +1,5 @@
 -- `edges` meets its contract: the word of crossings of the axis under its mask.
 -- Assumes nothing.
-use Rattle.std.proofs.Common.{rules}
 use Rattle.quads.proofs.Crossed.{edges_x, edges_y, edges_z}
 use Rattle.quads.proofs.edges.Goals as goal
 

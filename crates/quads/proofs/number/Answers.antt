@@ -1,7 +1,6 @@
 -- `number` meets its contract: two places of the table.
 -- Assumes nothing.
 use Rattle.notes.specs.Tables.{vertex_in}
-use Rattle.std.proofs.Common.{rules}
 use Rattle.quads.proofs.number.Goals as goal
 
 pub returns : goal.returns

@@ -1,7 +1,6 @@
 -- `put_edge` meets its contract: four numbers, and the quad.
 -- Assumes nothing.
 use Rattle.quads.proofs.Writes.{edge_wrote}
-use Rattle.std.proofs.Common.{rules}
 use Rattle.quads.proofs.put_edge.Goals as goal
 
 pub returns : goal.returns

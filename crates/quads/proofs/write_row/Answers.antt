@@ -1,12 +1,10 @@
 -- `write_row` meets its contract. The loop's invariant: the quads of the words before w are written. The measure is what is left of the words.
 -- Assumes nothing.
-use Rattle.std.proofs.Common.{◌≡◌, ℕ, ◌+◌, ◌-◌, ◌*◌, ◌<◌, ◌≤◌, List, length, get_or, sym, ap, subst, arith, rules}
-use Rattle.laws.specs.Below.{below}
+use Rattle.std.proofs.Common.{◌≡◌, ℕ, ◌+◌, ◌*◌, ◌<◌, ◌≤◌, List, length, get_or, sym, ap, subst, arith}
 use Rattle.quads.specs.declared.Order.{Order}
-use Rattle.quads.specs.Edges.{words_in, edges_of}
-use Rattle.quads.specs.Writing.{order_of, word_by}
-use Rattle.laws.specs.Put.{Put}
-use Rattle.laws.proofs.Puts.{put_length, put_as}
+use Rattle.quads.specs.Edges.{edges_of}
+use Rattle.quads.specs.Writing.{order_of}
+use Rattle.laws.proofs.Puts.{put_as}
 use Rattle.quads.proofs.RowQuads.{edge_reach}
 use Rattle.quads.proofs.Writes.{words_none, words_more, words_room}
 use Rattle.quads.proofs.write_row.Goals as goal
