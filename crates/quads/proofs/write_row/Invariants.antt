@@ -2,6 +2,7 @@
 -- Assumes nothing.
 use Rattle.std.proofs.Common.{ℕ, ◌+◌, ◌-◌, ◌*◌, ◌≤◌, List, get_or}
 use Rattle.laws.specs.Below.{below}
+use Rattle.quads.specs.declared.Line.{Line}
 use Rattle.quads.specs.declared.Order.{Order}
 use Rattle.quads.specs.Edges.{words_in, edges_of}
 use Rattle.quads.specs.Writing.{order_of, word_by}
@@ -12,9 +13,12 @@ use Rattle.quads.proofs.write_row.Given as goal
 abbrev pub run_by : Order → List ℕ → List ℕ → List ℕ → List ℕ → ℕ → ℕ → ℕ → List ℕ
 run_by o n0 n1 n2 n3 d up x = word_by o.e o.back o.sign n0 n1 n2 n3 d up x
 
+-- the quads of the edges of word w of a line
+abbrev pub word_of : Line → List ℕ → List ℕ → List ℕ → List ℕ → List ℕ → List ℕ → ℕ → List ℕ
+word_of l a b n0 n1 n2 n3 w = run_by (order_of l.along) n0 n1 n2 n3 (edges_of l.along a b l.nx l.j w) (get_or a (5 * l.j + w) 0) (64 * w)
+
 abbrev pub invariant-loop-w : goal.invariant-loop-w
-invariant-loop-w l = (l.w ≤ words_in l.nx)
-    × Put l.initial.quads l.initial.p (below (λ (v : ℕ). run_by (order_of l.along) l.n0 l.n1 l.n2 l.n3 (edges_of l.along l.a l.b l.nx l.j v) (get_or l.a (5 * l.j + v) 0) (64 * v)) l.w) l.quads l.p
+invariant-loop-w l = (l.w ≤ words_in l.nx) × Put l.initial.quads l.initial.p (below (word_of l.fn.line l.a l.b l.n0 l.n1 l.n2 l.n3) l.w) l.quads l.p
 
 abbrev pub decreases-loop-w : goal.decreases-loop-w
 decreases-loop-w l = words_in l.nx - l.w
