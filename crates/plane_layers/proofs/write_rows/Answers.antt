@@ -34,7 +34,7 @@ loop-j-preserved c =
     let wide_is : wide ≡ 2 * c.args.layer.size.nx = ap (λ (x : ℕ). 2 * x) c.nx-nx.ensures in (
       omega (arith, in-layer),
       c.step_row-m.auto.lo ∙ c.loop-j.invariant.1,
-      state_more c.requires.0 c.requires.2 c.requires.3 c.loop-j.invariant.2 in-layer _ _ _ at-is refl wide_is _ c.copy.ensures c.step_row-m.ensures _ c.copy-in-loop-j.ensures c.step_row-m.auto.1.1.1.1.1.1.0 c.step_row-m.auto.1.1.1.1.1.1.1.0 c.step_row-m.auto.1.1.1.1.1.1.1.1.0,
+      state_more c.requires.0 c.requires.2 c.requires.3 c.loop-j.invariant.2 in-layer _ _ _ at-is refl wide_is _ c.copy.ensures c.step_row-m.ensures _ c.copy-in-loop-j.ensures c.step_row-m.auto.words c.step_row-m.auto.offsets c.step_row-m.auto.quads,
     )
 
 pub returns : goal.returns
