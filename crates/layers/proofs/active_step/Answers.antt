@@ -12,7 +12,7 @@ use Rattle.layers.proofs.active_step.Goals as goal
 pub returns : goal.returns
 returns c =
     let tab : List ℕ = c.args.here.now in
-    let noted : List ℕ = c.write_row-v.new.1.1.1.1.1.1.1.0 in
+    let noted : List ℕ = c.write_row-v.new.numbers in
     let long : length (noted) ≡ 512 = c.write_row-v.ensures.noted.long ∙ lent_long c.args.row.j (tab) c.requires.3 in
     let j = c.args.row.j in
     record {

@@ -5,7 +5,6 @@ use mathlib.Core.Path.{sym, ap, ◌∙◌}
 use mathlib.Core.List.{[]}
 use native.Mathlib.Omega.{arith}
 use borrow.Author.Rules.{rules}
-use borrow.Author.Tests.{not-true, not-false}
 use lib.ListN.{length}
 use Rattle.layers.proofs.Steps.{step_none, step_counted}
 use Rattle.layers.proofs.count_along.Goals as goal
@@ -14,4 +13,4 @@ pub returns-clause-value : goal.returns-clause-value
 returns-clause-value c =
     let a = c.args in
     let r = a.row in ap (λ (x : ℕ). 4 * x) c.count_row.ensures.value
-    ∙ sym (step_counted a.along a.a.now a.b.now r.nx r.j r.lower c.has_quads.ensures (not-false _ c.if-not-has_quads.false))
+    ∙ sym (step_counted a.along a.a.now a.b.now r.nx r.j r.lower c.has_quads.ensures c.if-not-has_quads.false)
