@@ -283,7 +283,7 @@ def literal(text):
 def samples_text(source):
     """What run_samples must write: its source lists the cases in the order in which they are run."""
     out = []
-    for m in re.finditer(r'\b(try_case|try_board)\(\s*b"((?:[^"\\]|\\.)*)"\s*(?:,\s*(\d+)\s*)?,?\s*\)', source, re.S):
+    for m in re.finditer(r'\b(try_case|try_board)\(\s*rt,\s*b"((?:[^"\\]|\\.)*)"\s*(?:,\s*(\d+)\s*)?,?\s*\)', source, re.S):
         name, end, text = literal(m.group(2)).partition(b"\n")
         out.append(name + end)
         if m.group(1) == "try_case":

@@ -1,7 +1,5 @@
-// The library for C: exported functions over numbers and slices, each of which writes its answer to lent places. A slice is a pointer and
-// then a length. include/parsniprow.h declares and explains them.
-#![tactic(auto)]
-
+// The functions of the library for C, over numbers and slices: each writes its answer to lent places. parsniprow_export exports them, under
+// the same names and with the same contracts; include/parsniprow.h declares and explains them as C calls them.
 ghost use Rattle.std.specs.Prelude.{◌≡◌, [], ◌∷◌};
 ghost use Rattle.by_planes.specs.Answer.{said_start, said_taken};
 ghost use Rattle.parsniprow_c.specs.Told.{tell_over, CeilingsTold, ReadingTold, EdgeTold, CubeTold, CrossedTold, CountsTold, RowTold, MeshTold, ReadingsCountsTold, ReadingsMeshTold, StartTold, PlaneTold, EndTold, state_after, growth_after, ClosedTold, ClosedWithTold, JudgeTold, PiecesTold, PlyTold};
@@ -11,8 +9,7 @@ use by_planes::{Started, Taken};
 use ply::Spacing;
 
 // How many samples are at the detector's ceiling, and the lowest index of one.
-#[unsafe(no_mangle)]
-pub extern "C" fn parsniprow_ceilings(samples: &[u16], answer: &mut [u32])
+pub fn parsniprow_ceilings(samples: &[u16], answer: &mut [u32])
     ensures { CeilingsTold samples.now answer.old answer.new }
 {
     let seen = block::ceilings(samples);
@@ -21,8 +18,7 @@ pub extern "C" fn parsniprow_ceilings(samples: &[u16], answer: &mut [u32])
 }
 
 // The grey value of a reading of the second bench.
-#[unsafe(no_mangle)]
-pub extern "C" fn parsniprow_reading(x: f32, answer: &mut [u32])
+pub fn parsniprow_reading(x: f32, answer: &mut [u32])
     ensures { ReadingTold x answer.old answer.new }
 {
     let reading = readings::read(x);
@@ -31,8 +27,7 @@ pub extern "C" fn parsniprow_reading(x: f32, answer: &mut [u32])
 }
 
 // Where the surface crosses an edge.
-#[unsafe(no_mangle)]
-pub extern "C" fn parsniprow_edge(p: u16, q: u16, t: u16, fraction: &mut [f64], answer: &mut [u32])
+pub fn parsniprow_edge(p: u16, q: u16, t: u16, fraction: &mut [f64], answer: &mut [u32])
     ensures { EdgeTold p q t fraction.old answer.old fraction.new answer.new }
 {
     let crossing = place::edge(p, q, t);
@@ -43,8 +38,7 @@ pub extern "C" fn parsniprow_edge(p: u16, q: u16, t: u16, fraction: &mut [f64], 
 }
 
 // The loops of a cube, by its eight corners.
-#[unsafe(no_mangle)]
-pub extern "C" fn parsniprow_cube(
+pub fn parsniprow_cube(
     c0: u16,
     c1: u16,
     c2: u16,
@@ -73,15 +67,7 @@ pub extern "C" fn parsniprow_cube(
 }
 
 // How many edges of a block are crossed: how much room its mesh can take.
-#[unsafe(no_mangle)]
-pub extern "C" fn parsniprow_crossed(
-    nx: u32,
-    ny: u32,
-    nz: u32,
-    samples: &[u16],
-    t: u16,
-    answer: &mut [u32],
-)
+pub fn parsniprow_crossed(nx: u32, ny: u32, nz: u32, samples: &[u16], t: u16, answer: &mut [u32])
     ensures { CrossedTold nx ny nz samples.now t answer.old answer.new }
 {
     let edged = room::crossed(nx, ny, nz, samples, Cut { t: t, noise: 0 });
@@ -90,8 +76,7 @@ pub extern "C" fn parsniprow_crossed(
 }
 
 // How many vertices and quads the mesh of a block has.
-#[unsafe(no_mangle)]
-pub extern "C" fn parsniprow_counts(
+pub fn parsniprow_counts(
     nx: u32,
     ny: u32,
     nz: u32,
@@ -108,8 +93,7 @@ pub extern "C" fn parsniprow_counts(
 }
 
 // The counts of a block by each threshold of a row, in a lent buffer.
-#[unsafe(no_mangle)]
-pub extern "C" fn parsniprow_thresholds(
+pub fn parsniprow_thresholds(
     nx: u32,
     ny: u32,
     nz: u32,
@@ -127,8 +111,7 @@ pub extern "C" fn parsniprow_thresholds(
 }
 
 // The mesh of a block in three lent buffers.
-#[unsafe(no_mangle)]
-pub extern "C" fn parsniprow_mesh(
+pub fn parsniprow_mesh(
     nx: u32,
     ny: u32,
     nz: u32,
@@ -149,8 +132,7 @@ pub extern "C" fn parsniprow_mesh(
 }
 
 // How many vertices and quads the mesh of a block of readings has.
-#[unsafe(no_mangle)]
-pub extern "C" fn parsniprow_readings_counts(
+pub fn parsniprow_readings_counts(
     nx: u32,
     ny: u32,
     nz: u32,
@@ -167,8 +149,7 @@ pub extern "C" fn parsniprow_readings_counts(
 }
 
 // The mesh of a block of readings in three lent buffers.
-#[unsafe(no_mangle)]
-pub extern "C" fn parsniprow_readings_mesh(
+pub fn parsniprow_readings_mesh(
     nx: u32,
     ny: u32,
     nz: u32,
@@ -189,8 +170,7 @@ pub extern "C" fn parsniprow_readings_mesh(
 }
 
 // Starts a run over the planes of a block: its state stands in a lent place.
-#[unsafe(no_mangle)]
-pub extern "C" fn parsniprow_start(
+pub fn parsniprow_start(
     nx: u32,
     ny: u32,
     nz: u32,
@@ -209,8 +189,7 @@ pub extern "C" fn parsniprow_start(
 }
 
 // Takes the next plane of a run, and writes what it finishes into three lent buffers.
-#[unsafe(no_mangle)]
-pub extern "C" fn parsniprow_plane(
+pub fn parsniprow_plane(
     state: &mut [u32],
     plane: &[u16],
     work: &mut [u32],
@@ -229,8 +208,7 @@ pub extern "C" fn parsniprow_plane(
 }
 
 // Ends a run: how many vertices and quads its planes gave together.
-#[unsafe(no_mangle)]
-pub extern "C" fn parsniprow_end(state: &[u32], answer: &mut [u32])
+pub fn parsniprow_end(state: &[u32], answer: &mut [u32])
     ensures { EndTold state.now answer.old answer.new }
 {
     let stream = told::read_state(state);
@@ -261,8 +239,7 @@ fn put_taken(taken: Taken, state: &mut [u32])
 }
 
 // Whether a list of quads is closed.
-#[unsafe(no_mangle)]
-pub extern "C" fn parsniprow_closed(quads: &[u32], answer: &mut [u32])
+pub fn parsniprow_closed(quads: &[u32], answer: &mut [u32])
     ensures { ClosedTold quads.now answer.old answer.new }
 {
     let closure = closed::closed(quads);
@@ -271,8 +248,7 @@ pub extern "C" fn parsniprow_closed(quads: &[u32], answer: &mut [u32])
 }
 
 // Whether a list of quads is closed, with lent memory.
-#[unsafe(no_mangle)]
-pub extern "C" fn parsniprow_closed_with(quads: &[u32], work: &mut [u64], answer: &mut [u32])
+pub fn parsniprow_closed_with(quads: &[u32], work: &mut [u64], answer: &mut [u32])
     ensures { ClosedWithTold quads.now work.old answer.old work.new answer.new }
 {
     let closure = closed_with::closed_with(quads, work);
@@ -281,8 +257,7 @@ pub extern "C" fn parsniprow_closed_with(quads: &[u32], work: &mut [u64], answer
 }
 
 // Whether a mesh that another mesher made is that of a block.
-#[unsafe(no_mangle)]
-pub extern "C" fn parsniprow_judge(
+pub fn parsniprow_judge(
     nx: u32,
     ny: u32,
     nz: u32,
@@ -311,8 +286,7 @@ pub extern "C" fn parsniprow_judge(
 }
 
 // The pieces of a list of quads in two lent buffers.
-#[unsafe(no_mangle)]
-pub extern "C" fn parsniprow_pieces(
+pub fn parsniprow_pieces(
     n: u32,
     quads: &[u32],
     piece: &mut [u32],
@@ -327,8 +301,7 @@ pub extern "C" fn parsniprow_pieces(
 }
 
 // A mesh as a PLY file in a lent buffer.
-#[unsafe(no_mangle)]
-pub extern "C" fn parsniprow_ply(
+pub fn parsniprow_ply(
     nx: u32,
     ny: u32,
     nz: u32,

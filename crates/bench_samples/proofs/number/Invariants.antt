@@ -1,11 +1,10 @@
 -- `number` ends: the invariant is that at most sixteen digits are left, and these are the measure.
 -- Assumes nothing.
 use Prim.Native.Nat.{◌≤◌}
-use borrow.Author.Rules.{rules}
 use Rattle.bench_samples.proofs.number.Given as goal
 
 abbrev pub invariant-loop-left : goal.invariant-loop-left
-invariant-loop-left l = l.left ≤ 16
+invariant-loop-left g l = l.left ≤ 16
 
 abbrev pub decreases-loop-left : goal.decreases-loop-left
-decreases-loop-left l = l.left
+decreases-loop-left g l = l.left
