@@ -1,0 +1,28 @@
+-- `row_counts` meets its contract: a row without an active cube moves no mark, a row of plain cubes is counted by its signs, and of any other the windows are
+-- made. Assumes nothing.
+use Prim.Native.Nat.{ℕ, ◌-◌, ◌≤◌}
+use mathlib.Core.Path.{◌≡◌, refl, sym, ◌∙◌, subst}
+use native.Mathlib.Omega.{arith}
+use borrow.Author.Rules.{rules}
+use lib.ListN.{length, take, drop}
+use Rattle.cube_rule.specs.Decider.{joined, loops_of}
+use Rattle.cube_rule.proofs.Laws.{cube_laws}
+use Rattle.layers.specs.Steps.{MarksBy, RowCounted}
+use Rattle.layers.proofs.Quiets.{quiet_counted}
+use Rattle.readings.specs.Reading.{greys_of}
+use Rattle.rows.specs.Rows.{row_masks, RowReady}
+use Rattle.reading_rows.proofs.Windows.{low_long, high_long, plain_few, window_lent, windows_as}
+use Rattle.reading_rows.proofs.row_counts.Goals as goal
+
+pub returns-then-quiet : goal.returns-then-quiet
+returns-then-quiet c = quiet_counted (cube_laws joined) c.args.row c.requires.2 (sym c.if-quiet.true ∙ c.quiet.ensures) c.args.m
+
+pub with_quads-requires : goal.with_quads-requires
+with_quads-requires c =
+    let plain-said : let v = c.in-Plain.v in (v ≡ length (row_masks loops_of (greys_of c.args.low.now) (greys_of c.args.high.now) c.args.row.cut c.args.row.nx)) × (v ≤ 1020) = plain_few c.args.low.now c.args.high.now c.requires.2 c.in-Plain.v (sym c.plain_row-loops.ensures ∙ c.in-Plain.is) in
+    (c.requires.3, c.requires.4, plain-said.1)
+
+pub returns-in-Plain : goal.returns-in-Plain
+returns-in-Plain c =
+    let plain-said : let v = c.in-Plain.v in (v ≡ length (row_masks loops_of (greys_of c.args.low.now) (greys_of c.args.high.now) c.args.row.cut c.args.row.nx)) × (v ≤ 1020) = plain_few c.args.low.now c.args.high.now c.requires.2 c.in-Plain.v (sym c.plain_row-loops.ensures ∙ c.in-Plain.is) in
+    subst (λ (v : ℕ). MarksBy v c.args.row c.args.a.now c.args.b.now c.args.m c.with_quads.result) plain-said.0 c.with_quads.ensures
