@@ -32,7 +32,7 @@ use Rattle.block.specs.Block.{block_rows, block_verdict}
 use Rattle.mesh.specs.Answer.{vertex_count, quad_count, vertex_row, quad_row, said_counts, CountsAnswered, mesh_verdict, Meshed}
 use Rattle.demands.specs.Answers.{NotRefused, MeshCall, SameMesh}
 use Rattle.demands.proofs.Allowed.{mesh_call}
-use Rattle.demands.proofs.TheMesh.{mesh_given, quads_are, word_at, offset_at, number_at}
+use Rattle.demands.proofs.TheMesh.{mesh_given, quads_are, word_at, offset_at, number_at_lem}
 use Rattle.demands.proofs.StandIn.{no_quad_alike, same_mesh_alike}
 
 -- ---- one that refuses all blocks: where the checks pass, no refusal is allowed
@@ -63,7 +63,7 @@ module _ {nx ny nz : ℕ} {s : List ℕ} {cut : Cut} (a : MeshCall nx ny nz s cu
   other_offset_falls k l h = h (offset_at a k (omega (arith, l, (mesh_given a).vertex_count_lem)))
 
   pub other_quad_falls : (k : ℕ) → k < 4 * quad_count size s cut → (get_or a.quads_after k 0 ≡ get_or (flat (quads loops_of size s cut)) k 0 → ⊥) → ⊥
-  other_quad_falls k l h = h (number_at a k (omega (arith, l, quads_are a)))
+  other_quad_falls k l h = h (number_at_lem a k (omega (arith, l, quads_are a)))
 
   -- ---- nothing written, wherever a buffer differs from the mesh
 

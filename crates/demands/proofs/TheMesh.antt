@@ -93,9 +93,9 @@ module _ {nx ny nz : ℕ} {s : List ℕ} {cut : Cut} (a : MeshCall nx ny nz s cu
   pub offset_at : (k : ℕ) → k < 3 * a.counts.vertices → get_or a.offsets_after k nan ≡ get_or (mesh_offsets loops_of size s cut) k nan
   offset_at k h = rw offsets_in (over_front (mesh_offsets loops_of size s cut) a.offsets k nan (rw offsets_long h))
 
-  pub number_at : (k : ℕ) → k < 4 * a.counts.quads → get_or a.quads_after k 0 ≡ get_or (flat (quads loops_of size s cut)) k 0
+  pub number_at_lem : (k : ℕ) → k < 4 * a.counts.quads → get_or a.quads_after k 0 ≡ get_or (flat (quads loops_of size s cut)) k 0
   unfolding mesh_quads
-  number_at k h = rw quads_in (over_front (mesh_quads loops_of size s cut) a.quads k 0 (rw flat_long h))
+  number_at_lem k h = rw quads_in (over_front (mesh_quads loops_of size s cut) a.quads k 0 (rw flat_long h))
 
   -- a vertex, and what the buffer holds of it
   vertex_given : (v : ℕ) → v < a.counts.vertices
@@ -113,7 +113,7 @@ module _ {nx ny nz : ℕ} {s : List ℕ} {cut : Cut} (a : MeshCall nx ny nz s cu
   quad_is : (q : ℕ) → q < a.counts.quads
       → quad (get_or (flat (quads loops_of size s cut)) (4 * q) 0) (get_or (flat (quads loops_of size s cut)) (4 * q + 1) 0) (get_or (flat (quads loops_of size s cut)) (4 * q + 2) 0) (get_or (flat (quads loops_of size s cut)) (4 * q + 3) 0)
       ≡ quad (get_or a.quads_after (4 * q) 0) (get_or a.quads_after (4 * q + 1) 0) (get_or a.quads_after (4 * q + 2) 0) (get_or a.quads_after (4 * q + 3) 0)
-  quad_is q h = rw (number_at (4 * q) (omega arith), number_at (4 * q + 1) (omega arith), number_at (4 * q + 2) (omega arith), number_at (4 * q + 3) (omega arith)) refl
+  quad_is q h = rw (number_at_lem (4 * q) (omega arith), number_at_lem (4 * q + 1) (omega arith), number_at_lem (4 * q + 2) (omega arith), number_at_lem (4 * q + 3) (omega arith)) refl
 
   pub mesh_given : MeshGiven a
   mesh_given = record {

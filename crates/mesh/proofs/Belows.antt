@@ -30,7 +30,7 @@ use Rattle.layers.specs.declared.Marks.{Marks}
 use Rattle.mesh.specs.Answer.{vertex_count}
 use Rattle.mesh.specs.Writes.{rows_count, Writing}
 use Rattle.mesh.proofs.Layers.{layer_next, layer_first_next, layer_words_length, words_length}
-use Rattle.mesh.proofs.ReadRows.{row_of}
+use Rattle.mesh.proofs.ReadRows.{row_of_lem}
 use Rattle.mesh.proofs.Rows.{vertices_le}
 
 module _ (n : Size) (s : List ℕ) (cut : Cut) where
@@ -108,7 +108,7 @@ module _ (n : Size) (s : List ℕ) (cut : Cut) where
     row-there =
         subst (λ (v : ℕ). RowOf (λ (x : ℕ). names (base z + (w * j + x))) w c v (layer_words loops_of n s cut z)) (count (w * j))
         (subst (λ (v : ℕ). RowOf (λ (x : ℕ). names (base z + (w * j + x))) w v (length (below (λ (y : ℕ). names (base z + y)) (w * j))) (layer_words loops_of n s cut z)) (sym (ec ∙ row_first j z))
-        (row_of (λ (y : ℕ). names (base z + y)) (base z) (layer_size n) (w * j) w inside (λ x. omega (arith, names_count (base z + x), (cube_laws joined).four cut (corners_of n s (base z + x))))))
+        (row_of_lem (λ (y : ℕ). names (base z + y)) (base z) (layer_size n) (w * j) w inside (λ x. omega (arith, names_count (base z + x), (cube_laws joined).four cut (corners_of n s (base z + x))))))
 
     row_count : length (below (λ (x : ℕ). names (base z + (w * j + x))) w) ≡ length (run_masks loops_of n s cut row w)
     row_count = same_below _ _ w (λ x l. ap (λ (c : ℕ). length (names c)) (at x) ∙ names_count (row + x))

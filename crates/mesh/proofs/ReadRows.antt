@@ -56,8 +56,8 @@ module _ (F : ℕ → List ℕ) (base M : ℕ) where
       behind = omega (arith, rows_length y)
 
   -- the w cubes from the cube o on
-  pub row_of : (o w : ℕ) → o + w ≤ M → ((x : ℕ) → length (F x) ≤ 4) → RowOf (λ (x : ℕ). F (o + x)) w (base + o) (length (below F o)) (below block M)
-  row_of o w h four = record {
+  pub row_of_lem : (o w : ℕ) → o + w ≤ M → ((x : ℕ) → length (F x) ≤ 4) → RowOf (λ (x : ℕ). F (o + x)) w (base + o) (length (below F o)) (below block M)
+  row_of_lem o w h four = record {
     room = omega (arith, up w, rows_length M, less);
     cube = λ x l hx hl.
         ap (λ (v : ℕ). get_or (below block M) (2 * (v + l)) 0) (sym (up x))

@@ -29,8 +29,8 @@ pub record Place (f : ℕ → List ℕ) (m from v : ℕ) : Type 0 where
   pub nth_lt : nth < length (f cube)
   pub is : v ≡ from + length (below f cube) + nth
 
-pub place_of : (f : ℕ → List ℕ) (m from v : ℕ) → from ≤ v → v < from + length (below f m) → Place f m from v
-place_of f m from v h l =
+pub place_of_lem : (f : ℕ → List ℕ) (m from v : ℕ) → from ≤ v → v < from + length (below f m) → Place f m from v
+place_of_lem f m from v h l =
     let r = split f m (v - from) (omega arith) in
     record { cube = r.0; nth = r.1; cube_lt = r.2; nth_lt = r.3; is = omega (arith, r.4) }
 
@@ -67,7 +67,7 @@ module _ {f : ℕ → List ℕ} {m c from : ℕ} {part : List ℕ} (row : RowOf 
                     differs t = true≢false (sym t ∙ d)
 
             before : Place f m from (v - 1)
-            before = place_of f m from (v - 1) (omega (arith, more)) (omega (arith, more, p.is, p.nth_lt, length-below f m x p.cube_lt))
+            before = place_of_lem f m from (v - 1) (omega (arith, more)) (omega (arith, more, p.is, p.nth_lt, length-below f m x p.cube_lt))
 
             at : 2 * v - 2 ≡ 2 * (v - 1)
             at = omega arith
@@ -106,7 +106,7 @@ module _ {f : ℕ → List ℕ} {m c from : ℕ} {part : List ℕ} (row : RowOf 
               past (inl b) = clash (omega (arith, t, number_of q, number_of p))
                 where
                   q : Place f m from (v + i)
-                  q = place_of f m from (v + i) (omega (arith, p.is)) b
+                  q = place_of_lem f m from (v + i) (omega (arith, p.is)) b
 
                   clash : q.cube ≡ x → ⊥
                   clash s = omega (arith, q.is, p.is, q.nth_lt, ap (λ (y : ℕ). length (f y)) s, ap (λ (y : ℕ). length (below f y)) s)
@@ -167,7 +167,7 @@ module _ {f : ℕ → List ℕ} {m c from first v : ℕ} {part at : List ℕ} (r
       go (inl l) = absurd (clash out)
         where
           p : Place f m from v
-          p = place_of f m from v low l
+          p = place_of_lem f m from v low l
 
           clash : (d < c) ⊎ (c + m ≤ d) → ⊥
           clash (inl a) = omega (arith, e, number_of row p, p.cube_lt)
@@ -187,7 +187,7 @@ module _ {f : ℕ → List ℕ} {m c from first v : ℕ} {part at : List ℕ} (r
         go (inr g) = absurd (omega (arith, row.later v g inside))
 
     p : Place f m from v
-    p = place_of f m from v low short
+    p = place_of_lem f m from v low short
 
     cube_is : d - c ≡ p.cube
     cube_is = omega (arith, e, number_of row p)

@@ -31,8 +31,8 @@ module _ (n c b : ℕ) where
       by_wrong e = rw (ne_eqb b ended h, ne_eqb b LF f, ne_eqb c n e)
 
 -- number and value as the code has them are those of the fault's row, which are not cut
-pub row_of : (line number w : ℕ) {k v : ℕ} {f g : Fault} → g ≡ f → fault_row line f ≡ refuses number w → k ≡ number → v ≡ w → w ≤ 4294967295 → refusal k v ≡ fault_row line g
-row_of line number w by says e d small = rw (e, d) (ap (refusal number) (sym (given_small w small)) ∙ sym says ∙ ap (fault_row line) (sym by))
+pub row_of_lem : (line number w : ℕ) {k v : ℕ} {f g : Fault} → g ≡ f → fault_row line f ≡ refuses number w → k ≡ number → v ≡ w → w ≤ 4294967295 → refusal k v ≡ fault_row line g
+row_of_lem line number w by says e d small = rw (e, d) (ap (refusal number) (sym (given_small w small)) ∙ sym says ∙ ap (fault_row line) (sym by))
 
 module _ (bytes : List ℕ) (line p n c : ℕ) (found : c ≡ right_bytes bytes p n) where
   pub line_passes : c ≡ n + 1 → Passes ≡ line_row bytes line p n

@@ -41,16 +41,16 @@ yes_count : (m : ℕ) → count yes m ≡ m
 yes_count m = count_all yes m (λ c l. refl)
 
 -- that many they are
-pub edge_count : (n : Size) (a : Axis) → count (edge_from n a) (sample_count n) ≡ edges_along n a
-edge_count n X =
+pub edge_count_lem : (n : Size) (a : Axis) → count (edge_from n a) (sample_count n) ≡ edges_along n a
+edge_count_lem n X =
     count_same _ _ (sample_count n) (λ p l. sym (and-true (ltb (p % n.nx + 1) n.nx && true) ∙ and-true (ltb (p % n.nx + 1) n.nx)))
     ∙ count_box (λ (i : ℕ). ltb (i + 1) n.nx) yes yes n.nx n.ny n.nz
     ∙ rw (count_lower n.nx, yes_count n.ny, yes_count n.nz)
-edge_count n Y =
+edge_count_lem n Y =
     count_same _ _ (sample_count n) (λ p l. sym (and-true (ltb (p / n.nx % n.ny + 1) n.ny)))
     ∙ count_box yes (λ (j : ℕ). ltb (j + 1) n.ny) yes n.nx n.ny n.nz
     ∙ rw (count_lower n.ny, yes_count n.nx, yes_count n.nz)
-edge_count n Z =
+edge_count_lem n Z =
     count_box yes yes (λ (k : ℕ). ltb (k + 1) n.nz) n.nx n.ny n.nz
     ∙ rw (count_lower n.nz, yes_count n.nx, yes_count n.ny)
 
@@ -58,7 +58,7 @@ edge_count n Z =
 
 module _ (n : Size) (s : List ℕ) (cut : Cut) where
   along_most : (a : Axis) → crossed_along n s cut a ≤ edges_along n a
-  along_most a = rw (edge_count n a) at (count_le (crossed_edge n s cut a) (edge_from n a) (sample_count n) (λ p l. bit_and_le (edge_from n a p) _))
+  along_most a = rw (edge_count_lem n a) at (count_le (crossed_edge n s cut a) (edge_from n a) (sample_count n) (λ p l. bit_and_le (edge_from n a p) _))
 
   pub edges_most : crossed_count n s cut ≤ edges_along n X + edges_along n Y + edges_along n Z
   unfolding crossed_count
@@ -85,7 +85,7 @@ module _ (n : Size) where
   along_board a =
       count_same (crossed_edge n (board n) cut a) (edge_from n a) (sample_count n)
       (λ p l. crossed_there a (p % n.nx) (p / n.nx % n.ny) (p / n.nx / n.ny) (index_box n.nx n.ny n.nz p l))
-      ∙ edge_count n a
+      ∙ edge_count_lem n a
 
   pub board_edges : crossed_count n (board n) cut ≡ edges_along n X + edges_along n Y + edges_along n Z
   unfolding crossed_count
