@@ -20,3 +20,8 @@ pub loop-i-2-preserved : goal.loop-i-2-preserved
 loop-i-2-preserved c =
     let l = c.loop-i-2 in
     counted_next c.args.samples.now l.n l.i _ l.invariant (omega arith) c.at_ceiling.ensures.upper_bound c.at_ceiling.ensures.value
+
+pub returns : goal.returns
+returns c =
+    let l = c.loop-i-2 in
+    counted_all c.args.samples.now l.n l.i l.invariant (omega arith)

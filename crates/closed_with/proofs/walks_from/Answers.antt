@@ -1,5 +1,7 @@
 -- `walks_from` meets its contract: the chain of a is followed.
 -- Assumes nothing.
+use Prim.Native.Nat.{◌-◌}
+use Rattle.closed_with.proofs.Chains.{follow_end}
 use Prim.Native.Nat.{◌+◌}
 use native.Mathlib.Omega.{arith}
 use Rattle.closed.specs.Closed.{from}
@@ -23,3 +25,6 @@ loop-m-preserved c =
     let s = c.same-found in
     follow_next c.args.quads.now c.args.a c.args.b l.found l.m e.result s.result _ l.invariant (omega arith) e.ensures s.ensures.value s.ensures.upper_bound
     (c.requires.2.links l.m (omega arith))
+
+pub returns : goal.returns
+returns c = follow_end _ _ _ _ _ c.loop-m.invariant (omega arith)

@@ -13,3 +13,7 @@ pub loop-i-preserved : goal.loop-i-preserved
 loop-i-preserved c =
     let l = c.loop-i in
     (omega arith, simp length-set l.invariant.1, copy_more _ _ _ _ _ l.invariant.2 (omega arith))
+
+pub returns-clause-put : goal.returns-clause-put
+returns-clause-put c =
+    let l = c.loop-i in copy_all _ _ _ _ _ l.invariant.2 (omega arith)

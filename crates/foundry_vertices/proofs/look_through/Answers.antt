@@ -28,3 +28,6 @@ loop-v-preserved c =
 pub returns-clause-at_value : goal.returns-clause-at_value
 returns-clause-at_value c =
     let l = c.loop-v in sym (ap (leading _) (search rules) ∙ leading_all _ l.v l.invariant.1)
+
+pub loop-v-init : goal.loop-v-init
+loop-v-init c = (search rules, holds_to_none _, rising_none _, omega arith)

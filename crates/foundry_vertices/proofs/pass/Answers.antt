@@ -27,3 +27,11 @@ pub returns : goal.returns
 returns c =
     let l = c.loop-v in
     pass_ends (vertex_key c.args.words.now c.args.size c.args.samples.now c.args.cut) (262144 * c.args.r) c.args.limit l.v (search rules) l.invariant.2
+
+pub loop-v-preserved-else-a-end : goal.loop-v-preserved-else-a-end
+loop-v-preserved-else-a-end c =
+    let l = c.loop-v in (
+      c.chunk_end-end.ensures.1,
+      pass_table _ _ _ l.v c.chunk_end-end.result c.run-a.result _ c.chunk_end-end.ensures.1 l.invariant.2 c.run-a.ensures c.if-a-end.false,
+      pass_new _ _ _ l.v c.chunk_end-end.result c.run-a.result _ c.chunk_end-end.ensures.1 l.invariant.2 c.run-a.ensures c.if-a-end.false,
+    )

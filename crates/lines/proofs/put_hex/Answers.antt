@@ -20,3 +20,8 @@ loop-left-preserved c =
       hex_digit c.args.out.now _ _ _ _ _ _ i.0 four c.glyph.ensures i.2,
       search rules,
     )
+
+pub returns-clause-put : goal.returns-clause-put
+returns-clause-put c =
+    let i = c.loop-left.invariant in
+    let none = c.loop-left-test.false in hex_end c.args.out.now _ _ _ _ _ _ none (omega (arith, none, i.1)) i.2

@@ -42,3 +42,10 @@ loop-w-preserved c =
       active_more a.a.now a.b.now a.row.nx a.row.j h.w h.m c.ones_of-m.result _ h.invariant.2 act_is c.ones_of-m.ensures.value,
       omega (arith, h.invariant.3, c.ones_of-m.ensures.upper_bound),
     )
+
+pub returns : goal.returns
+returns c =
+    let h = c.loop-w in
+    let a = c.args in
+    let e : h.w ≡ words_in_row a.row.nx = omega (arith, c.loop-w-test.false, h.invariant.0) in
+    plain_all a.a.now a.b.now a.row.nx a.row.j h.m h.w (subst (λ w. true ≡ every (plainAt a.a.now a.b.now a.row.nx a.row.j) w) e h.invariant.1) h.invariant.2 e

@@ -44,3 +44,16 @@ loop-v-preserved c =
 pub returns-clause-row_read : goal.returns-clause-row_read
 returns-clause-row_read c =
     let h = c.loop-v.invariant in λ f r. passed_end r (h.3 f r) h.0 (omega (arith, c.loop-v-test.false, r.room))
+
+pub returns-clause-row_noted : goal.returns-clause-row_noted
+returns-clause-row_noted c =
+    let h = c.loop-v.invariant in noted_all h.4 h.0 (omega (arith, c.loop-v-test.false))
+
+pub returns-then-d-c-clause-row_noted : goal.returns-then-d-c-clause-row_noted
+returns-then-d-c-clause-row_noted c =
+    let h = c.loop-v.invariant in noted_before h.4 h.0 _ c.wide-d.ensures c.if-d-c.true
+
+pub returns-then-d-c-2-clause-row_noted : goal.returns-then-d-c-2-clause-row_noted
+returns-then-d-c-2-clause-row_noted c =
+    let b = c.wide-d in
+    let h = c.loop-v.invariant in noted_behind h.4 h.0 _ b.ensures (omega (arith, c.if-d-c-2.true, c.if-d-c.false))

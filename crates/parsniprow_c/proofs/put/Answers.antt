@@ -18,3 +18,15 @@ loop-i-preserved c =
     let h = l.invariant in
     let s = c.args in
     (omega arith, omega arith, simp length-set h.2, put_more s.values.now s.place.now l.place l.i _ _ h.3 refl (omega arith) (omega arith))
+
+pub returns : goal.returns
+returns c =
+    let h = c.loop-i.invariant in
+    let s = c.args in
+    put_all s.values.now s.place.now c.loop-i.place c.loop-i.i h.3 (omega arith) h.1
+
+pub returns-then-i-place : goal.returns-then-i-place
+returns-then-i-place c =
+    let h = c.loop-i.invariant in
+    let s = c.args in
+    put_full s.values.now s.place.now c.loop-i.place c.loop-i.i h.3 (omega arith)

@@ -28,3 +28,8 @@ write_rows-requires c =
 
 pub returns : goal.returns
 returns c = grown_passed c.requires c.count_rows-t.ensures c.args.words.now c.args.offsets.now c.args.quads.now c.total-counts.result c.total-counts.ensures (sym c.check_buffers-fits.ensures ∙ c.in_default.is) _ _ _ _ _ c.write_rows.ensures c.keep_plane.ensures
+
+pub old_signs-requires : goal.old_signs-requires
+old_signs-requires c =
+    let f = signs_fit c.requires _ _ c.nx-nx.ensures c.ny-ny.ensures in
+    (f.0, f.1, f.2, refl)

@@ -24,3 +24,8 @@ returns-then-n-eq1 c =
     let h = c.loop-i in
     let e : h.i ≡ length c.args.plane.now / 2 = omega (arith, c.loop-i-test.false, h.invariant.0) in
     subst (λ (i : ℕ). set h.work i c.pair-then-n-eq1.result ≡ over (packed c.args.plane.now) c.args.work.now) e (packed_odd c.args.plane.now c.args.work.now h.work h.i _ e c.if-n-eq1.true c.requires c.pair-then-n-eq1.ensures h.invariant.2)
+
+pub returns-else-n-eq1 : goal.returns-else-n-eq1
+returns-else-n-eq1 c =
+    let h = c.loop-i in
+    packed_even c.args.plane.now c.args.work.now h.work h.i (omega (arith, c.loop-i-test.false, h.invariant.0)) c.if-n-eq1.false h.invariant.2

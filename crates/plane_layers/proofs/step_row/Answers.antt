@@ -23,3 +23,6 @@ pub returns : goal.returns
 returns c =
     let long : length c.unpack.new.window ≡ 514 = c.unpack.auto.window ∙ c.requires.0 in
     row_taken c.requires.1 c.requires.2 _ _ c.nx-nx.ensures c.requires.3.row _ long c.unpack.ensures _ c.row_of-row.ensures c.requires.3 c.row_step.ensures
+
+pub unpack-requires : goal.unpack-requires
+unpack-requires c = omega (arith, c.requires.0, words_short c.requires.1 _ _ c.nx-nx.ensures c.requires.3.row)

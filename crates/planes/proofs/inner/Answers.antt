@@ -7,3 +7,6 @@ use Rattle.planes.proofs.inner.Goals as goal
 
 pub returns-then-w-eq0 : goal.returns-then-w-eq0
 returns-then-w-eq0 c = rw (c.limit-v.ensures, c.if-w-eq0.true) (inner_first _)
+
+pub returns : goal.returns
+returns c = c.limit-v.ensures ∙ inner_other _ _ c.if-w-eq0.false

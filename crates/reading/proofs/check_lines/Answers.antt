@@ -1,5 +1,11 @@
 -- `check_lines` meets its contract: all rows before the one in hand are right.
 -- Assumes nothing.
+use Prim.Native.Nat.{ℕ, ◌-◌, ◌≤◌}
+use mathlib.Core.Path.{◌≡◌}
+use borrow.Author.Rules.{rules}
+use Rattle.laws.proofs.Leading.{before_more}
+use Rattle.block.specs.declared.Checked.TheVariants.{Passes}
+use Rattle.reading.proofs.Rows.{row_check, next_row}
 use Prim.Native.Nat.{◌+◌}
 use mathlib.Core.Path.{sym, ◌∙◌}
 use native.Mathlib.Omega.{arith}
@@ -27,3 +33,12 @@ returns c =
     let a = c.args in
     behind_rows a.input.now a.nx a.rows c.loop-j.j _ _ (omega (arith, c.loop-j-test.false, c.loop-j.invariant.0)) c.loop-j.invariant.1 c.loop-j.invariant.2
     (c.refuse.ensures ∙ surplus_refuses a.input.now (a.rows + 2) _ _ c.read_at.ensures.value c.if-read_at-eq-ENDED.false (omega (arith, c.requires.1)))
+
+pub loop-j-preserved : goal.loop-j-preserved
+loop-j-preserved c =
+    let a = c.args in (
+      search rules,
+      next_row a.nx c.loop-j.j _ c.loop-j.invariant.1,
+      before_more (λ (i : ℕ). row_check a.input.now a.nx i ≡ Passes) c.loop-j.j c.loop-j.invariant.2
+          (sym (at_row a.input.now a.nx c.loop-j.j _ _ c.loop-j.invariant.1 c.check_line-row.ensures) ∙ c.in_default.is),
+    )

@@ -26,3 +26,9 @@ pub returns-in-Plain : goal.returns-in-Plain
 returns-in-Plain c =
     let plain-said : let v = c.in-Plain.v in (v ≡ length (row_masks loops_of (greys_of c.args.low.now) (greys_of c.args.high.now) c.args.row.cut c.args.row.nx)) × (v ≤ 1020) = plain_few c.args.low.now c.args.high.now c.requires.2 c.in-Plain.v (sym c.plain_row-loops.ensures ∙ c.in-Plain.is) in
     subst (λ (v : ℕ). MarksBy v c.args.row c.args.a.now c.args.b.now c.args.m c.with_quads.result) plain-said.0 c.with_quads.ensures
+
+pub returns : goal.returns
+returns c =
+    let low_is : take (length c.args.low.now - 0) (drop 0 c.window-lo.result) ≡ greys_of c.args.low.now = window_lent _ c.window-lo.ensures refl in
+    let high_is : take (length c.args.low.now - 0) (drop 0 c.window-hi.result) ≡ greys_of c.args.high.now = window_lent _ c.window-hi.ensures (low_long c.args.low.now c.args.high.now c.requires.2 ∙ sym (high_long c.args.low.now c.args.high.now c.requires.2)) in
+    windows_as (λ lo hi. RowCounted loops_of lo hi c.args.row c.args.a.now c.args.b.now c.args.m c.active_counts.result) (sym low_is) (sym high_is) c.active_counts.ensures

@@ -1,5 +1,7 @@
 -- `check_readings` meets its contract. The loop's invariant: none of the first p readings is at fault. The measure is what is left of the readings.
 -- Assumes nothing.
+use Prim.Native.Nat.{◌-◌}
+use Rattle.readings.proofs.Rows.{sound_none}
 use mathlib.Core.Path.{sym}
 use native.Mathlib.Omega.{arith}
 use Rattle.readings.proofs.Rows.{row_passes, sound_run, sound_all}
@@ -13,3 +15,6 @@ loop-p-preserved c =
 pub returns : goal.returns
 returns c =
     let l = c.loop-p in let xs = c.args.readings.now in sym (row_passes xs (sound_all xs l.p (omega (arith, c.loop-p-test.false)) l.invariant))
+
+pub loop-p-init : goal.loop-p-init
+loop-p-init c = sound_none c.args.readings.now

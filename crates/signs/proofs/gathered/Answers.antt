@@ -29,3 +29,8 @@ returns c =
     let e : h.k ≡ 8 = omega (arith, c.loop-k-test.false, h.invariant.0) in
     c.transposed.ensures
     ∙ spread_exchanged c.args.bytes.now c.requires.2 c.args.w h.y (h.invariant.1 ∙ ap (λ (k : ℕ). pack (spread_at c.args.bytes.now c.args.w k) 64) e)
+
+pub eight_of-requires : goal.eight_of-requires
+eight_of-requires c =
+    let inside : let a = c.args in 64 * a.w + 8 * c.loop-k.k + 8 ≤ length a.bytes.now = omega (arith, c.requires.0, c.requires.1, c.loop-k-test.true) in
+    part_long _ _ inside

@@ -33,3 +33,11 @@ returns c =
     h.invariant.2
     ∙ ap (λ (ws : List ℕ). over ws c.args.plane.now)
     (plane_made c.args.size c.args.samples.now c.args.cut c.args.k _ _ (5 * h.j) c.nx-nx.ensures c.ny-ny.ensures (omega (arith, c.loop-j-test.false, h.invariant.0)))
+
+pub row_signs-requires : goal.row_signs-requires
+row_signs-requires c =
+    let inside : let nx = c.nx-nx.result in let a = c.args in nx * (c.loop-j.j + c.ny-ny.result * a.k) + nx ≤ length a.samples.now = omega (arith, c.requires.1, rows_room c.args.size _ _ c.args.k c.nx-nx.ensures c.ny-ny.ensures c.requires.2 c.loop-j.j c.loop-j-test.true) in
+    let few : (c.ny-ny.result * c.args.k ≤ 65536) × (c.ny-ny.result ≤ 256) = (rows_small c.args.size _ c.args.k c.ny-ny.ensures c.requires.0 c.requires.2, omega (arith, c.ny-ny.ensures, c.requires.0.y_high)) in (
+      row_short c.args.samples.now c.args.cut c.nx-nx.result c.ny-ny.result c.loop-j.j c.args.k inside (omega (arith, c.nx-nx.ensures, c.requires.0.x_high)),
+      omega (arith, few, c.loop-j-test.true, c.loop-j.invariant.1),
+    )

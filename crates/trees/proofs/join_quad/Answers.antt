@@ -1,5 +1,7 @@
 -- `join_quad` meets its contract: the way of the first vertex is known at each join.
 -- Assumes nothing.
+use mathlib.Core.Path.{◌∙◌}
+use Rattle.trees.proofs.Joins.{quad_is}
 use lib.ListN.{length}
 use Rattle.trees.specs.Steps.{Follows}
 use Rattle.trees.proofs.Joins.{ready_on}
@@ -22,3 +24,11 @@ join-c-requires c =
     let a = ready_on c.args.up.now c.args.size.now _ _ c.args.v0 _ _ _ _ _ _ _ c.requires.1 c.requires.4 f c.join-a.ensures in
     let b = ready_on _ _ _ _ c.args.v0 _ _ _ _ _ _ _ (rw a.0 c.requires.2) a.1 a.2 c.join-b.ensures in
     (rw (b.0, a.0) c.requires.3, b.1, record { from = c.args.v0; way = b.2 })
+
+pub returns : goal.returns
+returns c =
+    let way-found : let a = c.args in Follows (length a.up.now) a.up.now a.v0 c.search-way.result.top c.search-way.result.links = record { inside = c.requires.0; finds = c.search-way.ensures.top_value; follows = c.search-way.ensures.links_value.0 } in
+    let f = way-found in
+    let a = ready_on c.args.up.now c.args.size.now _ _ c.args.v0 _ _ _ _ _ _ _ c.requires.1 c.requires.4 f c.join-a.ensures in
+    let b = ready_on _ _ _ _ c.args.v0 _ _ _ _ _ _ _ (rw a.0 c.requires.2) a.1 a.2 c.join-b.ensures in
+    quad_is _ _ _ _ _ _ _ _ _ _ _ a.3 a.0 b.3 (b.0 ∙ a.0) (c.join-c.ensures c.args.v0 b.2).0

@@ -1,0 +1,21 @@
+-- `cube::product` meets its contract: the product of two i32 fits an i64.
+-- Assumes nothing.
+use mathlib.Core.Path.{◌∙◌}
+use native.Mathlib.Omega.{arith}
+use lib.IntN.{◌*ℤ◌}
+use Rattle.laws.proofs.Signed.{small32, product_fits}
+use Rattle.laws.proofs.Signed.{wide32}
+use mathlib.Core.Path.{ap₂}
+use lib.IntN.{ℤ}
+use mir.Facts.{to_z-of_z}
+use Rattle.laws.proofs.Signed.{read32}
+use Rattle.cube.proofs.product.Goals as goal
+
+pub overflow_mul-result : goal.overflow_mul-result
+overflow_mul-result c = product_fits (omega arith) (small32 c.ranges.x) (small32 c.ranges.y)
+
+pub overflow_cast-result : goal.overflow_cast-result
+overflow_cast-result c = wide32 c.ranges.x
+
+pub returns : goal.returns
+returns c = to_z-of_z (mul-result c) ∙ ap₂ (λ (x y : ℤ). x *ℤ y) (read32 c.ranges.x) (read32 c.ranges.y)
