@@ -14,7 +14,7 @@ use lib.Signed.{le_z, mag}
 use borrow.Author.Tests.{eqb-true, leb-true, le-leb, lt-leb}
 use Rattle.laws.specs.Bits.{holds}
 use Rattle.laws.proofs.Bits.{bit_le}
-use Rattle.block.specs.Grey.{cut_of, positive}
+use Rattle.block.specs.Grey.{cut_of}
 use Rattle.cube_rule.specs.Edges.{corner_sample, pattern_of, crossed_mask}
 use Rattle.cube_rule.specs.Faces.{ring_corner}
 use Rattle.cube_rule.specs.Decider.{difference_of, joined, noiseless, loops_of}

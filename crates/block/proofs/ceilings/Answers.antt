@@ -1,10 +1,6 @@
 -- `ceilings` meets its promise: no sample before the lowest is at the ceiling, so the count may begin there.
 -- Assumes nothing.
-use mathlib.Core.Path.{ap, ap₂, sym, ◌∙◌, subst}
-use Prim.Native.Nat.{ℕ}
-use borrow.Author.Rules.{rules}
-use Rattle.block.specs.declared.CeilingCount.{CeilingCount}
-use Rattle.block.specs.Answer.{given}
+use mathlib.Core.Path.{sym, subst}
 use Rattle.block.specs.Grey.{is_ceiling}
 use Rattle.block.specs.Steps.{ClearBefore}
 use Rattle.block.proofs.Lowest.{lowest_le, lowest_before}

@@ -1,12 +1,9 @@
 -- `ceilings_in_run` meets its contract. The loop's invariant: n counts the first i samples. The measure is what is left of the 256.
 -- Assumes nothing.
-use Prim.Native.Nat.{ℕ, ◌+◌, ◌-◌, ◌≤◌}
-use mathlib.Core.Path.{◌≡◌, sym, ap, ap₂, ◌∙◌}
+use Prim.Native.Nat.{ℕ, ◌+◌}
+use mathlib.Core.Path.{sym, ap₂, ◌∙◌}
 use native.Mathlib.Omega.{arith}
-use lib.ListN.{get_or}
 use borrow.Author.Rules.{rules}
-use Rattle.laws.specs.Counting.{count}
-use Rattle.block.specs.Grey.{is_ceiling}
 use Rattle.laws.proofs.Counting.{count_none, count_next}
 use Rattle.block.proofs.ceilings_in_run.Goals as goal
 

@@ -1,12 +1,8 @@
 -- `clear_before` meets its contract, which is the loop's invariant. The measure is what is left of the samples.
 -- Assumes nothing.
 use Prim.Native.Nat.{◌-◌}
-use mathlib.Core.Path.{sym, ◌∙◌}
-use native.Mathlib.Omega.{arith}
 use lib.ListN.{length}
-use borrow.Author.Rules.{rules}
 use Rattle.block.specs.Steps.{ClearBefore}
-use Rattle.block.proofs.ClearRuns.{clear_more}
 use Rattle.block.proofs.clear_before.Given as goal
 
 abbrev pub invariant-loop-i : goal.invariant-loop-i

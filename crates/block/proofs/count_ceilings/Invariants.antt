@@ -1,11 +1,8 @@
 -- `count_ceilings` meets its contract. The invariant of both loops: n of the samples before i are at the ceiling. The measure is what is left of
 -- the samples. Assumes nothing.
 use Prim.Native.Nat.{◌-◌}
-use native.Mathlib.Omega.{arith}
 use lib.ListN.{length}
-use borrow.Author.Rules.{rules}
 use Rattle.block.specs.Steps.{CountedTo}
-use Rattle.block.proofs.ClearRuns.{counted_none, counted_more, counted_next, counted_all}
 use Rattle.block.proofs.count_ceilings.Given as goal
 
 abbrev pub invariant-loop-i : goal.invariant-loop-i

@@ -1,13 +1,8 @@
 -- `lowest_ceiling` meets its contract. The loop's invariant: no sample before i is at the ceiling. The measure is what is left of the
 -- samples. Assumes nothing.
-use Prim.Native.Nat.{◌-◌}
 use native.Mathlib.Omega.{arith}
-use lib.ListN.{length}
-use borrow.Author.Count.{below_more}
-use borrow.Author.Rules.{rules}
-use borrow.Author.Tests.{eq-eqb, ne_eqb}
+use borrow.Author.Tests.{eq-eqb}
 use Rattle.block.specs.Grey.{is_ceiling}
-use Rattle.block.specs.Steps.{ClearBefore}
 use Rattle.block.proofs.Lowest.{lowest_is}
 use Rattle.block.proofs.lowest_ceiling.Goals as goal
 

@@ -1,15 +1,7 @@
 -- `mark` meets its contract. The loop's invariant: no corner before i is at the ceiling. The measure is what is left of the eight.
 -- Assumes nothing.
-use Prim.Native.Nat.{ℕ, ◌-◌, ◌≤◌, ◌<◌}
-use mathlib.Core.Path.{◌≡◌}
-use mathlib.Core.Bool.{false}
 use native.Mathlib.Omega.{arith}
-use lib.ListN.{get_or}
-use borrow.Author.Count.{below_more}
-use borrow.Author.Rules.{rules}
-use borrow.Author.Tests.{ne_eqb}
-use Rattle.block.specs.Grey.{is_ceiling}
-use Rattle.cell.proofs.Words.{marked_some, marked_none}
+use Rattle.cell.proofs.Words.{marked_none}
 use Rattle.cell.proofs.mark.Goals as goal
 
 pub returns-clause-value : goal.returns-clause-value

@@ -3,13 +3,8 @@
 use Prim.Native.Nat.{ℕ, ◌-◌, ◌≤◌, ◌<◌}
 use mathlib.Core.Path.{◌≡◌}
 use mathlib.Core.Bool.{false}
-use native.Mathlib.Omega.{arith}
 use lib.ListN.{get_or}
-use borrow.Author.Count.{below_more}
-use borrow.Author.Rules.{rules}
-use borrow.Author.Tests.{ne_eqb}
 use Rattle.block.specs.Grey.{is_ceiling}
-use Rattle.cell.proofs.Words.{marked_some, marked_none}
 use Rattle.cell.proofs.mark.Given as goal
 
 abbrev pub invariant-loop-i : goal.invariant-loop-i

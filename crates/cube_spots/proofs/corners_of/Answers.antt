@@ -1,6 +1,4 @@
 use mathlib.Core.Path.{◌∙◌}
-use native.Mathlib.Omega.{arith}
-use borrow.Author.Rules.{rules}
 use Rattle.cube_spots.proofs.Inside.{plane_small, last_inside, corners_from}
 use Rattle.cube_spots.proofs.corners_of.Goals as goal
 

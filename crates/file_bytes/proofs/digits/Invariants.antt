@@ -1,12 +1,9 @@
 -- `digits` meets its contract: the digits cut off, and those of what is left.
 -- Assumes nothing.
-use borrow.Author.Rules.{rules}
 use Prim.Native.Nat.{◌+◌}
 use mathlib.Core.Path.{◌≡◌}
-use native.Mathlib.Omega.{arith}
 use lib.ListN.{length}
 use Rattle.file_bytes.specs.Bytes.{decimal}
-use Rattle.file_bytes.proofs.Decimal.{length_small, length_large, length_some, length_twenty}
 use Rattle.file_bytes.proofs.digits.Given as goal
 
 abbrev pub invariant-loop-left : goal.invariant-loop-left

@@ -1,11 +1,8 @@
 -- `put_decimal` meets its contract: the digits behind those that are left are put.
 -- Assumes nothing.
-use borrow.Author.Rules.{rules}
-use Prim.Native.Nat.{◌-◌}
-use mathlib.Core.Path.{◌≡◌, refl}
 use native.Mathlib.Omega.{arith}
-use lib.ListN.{length, length-set}
-use Rattle.file_bytes.proofs.Writing.{PutDown, down_start, down_more, down_end, down_inside}
+use lib.ListN.{length-set}
+use Rattle.file_bytes.proofs.Writing.{down_more}
 use Rattle.file_bytes.proofs.put_decimal.Goals as goal
 
 pub loop-next-preserved : goal.loop-next-preserved

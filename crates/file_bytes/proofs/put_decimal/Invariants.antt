@@ -1,11 +1,9 @@
 -- `put_decimal` meets its contract: the digits behind those that are left are put.
 -- Assumes nothing.
-use borrow.Author.Rules.{rules}
 use Prim.Native.Nat.{◌-◌}
-use mathlib.Core.Path.{◌≡◌, refl}
-use native.Mathlib.Omega.{arith}
-use lib.ListN.{length, length-set}
-use Rattle.file_bytes.proofs.Writing.{PutDown, down_start, down_more, down_end, down_inside}
+use mathlib.Core.Path.{◌≡◌}
+use lib.ListN.{length}
+use Rattle.file_bytes.proofs.Writing.{PutDown}
 use Rattle.file_bytes.proofs.put_decimal.Given as goal
 
 abbrev pub invariant-loop-next : goal.invariant-loop-next

@@ -1,8 +1,6 @@
 -- `put_eight` meets its contract: the lower four bytes, then the upper four.
 -- Assumes nothing.
-use native.Mathlib.Omega.{arith}
 use Rattle.file_bytes.proofs.Writing.{eight_put}
-use borrow.Author.Rules.{rules}
 use Rattle.file_bytes.proofs.put_eight.Goals as goal
 
 pub returns-clause-put : goal.returns-clause-put

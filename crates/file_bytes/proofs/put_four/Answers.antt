@@ -1,8 +1,6 @@
 -- `put_four` meets its contract: four bytes one behind the other.
 -- Assumes nothing.
 use native.Mathlib.Omega.{arith}
-use mathlib.Core.Path.{refl}
-use lib.ListN.{length-set}
 use Rattle.file_bytes.proofs.Writing.{four_put}
 use borrow.Author.Rules.{rules}
 use Rattle.file_bytes.proofs.put_four.Goals as goal

@@ -1,6 +1,5 @@
 -- `put_one` meets its contract.
 -- Assumes nothing.
-use mathlib.Core.Path.{refl}
 use Rattle.file_bytes.proofs.Writing.{one_put}
 use borrow.Author.Rules.{rules}
 use Rattle.file_bytes.proofs.put_one.Goals as goal

@@ -1,12 +1,8 @@
 -- `put_text` meets its contract: the first i bytes are copied.
 -- Assumes nothing.
-use borrow.Author.Rules.{rules}
-use Prim.Native.Nat.{◌-◌, ◌≤◌}
-use mathlib.Core.Path.{◌≡◌, refl}
 use native.Mathlib.Omega.{arith}
-use lib.ListN.{length, take, length-set}
-use lib.Seq.{sets}
-use Rattle.file_bytes.proofs.Writing.{copy_more, copy_all}
+use lib.ListN.{length-set}
+use Rattle.file_bytes.proofs.Writing.{copy_more}
 use Rattle.file_bytes.proofs.put_text.Goals as goal
 
 pub loop-i-preserved : goal.loop-i-preserved

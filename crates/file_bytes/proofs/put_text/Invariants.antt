@@ -1,12 +1,9 @@
 -- `put_text` meets its contract: the first i bytes are copied.
 -- Assumes nothing.
-use borrow.Author.Rules.{rules}
 use Prim.Native.Nat.{◌-◌, ◌≤◌}
-use mathlib.Core.Path.{◌≡◌, refl}
-use native.Mathlib.Omega.{arith}
-use lib.ListN.{length, take, length-set}
+use mathlib.Core.Path.{◌≡◌}
+use lib.ListN.{length, take}
 use lib.Seq.{sets}
-use Rattle.file_bytes.proofs.Writing.{copy_more, copy_all}
 use Rattle.file_bytes.proofs.put_text.Given as goal
 
 abbrev pub invariant-loop-i : goal.invariant-loop-i

@@ -1,14 +1,9 @@
 -- `check_numbers` meets its promise: the quads before the one in hand are in order.
 -- Assumes nothing.
 use Prim.Native.Nat.{◌-◌, ◌/◌, ◌≤◌}
-use mathlib.Core.Path.{sym, ◌∙◌}
-use native.Mathlib.Omega.{arith}
-use borrow.Author.Rules.{rules}
-use borrow.Author.Tests.{not-true, not-false}
 use lib.ListN.{length}
-use Rattle.laws.proofs.Leading.{HoldsTo, holds_to_none, holds_more}
+use Rattle.laws.proofs.Leading.{HoldsTo}
 use Rattle.lists.specs.Rows.{quad_below}
-use Rattle.block.proofs.Searches.{search_passes, search_fails}
 use Rattle.lists.proofs.check_numbers.Given as goal
 
 abbrev pub invariant-loop-q : goal.invariant-loop-q

@@ -1,14 +1,12 @@
 -- `note_row` meets its contract. The loop's invariant: whatever row stands there, its cubes whose first vertex is before v are noted;
 -- and whatever stands there, the vertices before v are noted one by one. The measure is what is left of the part.
 -- Assumes nothing.
-use Prim.Native.Nat.{ℕ, ◌+◌, ◌*◌, ◌-◌, ◌≤◌}
-use mathlib.Core.Path.{◌≡◌, refl, ◌∙◌}
+use Prim.Native.Nat.{◌+◌, ◌*◌, ◌-◌}
+use mathlib.Core.Path.{refl, ◌∙◌}
 use mathlib.Core.Logic.{inr}
-use mathlib.Core.List.{List, [], ◌∷◌}
-use lib.ListN.{length}
-use Rattle.notes.specs.Tables.{which_of, is_first, four_for, RowOf}
-use Rattle.notes.proofs.ReadBack.{Passed, kept_length, passed_none, passed_end, in_part, not_before, passed_more, NotedTo, noted_none, noted_all, noted_before, noted_behind, noted_more}
-use borrow.Author.Rules.{rules}
+use mathlib.Core.List.{[], ◌∷◌}
+use Rattle.notes.specs.Tables.{which_of, is_first, four_for}
+use Rattle.notes.proofs.ReadBack.{kept_length, passed_none, passed_end, in_part, not_before, passed_more, noted_none, noted_more}
 use native.Mathlib.Omega.{arith}
 use Rattle.notes.proofs.note_row.Goals as goal
 

@@ -1,6 +1,5 @@
 -- `which_of` meets its contract.
 -- Assumes nothing.
-use borrow.Author.Rules.{rules}
 use mathlib.Core.Path.{refl}
 use Rattle.notes.specs.Tables.{which_of}
 use Rattle.notes.proofs.which_of.Goals as goal

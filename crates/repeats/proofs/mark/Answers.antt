@@ -1,4 +1,3 @@
-use mathlib.Core.Path.{refl}
 use borrow.Author.Rules.{rules}
 use Rattle.repeats.proofs.Marks.{marked}
 use Rattle.repeats.proofs.mark.Goals as goal

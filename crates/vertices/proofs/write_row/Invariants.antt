@@ -1,14 +1,9 @@
 -- `write_row` meets its contract. The loop's invariant: the vertices of the cubes of the words before w are stored and noted. The measure is
 -- what is left of four words.
 -- Assumes nothing.
-use Prim.Native.Nat.{◌-◌, ◌≤◌, ◌<◌}
-use Rattle.cube_rule.specs.Decider.{joined, loops_of}
-use Rattle.cube_rule.proofs.Laws.{cube_laws}
-use Rattle.vertices.proofs.Rows.{RowPart, row_start, row_next, row_end, row_room}
-use Rattle.rows.proofs.WordSteps.{WordTold, told_ready}
-use Rattle.cube_vertices.proofs.Stored.{stored_words, stored_offsets}
-use borrow.Author.Rules.{rules}
-use native.Mathlib.Omega.{arith}
+use Prim.Native.Nat.{◌-◌, ◌≤◌}
+use Rattle.cube_rule.specs.Decider.{loops_of}
+use Rattle.vertices.proofs.Rows.{RowPart}
 use Rattle.vertices.proofs.write_row.Given as goal
 
 abbrev pub invariant-loop-w : goal.invariant-loop-w
