@@ -25,8 +25,8 @@ first_again-requires-clause-all_placed c =
     let sound = looks_sound c.args.size c.args.samples.now c.args.cut c.args.words.now c.args.offsets.now in
     let fresh = fresh (vertex_key c.args.words.now c.args.size c.args.samples.now c.args.cut) in
     λ v l.
-        (and_both (placed c.args.size c.args.samples.now c.args.cut c.args.words.now v) (offset_inside c.args.offsets.now v)
-        (looked_so sound fresh (vertex_total c.args.words.now) seen.result.at seen.ensures.at_value v l)).0
+    (and_both (placed c.args.size c.args.samples.now c.args.cut c.args.words.now v) (offset_inside c.args.offsets.now v)
+    (looked_so sound fresh (vertex_total c.args.words.now) seen.result.at seen.ensures.at_value v l)).0
 
 pub returns : goal.returns
 returns c =

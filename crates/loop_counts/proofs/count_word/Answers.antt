@@ -31,8 +31,7 @@ pub loop-w-init : goal.loop-w-init
 unfolding below
 loop-w-init c =
     let left : ℕ = bit_xor c.args.act (bit_and c.sorted-sorts.result.one c.args.act) in
-    let left_lt : left < 2 ^ 64 = rest_lt _ c.sorted-sorts.result.one c.ranges.act.fits in
-    (
+    let left_lt : left < 2 ^ 64 = rest_lt _ c.sorted-sorts.result.one c.ranges.act.fits in (
       visit_start _ (rest_lt left c.sorted-sorts.result.two left_lt),
       omega (arith, c.ones_of-3.ensures.value, c.ones_of-2.ensures.value),
       omega (arith, c.ones_of-3.ensures.upper_bound, c.ones_of-2.ensures.upper_bound),

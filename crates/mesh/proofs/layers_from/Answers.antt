@@ -11,8 +11,7 @@ use Rattle.mesh.proofs.layers_from.Goals as goal
 
 pub loop-k-init : goal.loop-k-init
 loop-k-init c =
-    let block : List ℕ = block_of c.args.source c.args.samples.now c.args.readings.now in
-    (
+    let block : List ℕ = block_of c.args.source c.args.samples.now c.args.readings.now in (
       c.requires.2,
       plane_of_lem c.args.size block c.args.cut c.args.from _ _ c.requires.0.limits refl c.signs_of.ensures,
       refl,
@@ -22,8 +21,7 @@ loop-k-init c =
 pub with_layer-w-requires : goal.with_layer-w-requires
 with_layer-w-requires c =
     let block : List ℕ = block_of c.args.source c.args.samples.now c.args.readings.now in
-    let upper_of : Plane c.args.size (block) c.args.cut (c.loop-k.k + 1) c.signs_of-in-loop-k.new.plane = plane_of_lem c.args.size (block) c.args.cut (c.loop-k.k + 1) _ _ c.requires.0.limits c.loop-k.invariant.2 c.signs_of-in-loop-k.ensures in
-    (
+    let upper_of : Plane c.args.size (block) c.args.cut (c.loop-k.k + 1) c.signs_of-in-loop-k.new.plane = plane_of_lem c.args.size (block) c.args.cut (c.loop-k.k + 1) _ _ c.requires.0.limits c.loop-k.invariant.2 c.signs_of-in-loop-k.ensures in (
       record {
         limits = c.requires.0.limits;
         samples = c.requires.0.samples;

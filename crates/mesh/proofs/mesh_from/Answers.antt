@@ -32,8 +32,7 @@ returns-in-Refuses c =
 pub write_block-requires : goal.write_block-requires
 write_block-requires c =
     let block : List ℕ = block_of c.args.source c.args.samples.now c.args.readings.now in
-    let counts_are : c.total-counts.result ≡ counts_of c.args.size (block) c.args.cut = c.total-counts.ensures ∙ tallied_counts c.args.size (block) c.args.cut c.tally_block-t.result c.tally_block-t.ensures in
-    (
+    let counts_are : c.total-counts.result ≡ counts_of c.args.size (block) c.args.cut = c.total-counts.ensures ∙ tallied_counts c.args.size (block) c.args.cut c.tally_block-t.result c.tally_block-t.ensures in (
       c.requires.0,
       c.tally_block-t.ensures,
       roomy_of c.args.size block c.args.cut c.args.words.now c.args.offsets.now c.args.quads.now c.total-counts.result counts_are
