@@ -1,11 +1,9 @@
 -- `count_samples` meets its contract: the row's windows are lent, and what is counted is what the block has there.
 -- Assumes nothing.
-use Prim.Native.Nat.{◌+◌, ◌*◌, ◌-◌, ◌≤◌, ◌<◌}
-use native.Mathlib.Omega.{arith}
-use borrow.Author.Rules.{rules}
+use Prim.Native.Nat.{◌+◌, ◌*◌, ◌-◌, ◌≤◌}
 use lib.ListN.{length}
 use Rattle.vertices.proofs.CubeCorners.{Windows}
-use Rattle.vertices.proofs.Layers.{row_bounds, low_fits, high_fits, lent_low, lent_high, lent_windows}
+use Rattle.vertices.proofs.Layers.{low_fits, high_fits, lent_low, lent_high, lent_windows}
 use Rattle.mesh.proofs.RowSteps.{counts_ready, counts_next}
 use Rattle.mesh.proofs.count_samples.Goals as goal
 

@@ -6,7 +6,6 @@ use Rattle.block.specs.Block.{block_rows}
 use Rattle.block.proofs.Blocks.{axis_judged, made_judged}
 use Rattle.block.proofs.Sizes.{size_made}
 use Rattle.mesh.specs.Answer.{counts_of, said_counts}
-use borrow.Author.Rules.{rules}
 use Rattle.mesh.proofs.counts.Goals as goal
 
 pub counts_of-requires : goal.counts_of-requires
@@ -14,10 +13,10 @@ counts_of-requires c = (size_made c.args.nx c.args.ny c.args.nz _ (subst (SizeMa
 
 pub returns-in-BadAxis : goal.returns-in-BadAxis
 returns-in-BadAxis c =
-    axis_judged c.args.nx c.args.ny c.args.nz (λ c. block_rows c c.args.samples.now c.args.cut) _ _
+    axis_judged c.args.nx c.args.ny c.args.nz (λ n. block_rows n c.args.samples.now c.args.cut) _ _
     (subst (SizeMade c.args.nx c.args.ny c.args.nz) c.in-BadAxis.is c.new-made.ensures)
 
 pub returns-in-Made : goal.returns-in-Made
 returns-in-Made c =
-    made_judged c.args.nx c.args.ny c.args.nz (λ c. block_rows c c.args.samples.now c.args.cut) (λ c. counts_of c c.args.samples.now c.args.cut) _ (said_counts c.counts_of.result)
+    made_judged c.args.nx c.args.ny c.args.nz (λ n. block_rows n c.args.samples.now c.args.cut) (λ n. counts_of n c.args.samples.now c.args.cut) _ (said_counts c.counts_of.result)
     (subst (SizeMade c.args.nx c.args.ny c.args.nz) c.in-Made.is c.new-made.ensures) c.counts_of.ensures

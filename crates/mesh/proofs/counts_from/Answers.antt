@@ -3,7 +3,6 @@
 use Prim.Native.Nat.{ℕ}
 use mathlib.Core.Path.{◌∙◌}
 use mathlib.Core.List.{List}
-use borrow.Author.Rules.{rules}
 use Rattle.mesh.specs.Source.{block_of}
 use Rattle.mesh.proofs.Tallies.{tallied_few, tallied_counts}
 use Rattle.mesh.proofs.counts_from.Goals as goal

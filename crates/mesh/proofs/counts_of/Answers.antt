@@ -1,4 +1,4 @@
--- `counts_of_lem` meets its contract: a refusal of rows 2 and 3, or the counts.
+-- `counts_of` meets its contract: a refusal of rows 2 and 3, or the counts.
 -- Assumes nothing.
 use mathlib.Core.Path.{◌≡◌, sym, ◌∙◌}
 use Rattle.block.specs.declared.Checked.TheVariants.{Passes}
@@ -7,7 +7,6 @@ use Rattle.block.specs.Block.{block_rows}
 use Rattle.block.proofs.Order.{judged_refused, judged_passed}
 use Rattle.block.proofs.Blocks.{sampled_of}
 use Rattle.mesh.proofs.Sources.{not_readings}
-use borrow.Author.Rules.{rules}
 use Rattle.mesh.proofs.counts_of.Goals as goal
 
 pub returns-in-Refuses : goal.returns-in-Refuses

@@ -5,7 +5,6 @@ use Rattle.block.specs.Block.{block_rows}
 use Rattle.block.specs.Size.{SizeMade}
 use Rattle.block.proofs.Sizes.{size_made}
 use Rattle.mesh.proofs.Verdicts.{mesh_bad_axis, mesh_made}
-use borrow.Author.Rules.{rules}
 use Rattle.mesh.proofs.mesh.Goals as goal
 
 pub mesh_of-requires : goal.mesh_of-requires
@@ -13,7 +12,7 @@ mesh_of-requires c = (size_made c.args.nx c.args.ny c.args.nz _ (subst (SizeMade
 
 pub returns-in-BadAxis : goal.returns-in-BadAxis
 returns-in-BadAxis c =
-    mesh_bad_axis c.args.nx c.args.ny c.args.nz (λ c. block_rows c c.args.samples.now c.args.cut) c.args.samples.now c.args.cut c.args.words.now c.args.offsets.now c.args.quads.now _
+    mesh_bad_axis c.args.nx c.args.ny c.args.nz (λ n. block_rows n c.args.samples.now c.args.cut) c.args.samples.now c.args.cut c.args.words.now c.args.offsets.now c.args.quads.now _
     (subst (SizeMade c.args.nx c.args.ny c.args.nz) c.in-BadAxis.is c.new-made.ensures)
 
 pub returns-in-Made : goal.returns-in-Made

@@ -4,7 +4,6 @@ use Prim.Native.Nat.{ℕ}
 use mathlib.Core.Path.{◌≡◌, ap, sym, ◌∙◌}
 use mathlib.Core.List.{List}
 use native.Mathlib.Omega.{arith}
-use borrow.Author.Rules.{rules}
 use Rattle.mesh.specs.declared.Totals.{Totals}
 use Rattle.mesh.specs.Answer.{counts_of}
 use Rattle.mesh.specs.Source.{block_of}
@@ -28,7 +27,7 @@ returns-in-Refuses c =
     let block : List ℕ = block_of c.args.source c.args.samples.now c.args.readings.now in
     let counts_are : c.total-counts.result ≡ counts_of c.args.size (block) c.args.cut = c.total-counts.ensures ∙ tallied_counts c.args.size (block) c.args.cut c.tally_block-t.result c.tally_block-t.ensures in
     late_refused c.args.size block c.args.cut c.args.words.now c.args.offsets.now c.args.quads.now c.total-counts.result counts_are _
-    (sym c.check_buffers-fits.ensures ∙ c.fits2.given.1)
+    (sym c.check_buffers-fits.ensures ∙ c.in-Refuses.is)
 
 pub write_block-requires : goal.write_block-requires
 write_block-requires c =

@@ -3,7 +3,6 @@
 use Prim.Native.Nat.{ℕ, ◌-◌}
 use mathlib.Core.List.{List}
 use native.Mathlib.Omega.{arith}
-use borrow.Author.Rules.{rules}
 use Rattle.mesh.specs.Source.{block_of}
 use Rattle.mesh.proofs.Tallies.{marked_start, marked_all}
 use Rattle.mesh.proofs.tally_block.Goals as goal
