@@ -19,7 +19,7 @@ use Rattle.mesh_rule.proofs.StandIn.{demand3, demand3_alike}
 use Rattle.mesh_rule.proofs.Words.{words_at_lem}
 use Rattle.mesh_rule.proofs.Quads.{flat_length}
 use Rattle.demands.specs.Answers.{MeshCall, SameMesh}
-use Rattle.demands.proofs.TheMesh.{mesh_given, quads_are, word_at, number_at}
+use Rattle.demands.proofs.TheMesh.{mesh_given, quads_are, word_at, number_at_lem}
 
 -- ---- the two sentences of demand 3
 
@@ -53,7 +53,7 @@ module _ {nx ny nz : ℕ} {s : List ℕ} {cut : Cut} (three : AtLeastThree (size
       ))
       (λ k h.
       let l : k < 4 * a.counts.quads = omega (arith, h, flat_length (quads loops_of size s cut), quads_are a) in
-      sym (number_at a k l) ∙ same.numbers k l ∙ number_at b k (omega (arith, same.quads))))
+      sym (number_at_lem a k l) ∙ same.numbers k l ∙ number_at_lem b k (omega (arith, same.quads))))
       (omega (arith, some, quads_are a))
     where
       -- the cube of vertex v stands at place 2v of the words

@@ -25,6 +25,6 @@ returns c =
 pub row_quads-requires : goal.row_quads-requires
 row_quads-requires c =
     let tab : List ℕ = c.args.here.now in
-    let noted : List ℕ = c.write_row-v.new.1.1.1.1.1.1.1.0 in
+    let noted : List ℕ = c.write_row-v.new.numbers in
     let long : length (noted) ≡ 512 = c.write_row-v.ensures.noted.long ∙ lent_long c.args.row.j (tab) c.requires.3 in
     (ready_as c.write_row-v.result c.requires.2, put_long c.args.row.j tab noted c.requires.3 long)
