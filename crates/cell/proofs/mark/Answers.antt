@@ -1,5 +1,6 @@
 -- `mark` meets its contract. The loop's invariant: no corner before i is at the ceiling. The measure is what is left of the eight.
 -- Assumes nothing.
+use Rattle.cell.proofs.Words.{marked_some}
 use native.Mathlib.Omega.{arith}
 use Rattle.cell.proofs.Words.{marked_none}
 use Rattle.cell.proofs.mark.Goals as goal

@@ -5,8 +5,8 @@ use Rattle.laws.specs.Bits.{differ}
 use Rattle.block.specs.Grey.{positive}
 use Rattle.cube_rule.specs.Decider.{joined}
 use Rattle.cube.proofs.Faces.{cut_two}
-use mathlib.Core.Logic.{⊎_elim}
 use Rattle.cube.proofs.Faces.{cut_four}
+use Rattle.cube.proofs.face_links.Goals.{then-positive-joined, else-positive-joined}
 use Rattle.cube.proofs.face_links.Goals as goal
 
 pub returns-then-m-face : goal.returns-then-m-face
@@ -17,7 +17,7 @@ returns-then-m-face c =
 pub returns : goal.returns
 returns c =
     let at_first : Bool = differ (positive c.args.cut c.args.p) (joined c.args.cut c.args.p c.args.q c.args.r c.args.s) in
-    cut_four c.args.face _ _ at_first c.if-m-face.false (⊎_elim
-    (λ w. rw (← c.decide-joined.ensures, w.0.taken) w.1)
-    (λ w. rw (← c.decide-joined.ensures, w.0.left) w.1)
-    c.if-positive-joined.branch)
+    cut_four c.args.face _ _ at_first c.if-m-face.false (elim c.if-positive-joined.branch [
+      then-positive-joined w ↦ rw (← c.decide-joined.ensures, w.if-positive-joined.true) w.first-is
+      | else-positive-joined w ↦ rw (← c.decide-joined.ensures, w.if-positive-joined.false) w.first-is
+    ])

@@ -8,6 +8,7 @@ use Rattle.laws.proofs.Signed.{wide32}
 use mathlib.Core.Path.{ap₂}
 use lib.IntN.{ℤ}
 use mir.Facts.{to_z-of_z}
+use mir.Syntax.{w64}
 use Rattle.laws.proofs.Signed.{read32}
 use Rattle.cube.proofs.product.Goals as goal
 
@@ -18,4 +19,4 @@ pub overflow_cast-result : goal.overflow_cast-result
 overflow_cast-result c = wide32 c.ranges.x
 
 pub returns : goal.returns
-returns c = to_z-of_z (mul-result c) ∙ ap₂ (λ (x y : ℤ). x *ℤ y) (read32 c.ranges.x) (read32 c.ranges.y)
+returns c = to_z-of_z {w = w64} (product_fits (omega arith) (small32 c.ranges.x) (small32 c.ranges.y)) ∙ ap₂ (λ (x y : ℤ). x *ℤ y) (read32 c.ranges.x) (read32 c.ranges.y)

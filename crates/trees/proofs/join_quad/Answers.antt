@@ -27,8 +27,7 @@ join-c-requires c =
 
 pub returns : goal.returns
 returns c =
-    let way-found : let a = c.args in Follows (length a.up.now) a.up.now a.v0 c.search-way.result.top c.search-way.result.links = record { inside = c.requires.0; finds = c.search-way.ensures.top_value; follows = c.search-way.ensures.links_value.0 } in
-    let f = way-found in
+    let f = way_found (goal.at.returns c).After-join-arg-2-1 in
     let a = ready_on c.args.up.now c.args.size.now _ _ c.args.v0 _ _ _ _ _ _ _ c.requires.1 c.requires.4 f c.join-a.ensures in
     let b = ready_on _ _ _ _ c.args.v0 _ _ _ _ _ _ _ (rw a.0 c.requires.2) a.1 a.2 c.join-b.ensures in
     quad_is _ _ _ _ _ _ _ _ _ _ _ a.3 a.0 b.3 (b.0 ∙ a.0) (c.join-c.ensures c.args.v0 b.2).0

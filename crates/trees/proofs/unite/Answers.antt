@@ -14,7 +14,7 @@ pub hang-requires-2 : goal.hang-requires-2
 hang-requires-2 c = hangable c.requires.0 (turned c.requires.1) (λ e. c.if-a-b.false (sym e))
 
 pub returns-then-a-b-clause-value : goal.returns-then-a-b-clause-value
-returns-then-a-b-clause-value c = (unites_one _ _ _ _ c.if-a-b.true).1
+returns-then-a-b-clause-value c = (unites_one c.args.up.now c.args.size.now c.args.a c.args.b c.if-a-b.true).1
 
 pub returns-clause-value : goal.returns-clause-value
 returns-clause-value c =
