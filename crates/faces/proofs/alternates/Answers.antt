@@ -1,6 +1,5 @@
 -- `alternates` meets its contract.
 -- Assumes nothing.
-use borrow.Author.Rules.{rules}
 use Rattle.faces.specs.Faces.{alternates_of}
 use Rattle.faces.proofs.SixWords.{six_words}
 use Rattle.faces.proofs.alternates.Goals as goal

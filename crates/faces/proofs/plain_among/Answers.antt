@@ -1,6 +1,5 @@
 -- `plain_among` meets its contract.
 -- Assumes nothing.
-use borrow.Author.Rules.{rules}
 use Rattle.faces.proofs.PlainCubes.{plain_from}
 use Rattle.faces.proofs.plain_among.Goals as goal
 

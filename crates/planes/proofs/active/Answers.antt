@@ -1,7 +1,6 @@
 -- `active` meets its contract.
 -- Assumes nothing.
 use mathlib.Core.Path.{refl}
-use borrow.Author.Rules.{rules}
 use Rattle.planes.specs.Planes.{active_of}
 use Rattle.planes.proofs.active.Goals as goal
 

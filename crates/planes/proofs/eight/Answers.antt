@@ -1,6 +1,5 @@
 -- `eight` meets its contract.
 -- Assumes nothing.
-use borrow.Author.Rules.{rules}
 use Rattle.planes.specs.Planes.{eight_of}
 use Rattle.planes.proofs.eight.Goals as goal
 

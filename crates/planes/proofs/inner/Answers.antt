@@ -1,8 +1,6 @@
 -- `inner` meets its contract: the places before the last, and in the first word not the first.
 -- Assumes nothing.
-use mathlib.Core.Path.{◌∙◌}
-use borrow.Author.Rules.{rules}
-use Rattle.planes.proofs.Masks.{inner_first, inner_other}
+use Rattle.planes.proofs.Masks.{inner_first}
 use Rattle.planes.proofs.inner.Goals as goal
 
 pub returns-then-w-eq0 : goal.returns-then-w-eq0

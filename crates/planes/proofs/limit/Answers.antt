@@ -2,7 +2,6 @@
 -- Assumes nothing.
 use mathlib.Core.Path.{◌∙◌}
 use native.Mathlib.Omega.{arith}
-use borrow.Author.Rules.{rules}
 use Rattle.laws.proofs.Pack.{ones_shr}
 use Rattle.planes.proofs.Masks.{limit_part}
 use Rattle.planes.proofs.limit.Goals as goal

@@ -1,6 +1,5 @@
 -- `corners` meets its contract: each of the eight samples is in a window.
 -- Assumes nothing.
-use borrow.Author.Rules.{rules}
 use mathlib.Core.Path.{refl}
 use Rattle.signs.specs.Windows.{window_corners}
 use Rattle.rows.proofs.corners.Goals as goal

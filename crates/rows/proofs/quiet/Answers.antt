@@ -1,16 +1,12 @@
 -- `quiet` meets its contract. The loop's invariant: no cube of the words before w is active. The measure is what is left of four words.
 -- Assumes nothing.
-use Prim.Native.Nat.{ℕ, ◌-◌, ◌≤◌, ◌<◌}
-use mathlib.Core.Path.{◌≡◌, sym, ap, ap₂, ◌∙◌, subst}
-use mathlib.Core.Bool.{Bool, true}
-use mathlib.Core.List.{List}
-use lib.Dec.{eqb}
+use Prim.Native.Nat.{◌<◌}
+use mathlib.Core.Path.{◌≡◌, sym, ap, ap₂, ◌∙◌}
 use borrow.Author.Tests.{eq-eqb, ne_eqb}
 use lib.Bits.{bit_and}
 use native.Mathlib.Omega.{arith}
-use borrow.Author.Rules.{rules}
 use Rattle.planes.specs.Planes.{active_of}
-use Rattle.rows.specs.Quiet.{active_in, words_in_row, every}
+use Rattle.rows.specs.Quiet.{active_in, words_in_row}
 use Rattle.rows.proofs.Quiets.{every_start, every_more, every_not}
 use Rattle.rows.proofs.quiet.Goals as goal
 use Rattle.rows.proofs.quiet.Invariants.{none}
