@@ -7,4 +7,4 @@ use Rattle.foundry_quads.proofs.from_base.Goals as goal
 pub returns : goal.returns
 returns c =
     let a = c.args in
-    from_base a.base a.key c.wrapping_sub_u64.result c.requires (search rules) c.wrapping_sub_u64.ensures
+    from_base a.base a.key c.wrapping_sub_u64.result c.requires (search rules) c.wrapping_sub_u64.ensures.value

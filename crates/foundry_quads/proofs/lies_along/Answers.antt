@@ -5,7 +5,6 @@ use Rattle.foundry_quads.specs.Steps.{as_quad}
 use Rattle.foundry_quads.proofs.Parts.{along_face}
 use Rattle.foundry_quads.proofs.Parts.{along_side}
 use Rattle.std.proofs.Common.{sym}
-use borrow.Author.Tests.{not-false}
 use Rattle.laws.proofs.Tests.{and_last}
 use Rattle.foundry_quads.proofs.Parts.{along_by_lem}
 use Rattle.foundry_quads.proofs.lies_along.Goals as goal
@@ -22,4 +21,4 @@ pub returns : goal.returns
 returns c =
     let a = c.args in
     along_by_lem a.words.now a.u a.v a.r a.p a.e0 a.e1 a.e2 a.e3 (as_quad a.four) c.if-u-eq0.false c.if-v-eq0.false
-    (c.hold_edges.ensures ∙ and_last (sym c.lie_apart.ensures ∙ not-false _ c.if-not-lie_apart.false))
+    (c.hold_edges.ensures ∙ and_last (sym c.lie_apart.ensures ∙ c.if-not-lie_apart.false))
