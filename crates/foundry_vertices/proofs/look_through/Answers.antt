@@ -5,8 +5,8 @@ use mathlib.Core.Path.{sym, ap, ◌∙◌}
 use native.Mathlib.Omega.{arith}
 use lib.ListN.{get_or}
 use Rattle.laws.specs.Leading.{leading}
-use Rattle.laws.proofs.Leading.{holds_more, leading_at, leading_all}
-use Rattle.repeats.proofs.Ranges.{rising_more}
+use Rattle.laws.proofs.Leading.{holds_more, leading_at, leading_all, holds_to_none}
+use Rattle.repeats.proofs.Ranges.{rising_more, rising_none}
 use Rattle.foundry_vertices.proofs.Places.{place_unsound, place_sound}
 use borrow.Author.Rules.{rules}
 use Rattle.foundry_vertices.proofs.look_through.Goals as goal

@@ -4,7 +4,7 @@ use Prim.Native.Nat.{◌*◌}
 use native.Mathlib.Omega.{arith}
 use borrow.Author.Rules.{rules}
 use Rattle.foundry_rule.specs.Spots.{vertex_key}
-use Rattle.repeats.proofs.Tables.{table_new, pass_stops, pass_ends, far_table, far_joined}
+use Rattle.repeats.proofs.Tables.{table_new, pass_stops, pass_ends, far_table, far_joined, pass_table, pass_new}
 use Rattle.foundry_vertices.proofs.Ranges.{far_outside}
 use Rattle.foundry_vertices.proofs.pass.Goals as goal
 

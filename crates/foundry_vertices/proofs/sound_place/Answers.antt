@@ -1,16 +1,13 @@
 -- `sound_place` meets its contract.
 -- Assumes nothing.
 use mathlib.Core.Path.{sym, ◌∙◌}
-use borrow.Author.Tests.{not-false}
-use Rattle.foundry_vertices.proofs.Places.{offset_good}
-use borrow.Author.Tests.{not-true}
-use Rattle.foundry_vertices.proofs.Places.{offset_bad_lem}
+use Rattle.foundry_vertices.proofs.Places.{offset_good, offset_bad_lem}
 use Rattle.foundry_vertices.proofs.sound_place.Goals as goal
 
 pub returns-clause-value : goal.returns-clause-value
 returns-clause-value c =
-    c.IsPlace-in.ensures.0
-    ∙ offset_good c.args.size c.args.samples.now c.args.cut c.args.words.now c.args.offsets.now c.args.v (sym c.all_in_unit.ensures ∙ not-false _ c.if-not-all_in_unit.false)
+    c.place_in.ensures.value
+    ∙ offset_good c.args.size c.args.samples.now c.args.cut c.args.words.now c.args.offsets.now c.args.v (sym c.all_in_unit.ensures ∙ c.if-not-all_in_unit.false)
 
 pub returns-then-not-all_in_unit-clause-value : goal.returns-then-not-all_in_unit-clause-value
-returns-then-not-all_in_unit-clause-value c = offset_bad_lem c.args.size c.args.samples.now c.args.cut c.args.words.now c.args.offsets.now c.args.v (sym c.all_in_unit.ensures ∙ not-true _ c.if-not-all_in_unit.true)
+returns-then-not-all_in_unit-clause-value c = offset_bad_lem c.args.size c.args.samples.now c.args.cut c.args.words.now c.args.offsets.now c.args.v (sym c.all_in_unit.ensures ∙ c.if-not-all_in_unit.true)
