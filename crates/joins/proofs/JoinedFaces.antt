@@ -24,7 +24,7 @@ use Rattle.cube_rule.specs.Edges.{pattern_of, crossed_mask}
 use Rattle.cube_rule.specs.Links.{decisions}
 use Rattle.cube_rule.specs.Loops.{loops_by}
 use Rattle.cube_rule.specs.Plain.{alternate_on, plain}
-use Rattle.cube_rule.specs.Sorts.{joined_on, one, two}
+use Rattle.cube_rule.specs.Sorts.{joined_on}
 use Rattle.cube_rule.proofs.Alike.{one_same, two_same}
 use Rattle.cube_rule.proofs.Laws.{cube_laws, cube_one, cube_two}
 use Rattle.sorts.specs.declared.Sorts.{Sorts}

@@ -8,7 +8,6 @@ use native.Mathlib.Omega.{arith}
 use lib.Bits.{bit_and, bit_xor}
 use lib.ListN.{get_or}
 use Rattle.laws.specs.Bits.{holds}
-use Rattle.cube_rule.specs.Plain.{plain}
 use Rattle.cube_rule.specs.Sorts.{odd_in_three, two_in_three, two_in_four, mostly, three, six, rarer, odd, some, lone, one, two}
 use Rattle.cube_rule.proofs.Alike.{one_same, two_same}
 use Rattle.sorts.specs.declared.Sorts.{Sorts}

@@ -1,9 +1,9 @@
 -- `first_again` meets its contract. The loop's invariant: the limit is the first repeat with a key below the base.
 -- Assumes nothing.
 use Rattle.foundry_quads.proofs.Quads.{key_below}
-use Rattle.std.proofs.Common.{◌-◌, arith, rules}
+use Rattle.std.proofs.Common.{arith}
 use Rattle.foundry_quads.specs.Steps.{key_by}
-use Rattle.foundry_quads.proofs.Runs.{Ranged, ranged_none, ranged_more, ranged_all}
+use Rattle.foundry_quads.proofs.Runs.{ranged_none, ranged_more, ranged_all}
 use Rattle.foundry_quads.proofs.first_again.Goals as goal
 
 pub loop-base-init : goal.loop-base-init

@@ -1,9 +1,8 @@
 -- `first_again` meets its contract. The loop's invariant: the limit is the first repeat with a key below the base.
 -- Assumes nothing.
-use Rattle.foundry_quads.proofs.Quads.{key_below}
-use Rattle.std.proofs.Common.{◌-◌, arith, rules}
+use Rattle.std.proofs.Common.{◌-◌}
 use Rattle.foundry_quads.specs.Steps.{key_by}
-use Rattle.foundry_quads.proofs.Runs.{Ranged, ranged_none, ranged_more, ranged_all}
+use Rattle.foundry_quads.proofs.Runs.{Ranged}
 use Rattle.foundry_quads.proofs.first_again.Given as goal
 
 abbrev pub invariant-loop-base : goal.invariant-loop-base

@@ -3,7 +3,6 @@
 use Rattle.foundry_quads.proofs.Looks.{at_most, both_first, none_again}
 use Rattle.foundry_quads.specs.Steps.{quad_fits}
 use Rattle.foundry_rule.specs.Judged.{quad_total}
-use Rattle.std.proofs.Common.{rules}
 use Rattle.foundry_quads.proofs.first_fault.Goals as goal
 
 pub returns-then-seen : goal.returns-then-seen

@@ -1,6 +1,6 @@
 -- `fits_edge` meets its contract: the lower sample decides whether second and fourth change places.
 -- Assumes nothing.
-use Rattle.std.proofs.Common.{ap, ◌∙◌, arith, rules}
+use Rattle.std.proofs.Common.{ap, ◌∙◌}
 use Rattle.cube_spots.specs.Spots.{spot_of}
 use Rattle.foundry_quads.proofs.Quads.{first_inside, fits_metal, fits_hollow}
 use Rattle.foundry_quads.proofs.fits_edge.Goals as goal

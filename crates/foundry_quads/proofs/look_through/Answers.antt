@@ -1,12 +1,10 @@
 -- `look_through` meets its contract. The loop's invariant: the quads so far fit, and where they rise none repeats an earlier one.
 -- Assumes nothing.
-use Rattle.repeats.specs.Fresh.{Rising}
-use Rattle.repeats.proofs.Ranges.{rising_none, rising_more}
+use Rattle.repeats.proofs.Ranges.{rising_more}
 use Rattle.foundry_quads.proofs.Looks.{look_stops, look_ends}
-use Rattle.std.proofs.Common.{◌-◌, ◌≤◌, refl, rules}
-use Rattle.laws.proofs.Leading.{HoldsTo, holds_to_none, holds_more}
+use Rattle.std.proofs.Common.{refl, rules}
+use Rattle.laws.proofs.Leading.{holds_more}
 use Rattle.foundry_quads.proofs.Quads.{key_known, fits_known}
-use borrow.Author.Tests.{not-true, not-false}
 use Rattle.foundry_rule.specs.Judged.{quad_total}
 use Rattle.foundry_quads.specs.Steps.{quad_fits, key_by}
 use Rattle.foundry_quads.proofs.look_through.Goals as goal

@@ -1,9 +1,8 @@
 -- `pass` meets its contract. The loop's invariant: every quad so far is new in the range, and the table says which keys were met.
 -- Assumes nothing.
-use Rattle.std.proofs.Common.{◌-◌, ◌≤◌, sym, refl, ◌∙◌, arith, rules}
-use Rattle.foundry_quads.proofs.Runs.{Run, run_new, run_out, run_more, run_stops, run_ends}
+use Rattle.std.proofs.Common.{◌-◌, ◌≤◌}
+use Rattle.foundry_quads.proofs.Runs.{Run}
 use Rattle.foundry_quads.specs.Steps.{key_by}
-use Rattle.foundry_quads.proofs.Quads.{key_known}
 use Rattle.foundry_quads.proofs.pass.Given as goal
 
 abbrev pub invariant-loop-q : goal.invariant-loop-q

@@ -2,12 +2,9 @@
 -- Assumes nothing.
 use Prim.Native.Nat.{◌*◌, ◌-◌, ◌≤◌}
 use mathlib.Core.Path.{◌≡◌}
-use native.Mathlib.Omega.{arith}
-use borrow.Author.Rules.{rules}
 use Rattle.laws.specs.Leading.{leading}
 use Rattle.foundry_rule.specs.Spots.{vertex_key}
 use Rattle.repeats.specs.Fresh.{fresh_below}
-use Rattle.foundry_vertices.proofs.Ranges.{ranges_none, ranges_more, ranges_all, few_ranges}
 use Rattle.foundry_vertices.proofs.first_again.Given as goal
 
 abbrev pub invariant-loop-r : goal.invariant-loop-r

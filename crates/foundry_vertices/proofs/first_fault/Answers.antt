@@ -7,7 +7,6 @@ use Rattle.foundry_rule.specs.Spots.{vertex_key}
 use Rattle.repeats.specs.Fresh.{fresh}
 use Rattle.foundry_vertices.specs.Steps.{placed, looks_sound}
 use Rattle.foundry_vertices.proofs.Ranges.{rising_fault, again_fault, looked_le, looked_so}
-use borrow.Author.Rules.{rules}
 use Rattle.foundry_vertices.proofs.first_fault.Goals as goal
 
 pub returns-then-seen : goal.returns-then-seen

@@ -1,15 +1,12 @@
 -- `look_through` meets its contract: the vertices before the one in hand look sound, and their keys rise if so it is said.
 -- Assumes nothing.
-use Prim.Native.Nat.{ℕ, ◌+◌, ◌*◌, ◌-◌, ◌/◌, ◌≤◌}
+use Prim.Native.Nat.{ℕ, ◌+◌, ◌*◌}
 use mathlib.Core.Path.{sym, ap, ◌∙◌}
 use native.Mathlib.Omega.{arith}
-use lib.ListN.{length, get_or}
+use lib.ListN.{get_or}
 use Rattle.laws.specs.Leading.{leading}
-use Rattle.laws.proofs.Leading.{HoldsTo, holds_to_none, holds_more, leading_at, leading_all}
-use Rattle.foundry_rule.specs.Spots.{vertex_key}
-use Rattle.repeats.specs.Fresh.{Rising}
-use Rattle.repeats.proofs.Ranges.{rising_none, rising_more}
-use Rattle.foundry_vertices.specs.Steps.{looks_sound}
+use Rattle.laws.proofs.Leading.{holds_more, leading_at, leading_all, holds_to_none}
+use Rattle.repeats.proofs.Ranges.{rising_more, rising_none}
 use Rattle.foundry_vertices.proofs.Places.{place_unsound, place_sound}
 use borrow.Author.Rules.{rules}
 use Rattle.foundry_vertices.proofs.look_through.Goals as goal

@@ -1,17 +1,11 @@
 -- `look_through` meets its contract: the vertices before the one in hand look sound, and their keys rise if so it is said.
 -- Assumes nothing.
-use Prim.Native.Nat.{ℕ, ◌+◌, ◌*◌, ◌-◌, ◌/◌, ◌≤◌}
-use mathlib.Core.Path.{sym, ap, ◌∙◌}
-use native.Mathlib.Omega.{arith}
-use lib.ListN.{length, get_or}
-use Rattle.laws.specs.Leading.{leading}
-use Rattle.laws.proofs.Leading.{HoldsTo, holds_to_none, holds_more, leading_at, leading_all}
+use Prim.Native.Nat.{◌-◌, ◌/◌, ◌≤◌}
+use lib.ListN.{length}
+use Rattle.laws.proofs.Leading.{HoldsTo}
 use Rattle.foundry_rule.specs.Spots.{vertex_key}
 use Rattle.repeats.specs.Fresh.{Rising}
-use Rattle.repeats.proofs.Ranges.{rising_none, rising_more}
 use Rattle.foundry_vertices.specs.Steps.{looks_sound}
-use Rattle.foundry_vertices.proofs.Places.{place_unsound, place_sound}
-use borrow.Author.Rules.{rules}
 use Rattle.foundry_vertices.proofs.look_through.Given as goal
 
 abbrev pub invariant-loop-v : goal.invariant-loop-v

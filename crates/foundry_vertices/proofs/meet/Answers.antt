@@ -1,11 +1,10 @@
 -- `meet` meets its contract: a vertex whose cube is not in the range changes nothing.
 -- Assumes nothing.
 use Prim.Native.Nat.{ℕ, ◌+◌, ◌*◌, ◌%◌}
-use native.Mathlib.Omega.{arith}
 use lib.ListN.{get_or}
 use mathlib.Core.Path.{ap, ◌∙◌}
-use Rattle.foundry_vertices.proofs.Ranges.{met_far, passed_far, near_lt, met_near, passed_near}
-use borrow.Author.Rules.{rules}
+use Rattle.foundry_vertices.proofs.Ranges.{passed_far, passed_near, met_far, near_lt, met_near}
+use native.Mathlib.Omega.{arith}
 use Rattle.foundry_vertices.proofs.meet.Goals as goal
 
 pub returns-then-c-r-clause-table_2 : goal.returns-then-c-r-clause-table_2

@@ -1,12 +1,9 @@
 -- `near` meets its contract: those of the vertices before the one in hand are counted.
 -- Assumes nothing.
-use Prim.Native.Nat.{ℕ, ◌+◌, ◌-◌, ◌≤◌}
-use mathlib.Core.Path.{◌≡◌, sym, ap, ap₂, ◌∙◌}
+use Prim.Native.Nat.{ℕ, ◌+◌}
+use mathlib.Core.Path.{sym, ap₂, ◌∙◌}
 use native.Mathlib.Omega.{arith}
-use Rattle.laws.specs.Counting.{count}
 use Rattle.laws.proofs.Counting.{count_none, count_next}
-use Rattle.foundry_rule.specs.Spots.{cube_at}
-use Rattle.foundry_vertices.specs.Steps.{in_range}
 use borrow.Author.Rules.{rules}
 use Rattle.foundry_vertices.proofs.near.Goals as goal
 

@@ -1,13 +1,10 @@
 -- `near` meets its contract: those of the vertices before the one in hand are counted.
 -- Assumes nothing.
 use Prim.Native.Nat.{ℕ, ◌+◌, ◌-◌, ◌≤◌}
-use mathlib.Core.Path.{◌≡◌, sym, ap, ap₂, ◌∙◌}
-use native.Mathlib.Omega.{arith}
+use mathlib.Core.Path.{◌≡◌}
 use Rattle.laws.specs.Counting.{count}
-use Rattle.laws.proofs.Counting.{count_none, count_next}
 use Rattle.foundry_rule.specs.Spots.{cube_at}
 use Rattle.foundry_vertices.specs.Steps.{in_range}
-use borrow.Author.Rules.{rules}
 use Rattle.foundry_vertices.proofs.near.Given as goal
 
 abbrev pub invariant-loop-i : goal.invariant-loop-i

@@ -1,8 +1,6 @@
 -- `place_among` meets its contract: the first that is equal decides.
 -- Assumes nothing.
-use Rattle.foundry_vertices.proofs.Places.{place_1}
-use Rattle.foundry_vertices.proofs.Places.{place_2}
-use Rattle.foundry_vertices.proofs.Places.{place_3}
+use Rattle.foundry_vertices.proofs.Places.{place_1, place_2, place_3}
 use Rattle.foundry_vertices.proofs.place_among.Goals as goal
 
 pub returns-then-m-masks-2-clause-value : goal.returns-then-m-masks-2-clause-value

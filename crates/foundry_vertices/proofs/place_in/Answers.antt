@@ -1,9 +1,7 @@
 -- `place_in` meets its contract.
 -- Assumes nothing.
 use mathlib.Core.Path.{◌∙◌}
-use native.Mathlib.Omega.{arith}
 use Rattle.foundry_vertices.proofs.Places.{no_cube, in_cube}
-use borrow.Author.Rules.{rules}
 use Rattle.foundry_vertices.proofs.place_in.Goals as goal
 
 pub returns-then-c-cubes-clause-value : goal.returns-then-c-cubes-clause-value

@@ -1,14 +1,10 @@
 -- `run` meets its contract: the table has a bit for each vertex before the one in hand, and none of these is repeated.
 -- Assumes nothing.
 use Prim.Native.Nat.{ℕ, ◌*◌, ◌-◌, ◌≤◌, ◌<◌}
-use mathlib.Core.Path.{◌≡◌, sym, ◌∙◌}
+use mathlib.Core.Path.{◌≡◌}
 use mathlib.Core.Bool.{true}
-use native.Mathlib.Omega.{arith}
-use borrow.Author.Rules.{rules}
-use borrow.Author.Tests.{not-true, not-false}
 use Rattle.foundry_rule.specs.Spots.{vertex_key}
 use Rattle.repeats.specs.Fresh.{fresh_in, Table}
-use Rattle.repeats.proofs.Tables.{new_more, run_stops, run_ends}
 use Rattle.foundry_vertices.proofs.run.Given as goal
 
 abbrev pub invariant-loop-v : goal.invariant-loop-v

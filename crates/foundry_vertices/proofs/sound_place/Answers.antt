@@ -1,8 +1,7 @@
 -- `sound_place` meets its contract.
 -- Assumes nothing.
 use mathlib.Core.Path.{sym, ◌∙◌}
-use Rattle.foundry_vertices.proofs.Places.{offset_good}
-use Rattle.foundry_vertices.proofs.Places.{offset_bad_lem}
+use Rattle.foundry_vertices.proofs.Places.{offset_good, offset_bad_lem}
 use Rattle.foundry_vertices.proofs.sound_place.Goals as goal
 
 pub returns-clause-value : goal.returns-clause-value

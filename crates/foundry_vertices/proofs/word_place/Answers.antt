@@ -1,9 +1,7 @@
 -- `word_place` meets its contract: by the mark, and where the cube may have more than one loop by its loops.
 -- Assumes nothing.
 use mathlib.Core.Path.{◌∙◌}
-use native.Mathlib.Omega.{arith}
 use Rattle.foundry_vertices.proofs.Places.{found_low, found_high, found_single, found_none}
-use borrow.Author.Rules.{rules}
 use Rattle.foundry_vertices.proofs.word_place.Goals as goal
 
 pub returns-then-w-mark-clause-value : goal.returns-then-w-mark-clause-value

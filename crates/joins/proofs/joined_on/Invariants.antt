@@ -1,19 +1,13 @@
 -- `joined_on` meets its contract. The loop's invariant: w holds the bits of `doubtful` from n on, and v those before n whose faces have joined positive
 -- corners. The measure is what is left of the 64 bits.
 -- Assumes nothing.
-use Prim.Native.Nat.{◌+◌, ◌-◌, ◌<◌}
-use mathlib.Core.Path.{◌≡◌, ap, sym, ◌∙◌}
-use native.Mathlib.Omega.{arith}
-use borrow.Author.Rules.{rules}
-use lib.Count.{count_trailing_zeros}
-use lib.ListN.{length}
-use Rattle.laws.specs.Bits.{bit}
+use Prim.Native.Nat.{◌-◌}
+use mathlib.Core.Path.{◌≡◌}
 use Rattle.laws.specs.Pack.{pack}
-use Rattle.laws.proofs.Pack.{pack_none}
-use Rattle.laws.proofs.Visit.{Left, left_next}
+use Rattle.laws.proofs.Visit.{Left}
 use Rattle.joins.specs.Joined.{joined_at}
-use Rattle.joins.proofs.JoinedFaces.{bits_where, joined_next, joined_end}
-use Rattle.rows.proofs.Visits.{bits_of, visit_start, visit_set, visit_in}
+use Rattle.joins.proofs.JoinedFaces.{bits_where}
+use Rattle.rows.proofs.Visits.{bits_of}
 use Rattle.joins.proofs.joined_on.Given as goal
 
 abbrev pub invariant-loop-w : goal.invariant-loop-w

@@ -1,7 +1,5 @@
 -- `joined_words` meets its contract.
 -- Assumes nothing.
-use native.Mathlib.Omega.{arith}
-use borrow.Author.Rules.{rules}
 use Rattle.faces.proofs.SixWords.{six_words}
 use Rattle.joins.specs.Joined.{joined_words}
 use Rattle.joins.proofs.joined_words.Goals as goal

@@ -3,7 +3,6 @@
 use Prim.Native.Nat.{ℕ}
 use mathlib.Core.Path.{ap, sym, subst, ◌∙◌}
 use mathlib.Core.List.{List}
-use borrow.Author.Rules.{rules}
 use Rattle.joins.specs.Joined.{joined_words, SidesIn}
 use Rattle.joins.proofs.JoinedFaces.{sides_in_lem, sorted_is, sorted_faces}
 use Rattle.joins.proofs.sorted.Goals as goal

@@ -1,14 +1,12 @@
 -- `count_row` meets its contract. The loop's invariant: the loops of the cubes of the words before w are counted. The measure is what is left
 -- of four words.
 -- Assumes nothing.
-use Prim.Native.Nat.{◌-◌, ◌*◌, ◌≤◌, ◌<◌}
-use mathlib.Core.Path.{◌≡◌, refl, ◌∙◌}
-use lib.ListN.{length}
+use Prim.Native.Nat.{◌<◌}
+use mathlib.Core.Path.{refl, ◌∙◌}
 use Rattle.cube_rule.specs.Decider.{joined, loops_of}
 use Rattle.cube_rule.proofs.Laws.{cube_laws}
 use Rattle.laws.specs.Below.{below}
-use Rattle.rows.proofs.WordSteps.{masks_to, WordTold, told_ready, counted_word, count_end, row_count_le}
-use borrow.Author.Rules.{rules}
+use Rattle.rows.proofs.WordSteps.{WordTold, told_ready, counted_word, count_end, row_count_le}
 use native.Mathlib.Omega.{arith}
 use Rattle.loop_counts.proofs.count_row.Goals as goal
 

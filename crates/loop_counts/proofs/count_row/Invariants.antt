@@ -1,15 +1,11 @@
 -- `count_row` meets its contract. The loop's invariant: the loops of the cubes of the words before w are counted. The measure is what is left
 -- of four words.
 -- Assumes nothing.
-use Prim.Native.Nat.{◌-◌, ◌*◌, ◌≤◌, ◌<◌}
-use mathlib.Core.Path.{◌≡◌, refl, ◌∙◌}
+use Prim.Native.Nat.{◌-◌, ◌*◌, ◌≤◌}
+use mathlib.Core.Path.{◌≡◌}
 use lib.ListN.{length}
-use Rattle.cube_rule.specs.Decider.{joined, loops_of}
-use Rattle.cube_rule.proofs.Laws.{cube_laws}
-use Rattle.laws.specs.Below.{below}
-use Rattle.rows.proofs.WordSteps.{masks_to, WordTold, told_ready, counted_word, count_end, row_count_le}
-use borrow.Author.Rules.{rules}
-use native.Mathlib.Omega.{arith}
+use Rattle.cube_rule.specs.Decider.{loops_of}
+use Rattle.rows.proofs.WordSteps.{masks_to}
 use Rattle.loop_counts.proofs.count_row.Given as goal
 
 abbrev pub invariant-loop-w : goal.invariant-loop-w

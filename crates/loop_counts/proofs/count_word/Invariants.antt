@@ -1,22 +1,16 @@
 -- `count_word` meets its contract. The loop's invariant: w holds the bits from i on of the cubes that have neither one loop nor two, and those of
 -- them before i are counted, besides the others. The measure is what is left of the 64 bits.
 -- Assumes nothing.
-use Prim.Native.Nat.{ℕ, ◌+◌, ◌-◌, ◌*◌, ◌≤◌, ◌<◌, ◌^◌}
-use mathlib.Core.Path.{◌≡◌, ap, ◌∙◌}
-use mathlib.Core.Bool.{true}
-use native.Mathlib.Omega.{arith}
-use mathlib.Core.List.{List}
-use borrow.Author.Rules.{rules}
-use lib.Bits.{bit_and, bit_xor}
-use lib.Count.{ones, count_trailing_zeros}
+use Prim.Native.Nat.{ℕ, ◌+◌, ◌-◌, ◌*◌, ◌≤◌}
+use mathlib.Core.Path.{◌≡◌}
+use lib.Bits.{bit_xor}
+use lib.Count.{ones}
 use lib.ListN.{length}
 use Rattle.cube_rule.specs.Decider.{loops_of}
 use Rattle.laws.specs.Below.{below}
-use Rattle.laws.specs.Bits.{holds}
-use Rattle.laws.proofs.Visit.{Left, left_next}
+use Rattle.laws.proofs.Visit.{Left}
 use Rattle.rows.specs.Rows.{loops_at, picked}
-use Rattle.rows.proofs.Visits.{bits_of, visit_start, visit_set, visit_in, picked_end, picked_none}
-use Rattle.loop_counts.proofs.CountedWords.{counted_next, plain_counted, rest_in, rest_lt, word_counted, word_le}
+use Rattle.rows.proofs.Visits.{bits_of}
 use Rattle.loop_counts.proofs.count_word.Given as goal
 
 abbrev pub invariant-loop-w : goal.invariant-loop-w

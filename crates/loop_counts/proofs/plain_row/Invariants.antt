@@ -1,18 +1,12 @@
 -- `plain_row` meets its contract. The loop's invariant: the active cubes of the words before w are plain, and counted. The measure is what is left
 -- of four words. Assumes nothing.
-use Prim.Native.Nat.{ℕ, ◌+◌, ◌-◌, ◌*◌, ◌≤◌, ◌<◌}
-use mathlib.Core.Path.{◌≡◌, sym, ap, ap₂, ◌∙◌, subst}
+use Prim.Native.Nat.{ℕ, ◌+◌, ◌-◌, ◌*◌, ◌≤◌}
+use mathlib.Core.Path.{◌≡◌}
 use mathlib.Core.Bool.{Bool, true}
 use mathlib.Core.List.{List}
-use lib.Bits.{bit_and}
-use native.Mathlib.Omega.{arith}
-use borrow.Author.Rules.{rules}
-use borrow.Author.Tests.{not-true, not-false}
-use Rattle.planes.specs.Planes.{eight_of, active_of}
+use Rattle.planes.specs.Planes.{eight_of}
 use Rattle.rows.specs.Quiet.{active_in, words_in_row, every}
-use Rattle.rows.proofs.Quiets.{every_start, every_more, every_not}
 use Rattle.loop_counts.specs.PlainRow.{plain_word, active_to}
-use Rattle.loop_counts.proofs.PlainRows.{active_start, active_more, plain_all, plain_doubt}
 use Rattle.loop_counts.proofs.plain_row.Given as goal
 
 -- the active cubes of word w are plain

@@ -1,6 +1,5 @@
 -- `mostly` meets its contract.
 -- Assumes nothing.
-use borrow.Author.Rules.{rules}
 use Rattle.sorts.proofs.SortedCubes.{mostly_from}
 use Rattle.sorts.proofs.mostly.Goals as goal
 

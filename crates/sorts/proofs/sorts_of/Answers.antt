@@ -1,6 +1,5 @@
 -- `sorts_of` meets its contract.
 -- Assumes nothing.
-use borrow.Author.Rules.{rules}
 use Rattle.sorts.proofs.SortedCubes.{sorts_from}
 use Rattle.sorts.proofs.sorts_of.Goals as goal
 
