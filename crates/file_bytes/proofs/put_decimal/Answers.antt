@@ -1,5 +1,8 @@
 -- `put_decimal` meets its contract: the digits behind those that are left are put.
 -- Assumes nothing.
+use Rattle.file_bytes.proofs.Writing.{down_end}
+use Rattle.file_bytes.proofs.Writing.{down_inside}
+use Rattle.file_bytes.proofs.Writing.{down_start}
 use native.Mathlib.Omega.{arith}
 use lib.ListN.{length-set}
 use Rattle.file_bytes.proofs.Writing.{down_more}

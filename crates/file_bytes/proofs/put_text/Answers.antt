@@ -1,5 +1,6 @@
 -- `put_text` meets its contract: the first i bytes are copied.
 -- Assumes nothing.
+use Rattle.file_bytes.proofs.Writing.{copy_all}
 use native.Mathlib.Omega.{arith}
 use lib.ListN.{length-set}
 use Rattle.file_bytes.proofs.Writing.{copy_more}

@@ -19,17 +19,20 @@ returns-in_default c =
 pub put_front-requires-clause-vertices_bound : goal.put_front-requires-clause-vertices_bound
 put_front-requires-clause-vertices_bound c =
     let f = accepted_front c.args.nx c.args.ny c.args.nz c.args.t c.args.samples.now _ _ _ _ _ _ _ c.requires.readable.0 c.requires.readable.1
-    (length-replicate {A = ℕ} 2744 0) (length-replicate {A = Float} 4116 (of_bits binary64 0)) (length-replicate {A = ℕ} 3024 0) c.mesh-counted.ensures _ c.in-Counts.is c.requires.readable.2 in (((f.few.0, f.few.1, c.requires.in_bounds), ((omega (arith, f.few.0, c.mesh-counted.auto), omega (arith, f.few.0, c.mesh-counted.auto), omega (arith, f.few.1, c.mesh-counted.auto)), f.numbers))).0
+    (length-replicate {A = ℕ} 2744 0) (length-replicate {A = Float} 4116 (of_bits binary64 0)) (length-replicate {A = ℕ} 3024 0) c.mesh-counted.ensures _ c.in-Counts.is c.requires.readable.2 in
+    (f.few.0, f.few.1, c.requires.in_bounds)
 
 pub put_front-requires-clause-vertices_in_bounds : goal.put_front-requires-clause-vertices_in_bounds
 put_front-requires-clause-vertices_in_bounds c =
     let f = accepted_front c.args.nx c.args.ny c.args.nz c.args.t c.args.samples.now _ _ _ _ _ _ _ c.requires.readable.0 c.requires.readable.1
-    (length-replicate {A = ℕ} 2744 0) (length-replicate {A = Float} 4116 (of_bits binary64 0)) (length-replicate {A = ℕ} 3024 0) c.mesh-counted.ensures _ c.in-Counts.is c.requires.readable.2 in (((f.few.0, f.few.1, c.requires.in_bounds), ((omega (arith, f.few.0, c.mesh-counted.auto), omega (arith, f.few.0, c.mesh-counted.auto), omega (arith, f.few.1, c.mesh-counted.auto)), f.numbers))).1
+    (length-replicate {A = ℕ} 2744 0) (length-replicate {A = Float} 4116 (of_bits binary64 0)) (length-replicate {A = ℕ} 3024 0) c.mesh-counted.ensures _ c.in-Counts.is c.requires.readable.2 in
+    (omega (arith, f.few.0, c.mesh-counted.auto), omega (arith, f.few.0, c.mesh-counted.auto), omega (arith, f.few.1, c.mesh-counted.auto))
 
 pub put_front-requires-clause-numbers : goal.put_front-requires-clause-numbers
 put_front-requires-clause-numbers c =
     let f = accepted_front c.args.nx c.args.ny c.args.nz c.args.t c.args.samples.now _ _ _ _ _ _ _ c.requires.readable.0 c.requires.readable.1
-    (length-replicate {A = ℕ} 2744 0) (length-replicate {A = Float} 4116 (of_bits binary64 0)) (length-replicate {A = ℕ} 3024 0) c.mesh-counted.ensures _ c.in-Counts.is c.requires.readable.2 in (((f.few.0, f.few.1, c.requires.in_bounds), ((omega (arith, f.few.0, c.mesh-counted.auto), omega (arith, f.few.0, c.mesh-counted.auto), omega (arith, f.few.1, c.mesh-counted.auto)), f.numbers))).2
+    (length-replicate {A = ℕ} 2744 0) (length-replicate {A = Float} 4116 (of_bits binary64 0)) (length-replicate {A = ℕ} 3024 0) c.mesh-counted.ensures _ c.in-Counts.is c.requires.readable.2 in
+    f.numbers
 
 pub returns : goal.returns
 returns c =

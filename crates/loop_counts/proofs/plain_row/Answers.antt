@@ -1,5 +1,6 @@
 -- `plain_row` meets its contract. The loop's invariant: the active cubes of the words before w are plain, and counted. The measure is what is left
 -- of four words. Assumes nothing.
+use Rattle.loop_counts.proofs.PlainRows.{plain_all}
 use Prim.Native.Nat.{◌<◌}
 use mathlib.Core.Path.{◌≡◌, sym, ap, ap₂, ◌∙◌}
 use lib.Bits.{bit_and}

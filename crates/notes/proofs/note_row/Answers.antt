@@ -1,6 +1,9 @@
 -- `note_row` meets its contract. The loop's invariant: whatever row stands there, its cubes whose first vertex is before v are noted;
 -- and whatever stands there, the vertices before v are noted one by one. The measure is what is left of the part.
 -- Assumes nothing.
+use Rattle.notes.proofs.ReadBack.{noted_all}
+use Rattle.notes.proofs.ReadBack.{noted_before}
+use Rattle.notes.proofs.ReadBack.{noted_behind}
 use Prim.Native.Nat.{◌+◌, ◌*◌, ◌-◌}
 use mathlib.Core.Path.{refl, ◌∙◌}
 use mathlib.Core.Logic.{inr}

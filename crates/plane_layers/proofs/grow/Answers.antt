@@ -19,7 +19,7 @@ check_buffers-fits-requires c =
     (omega (arith, few.0, ap (λ (t : Totals). t.vertices) c.total-counts.ensures), omega (arith, few.1, ap (λ (t : Totals). t.quads) c.total-counts.ensures))
 
 pub returns-in-Refuses : goal.returns-in-Refuses
-returns-in-Refuses c = grown_refused c.requires c.count_rows-t.ensures c.args.words.now c.args.offsets.now c.args.quads.now c.total-counts.result c.total-counts.ensures _ (sym c.check_buffers-fits.ensures ∙ c.fits2.given.1)
+returns-in-Refuses c = grown_refused c.requires c.count_rows-t.ensures c.args.words.now c.args.offsets.now c.args.quads.now c.total-counts.result c.total-counts.ensures _ (sym c.check_buffers-fits.ensures ∙ c.in-Refuses.is)
 
 pub write_rows-requires : goal.write_rows-requires
 write_rows-requires c =

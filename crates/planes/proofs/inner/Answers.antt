@@ -1,5 +1,7 @@
 -- `inner` meets its contract: the places before the last, and in the first word not the first.
 -- Assumes nothing.
+use Rattle.planes.proofs.Masks.{inner_other}
+use mathlib.Core.Path.{◌∙◌}
 use Rattle.planes.proofs.Masks.{inner_first}
 use Rattle.planes.proofs.inner.Goals as goal
 

@@ -15,10 +15,10 @@ counts_of-requires c = (size_made c.args.nx c.args.ny c.args.nz _ (subst (SizeMa
 
 pub returns-in-BadAxis : goal.returns-in-BadAxis
 returns-in-BadAxis c =
-    axis_judged c.args.nx c.args.ny c.args.nz (λ c. reading_rows c c.args.readings.now c.args.cut) _ _
+    axis_judged c.args.nx c.args.ny c.args.nz (λ n. reading_rows n c.args.readings.now c.args.cut) _ _
     (subst (SizeMade c.args.nx c.args.ny c.args.nz) c.in-BadAxis.is c.new-made.ensures)
 
 pub returns-in-Made : goal.returns-in-Made
 returns-in-Made c =
-    made_judged c.args.nx c.args.ny c.args.nz (λ c. reading_rows c c.args.readings.now c.args.cut) (λ c. counts_of c (greys_of c.args.readings.now) c.args.cut) _ (said_counts c.counts_of.result)
+    made_judged c.args.nx c.args.ny c.args.nz (λ n. reading_rows n c.args.readings.now c.args.cut) (λ n. counts_of n (greys_of c.args.readings.now) c.args.cut) _ (said_counts c.counts_of.result)
     (subst (SizeMade c.args.nx c.args.ny c.args.nz) c.in-Made.is c.new-made.ensures) c.counts_of.ensures

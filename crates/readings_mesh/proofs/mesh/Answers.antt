@@ -14,7 +14,7 @@ mesh_of-requires c = (size_made c.args.nx c.args.ny c.args.nz _ (subst (SizeMade
 
 pub returns-in-BadAxis : goal.returns-in-BadAxis
 returns-in-BadAxis c =
-    mesh_bad_axis c.args.nx c.args.ny c.args.nz (λ c. reading_rows c c.args.readings.now c.args.cut) (greys_of c.args.readings.now) c.args.cut c.args.words.now c.args.offsets.now c.args.quads.now _
+    mesh_bad_axis c.args.nx c.args.ny c.args.nz (λ n. reading_rows n c.args.readings.now c.args.cut) (greys_of c.args.readings.now) c.args.cut c.args.words.now c.args.offsets.now c.args.quads.now _
     (subst (SizeMade c.args.nx c.args.ny c.args.nz) c.in-BadAxis.is c.new-made.ensures)
 
 pub returns-in-Made : goal.returns-in-Made
