@@ -1,7 +1,6 @@
 -- `is_whole` meets its contract.
 -- Assumes nothing.
-use Rattle.foundry.proofs.Outcome.{as_many}
-use Rattle.foundry.proofs.Outcome.{not_as_many}
+use Rattle.foundry.proofs.Outcome.{as_many, not_as_many}
 use Rattle.foundry.proofs.is_whole.Goals as goal
 
 pub returns : goal.returns

@@ -15,11 +15,11 @@ judge_in-requires c = (size_made c.args.nx c.args.ny c.args.nz _ (subst (SizeMad
 
 pub returns-in-BadAxis : goal.returns-in-BadAxis
 returns-in-BadAxis c =
-    axis_judged c.args.nx c.args.ny c.args.nz (λ c. block_rows c c.args.samples.now c.args.cut ++ sent_rows c.args.words.now c.args.offsets.now c.args.quads.now) _ _
+    axis_judged c.args.nx c.args.ny c.args.nz (λ n. block_rows n c.args.samples.now c.args.cut ++ sent_rows c.args.words.now c.args.offsets.now c.args.quads.now) _ _
     (subst (SizeMade c.args.nx c.args.ny c.args.nz) c.in-BadAxis.is c.new-made.ensures)
 
 pub returns-in-Made : goal.returns-in-Made
 returns-in-Made c =
-    made_judged c.args.nx c.args.ny c.args.nz (λ c. block_rows c c.args.samples.now c.args.cut ++ sent_rows c.args.words.now c.args.offsets.now c.args.quads.now)
-    (λ c. compared_with c c.args.samples.now c.args.cut c.args.words.now c.args.offsets.now c.args.quads.now) _ (said_judgement c.judge_in.result)
+    made_judged c.args.nx c.args.ny c.args.nz (λ n. block_rows n c.args.samples.now c.args.cut ++ sent_rows c.args.words.now c.args.offsets.now c.args.quads.now)
+    (λ n. compared_with n c.args.samples.now c.args.cut c.args.words.now c.args.offsets.now c.args.quads.now) _ (said_judgement c.judge_in.result)
     (subst (SizeMade c.args.nx c.args.ny c.args.nz) c.in-Made.is c.new-made.ensures) c.judge_in.ensures

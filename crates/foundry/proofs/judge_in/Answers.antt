@@ -12,17 +12,17 @@ returns-in-Refuses c = judged_refused _ _ _ (sym c.check-checked.ensures ∙ c.i
 pub compare-requires-clause-sampled : goal.compare-requires-clause-sampled
 compare-requires-clause-sampled c =
     let a = c.args in
-    let p = sym c.check-checked.ensures ∙ c.in_default.is in ((sent_sampled a.size a.samples.now a.cut a.words.now a.offsets.now a.quads.now p c.requires, (sent_shaped a.size a.samples.now a.cut a.words.now a.offsets.now a.quads.now p, sent_below a.size a.samples.now a.cut a.words.now a.offsets.now a.quads.now p))).0
+    sent_sampled a.size a.samples.now a.cut a.words.now a.offsets.now a.quads.now (sym c.check-checked.ensures ∙ c.in_default.is) c.requires
 
 pub compare-requires-clause-shaped : goal.compare-requires-clause-shaped
 compare-requires-clause-shaped c =
     let a = c.args in
-    let p = sym c.check-checked.ensures ∙ c.in_default.is in ((sent_sampled a.size a.samples.now a.cut a.words.now a.offsets.now a.quads.now p c.requires, (sent_shaped a.size a.samples.now a.cut a.words.now a.offsets.now a.quads.now p, sent_below a.size a.samples.now a.cut a.words.now a.offsets.now a.quads.now p))).1
+    sent_shaped a.size a.samples.now a.cut a.words.now a.offsets.now a.quads.now (sym c.check-checked.ensures ∙ c.in_default.is)
 
 pub compare-requires-clause-quads_below : goal.compare-requires-clause-quads_below
 compare-requires-clause-quads_below c =
     let a = c.args in
-    let p = sym c.check-checked.ensures ∙ c.in_default.is in ((sent_sampled a.size a.samples.now a.cut a.words.now a.offsets.now a.quads.now p c.requires, (sent_shaped a.size a.samples.now a.cut a.words.now a.offsets.now a.quads.now p, sent_below a.size a.samples.now a.cut a.words.now a.offsets.now a.quads.now p))).2
+    sent_below a.size a.samples.now a.cut a.words.now a.offsets.now a.quads.now (sym c.check-checked.ensures ∙ c.in_default.is)
 
 pub returns : goal.returns
 returns c = c.compare.ensures ∙ judged_accepts _ _ (sym c.check-checked.ensures ∙ c.in_default.is)

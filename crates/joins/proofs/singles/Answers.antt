@@ -1,8 +1,6 @@
 -- `singles` meets its contract: plain cubes have one loop, and otherwise the sorted words tell.
 -- Assumes nothing.
-use Rattle.joins.proofs.JoinedFaces.{singles_plain}
-use Rattle.joins.proofs.JoinedFaces.{singles_sorted}
-use Rattle.joins.proofs.JoinedFaces.{plain_single}
+use Rattle.joins.proofs.JoinedFaces.{plain_single, singles_plain, singles_sorted}
 use Rattle.joins.proofs.singles.Goals as goal
 
 pub returns-then-act-plain-clause-single : goal.returns-then-act-plain-clause-single

@@ -1,15 +1,15 @@
 -- `plain_row` meets its contract. The loop's invariant: the active cubes of the words before w are plain, and counted. The measure is what is left
 -- of four words. Assumes nothing.
-use Rattle.loop_counts.proofs.PlainRows.{plain_all}
-use Prim.Native.Nat.{◌<◌}
-use mathlib.Core.Path.{◌≡◌, sym, ap, ap₂, ◌∙◌}
+use Prim.Native.Nat.{◌<◌, ℕ}
+use mathlib.Core.Path.{◌≡◌, sym, ap, ap₂, ◌∙◌, subst}
 use lib.Bits.{bit_and}
 use native.Mathlib.Omega.{arith}
 use Rattle.planes.specs.Planes.{active_of}
-use Rattle.rows.specs.Quiet.{active_in, words_in_row}
+use Rattle.rows.specs.Quiet.{active_in, words_in_row, every}
 use Rattle.rows.proofs.Quiets.{every_start, every_more, every_not}
 use Rattle.loop_counts.specs.PlainRow.{plain_word}
-use Rattle.loop_counts.proofs.PlainRows.{active_start, active_more, plain_doubt}
+use Rattle.loop_counts.proofs.PlainRows.{active_start, active_more, plain_doubt, plain_all}
+use mathlib.Core.Bool.{true}
 use Rattle.loop_counts.proofs.plain_row.Goals as goal
 use Rattle.loop_counts.proofs.plain_row.Invariants.{plainAt}
 
@@ -45,4 +45,4 @@ returns c =
     let h = c.loop-w in
     let a = c.args in
     let e : h.w ≡ words_in_row a.row.nx = omega (arith, c.loop-w-test.false, h.invariant.0) in
-    plain_all a.a.now a.b.now a.row.nx a.row.j h.m h.w (subst (λ w. true ≡ every (plainAt a.a.now a.b.now a.row.nx a.row.j) w) e h.invariant.1) h.invariant.2 e
+    plain_all a.a.now a.b.now a.row.nx a.row.j h.m h.w (subst (λ (w : ℕ). true ≡ every (plainAt a.a.now a.b.now a.row.nx a.row.j) w) e h.invariant.1) h.invariant.2 e
