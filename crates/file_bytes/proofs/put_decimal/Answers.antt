@@ -1,5 +1,6 @@
 -- `put_decimal` meets its contract: the digits behind those that are left are put.
 -- Assumes nothing.
+use mathlib.Core.Path.{refl}
 use Rattle.file_bytes.proofs.Writing.{down_end}
 use Rattle.file_bytes.proofs.Writing.{down_inside}
 use Rattle.file_bytes.proofs.Writing.{down_start}
