@@ -22,7 +22,8 @@ use Rattle.mesh_rule.proofs.Inner.{Inner}
 use Rattle.mesh_rule.proofs.Numbers.{corners_of_number}
 use Rattle.closure.proofs.Face.{crossing, face_balanced}
 use Rattle.closure.proofs.Surface.{Uncut, crossed_inner_lem, not_inner, four}
-use Rattle.closure.proofs.Parts.{walks_over, face_x, face_y, face_z, by_faces}
+use Rattle.closure.proofs.Parts.{face_x, face_y, face_z, by_faces}
+use Rattle.closure.proofs.Walks.{walks_over}
 
 up : (a : ℕ) → a + 1 - 1 ≡ a
 up a = omega arith

@@ -2,6 +2,7 @@ pub mod Samples
 pub mod Face
 pub mod Surface
 pub mod Parts
+pub mod Walks
 pub mod Balance
 pub mod Ends
 pub mod Sides

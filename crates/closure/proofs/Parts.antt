@@ -14,13 +14,7 @@ use Rattle.mesh_rule.specs.Mesh.{Quad, turned, around, quad_at, quads_before, qu
 use Rattle.mesh_rule.proofs.Inner.{Inner}
 use Rattle.closure.proofs.Face.{hit, side, term}
 use Rattle.closure.proofs.Surface.{not_inner}
-
--- how often the sides of a quad, and of all quads, walk from u to v
-abbrev pub walks_in : ℕ → ℕ → Quad → ℕ
-walks_in u v q = hit q.v0 q.v1 u v + hit q.v1 q.v2 u v + hit q.v2 q.v3 u v + hit q.v3 q.v0 u v
-
-abbrev pub walks_over : ℕ → ℕ → List Quad → ℕ
-walks_over u v qs = summed (walks_in u v) qs
+use Rattle.closure.proofs.Walks.{walks_in, walks_over}
 
 -- a quad that may be turned
 turned_walks : (b : Bool) (q : Quad) (u v : ℕ) → walks_in u v (turned b q) ≡ side b q.v0 q.v1 u v + side b q.v1 q.v2 u v + side b q.v2 q.v3 u v + side b q.v3 q.v0 u v

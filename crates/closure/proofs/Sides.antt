@@ -18,7 +18,7 @@ use Rattle.closed.specs.Closed.{from, to, walks, all_sound, finding_of}
 use Rattle.closed.specs.Steps.{next_place}
 use Rattle.closed.proofs.Exactly.{side_exactly, closed_exactly}
 use Rattle.closure.proofs.Face.{hit}
-use Rattle.closure.proofs.Parts.{walks_over}
+use Rattle.closure.proofs.Walks.{walks_over}
 use Rattle.closure.proofs.Ends.{Proper}
 
 -- behind the first quad

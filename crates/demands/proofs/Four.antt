@@ -53,7 +53,8 @@ use Rattle.demands.proofs.PlaneRows.{PlaneNumber, start_numbers, plane_numbers, 
 use Rattle.readings.specs.Reading.{reading_of, said_reading}
 use Rattle.readings_mesh.specs.Answer.{ReadingsCounted, ReadingsMeshed}
 use Rattle.demands.proofs.Readings.{FaultNumber, ReadingsNumber, reading_numbers, reading_refuses, readings_counts_numbers, readings_mesh_numbers}
-use Rattle.demands.proofs.Thresholds.{RowNumber, row_numbers, row_is_one_by_one, row_told_answered}
+use Rattle.demands.proofs.Thresholds.{RowNumber, row_numbers, row_is_one_by_one}
+use Rattle.demands.proofs.RowsTold.{row_told_answered}
 
 edge_other : (p q t : ℕ) (r : Crossing) → EdgeAnswered p q t r → NotFour (said_edge r)
 unfolding edge_answer

@@ -14,6 +14,7 @@ pub mod Pieces
 pub mod Told
 pub mod Room
 pub mod Thresholds
+pub mod RowsTold
 pub mod PlaneRows
 pub mod Enough
 pub mod Runs
