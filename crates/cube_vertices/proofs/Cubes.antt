@@ -32,11 +32,6 @@ use Rattle.cube_vertices.specs.declared.Spot.{Spot}
 use Rattle.notes.specs.Tables.{which_of}
 use Rattle.mesh_rule.proofs.Words.{pairs_length, triples_length}
 
--- an answer with loops is of no other case (1: Refused)
-pub no_other_found : (r : Found) (n : ℕ) → r ≡ found.Loops n → OneOf (1 ∷ []) (tag_of the_type r) → ⊥
-no_other_found (found.Refused s) n h k = let z : ◌≡◌ {A = ℕ} 0 1 = cc in absurd (omega arith)
-no_other_found (found.Loops m) n h k = omega arith
-
 -- the first of four places are those that are filled
 first : {A : Type 0} (d : A) (xs ys : List A) (n : ℕ) → ys ≡ filled 4 d xs → n ≡ length xs → take n ys ≡ xs
 unfolding filled

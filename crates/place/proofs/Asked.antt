@@ -46,10 +46,3 @@ module _ (cut : Cut) (corners : List ℕ) (e : ℕ) (asked : Fractional cut corn
       ∙ edge-answers-fraction (corner_sample corners (lower e)) (corner_sample corners (upper e)) cut.t
       (passed_threshold cut asked.threshold)
       asked.crossed)
-
--- an answer with a fraction is of no other case (0: Nothing, 2: Refused)
-pub no_other_case : (r : Crossing) (f : Float) → r ≡ At f → OneOf (0 ∷ 2 ∷ []) (tag_of the_type r) → ⊥
-no_other_case Nothing f h k = let z : ◌≡◌ {A = ℕ} 0 1 = cc in absurd (omega arith)
-no_other_case (Refused s) f h k = let z : ◌≡◌ {A = ℕ} 0 1 = cc in absurd (omega arith)
-no_other_case (At g) f h (inl k) = omega arith
-no_other_case (At g) f h (inr k) = omega arith

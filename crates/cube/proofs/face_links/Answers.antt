@@ -18,6 +18,6 @@ pub returns : goal.returns
 returns c =
     let at_first : Bool = differ (positive c.args.cut c.args.p) (joined c.args.cut c.args.p c.args.q c.args.r c.args.s) in
     cut_four c.args.face _ _ at_first c.if-m-face.false (elim c.if-positive-joined.branch [
-      then-positive-joined w ↦ rw (← c.decide-joined.ensures, w.if-positive-joined.true) w.first-is
+      | then-positive-joined w ↦ rw (← c.decide-joined.ensures, w.if-positive-joined.true) w.first-is
       | else-positive-joined w ↦ rw (← c.decide-joined.ensures, w.if-positive-joined.false) w.first-is
     ])

@@ -43,3 +43,12 @@ returns c =
     λ w₀ o₀ q₀ room x.
     writing_layer c.args.size (block_of c.args.source c.args.samples.now c.args.readings.now) c.args.cut h.j c.args.k
     (omega (arith, c.loop-j-test.false, c.ny-rows.ensures, h.invariant.0, c.requires.0.limits.y_low)) (h.invariant.1.writing w₀ o₀ q₀ room x)
+
+pub shape_of-words : goal.shape_of-words
+shape_of-words c = state_words c.requires.3 c.loop-j.invariant.1
+
+pub shape_of-quads : goal.shape_of-quads
+shape_of-quads c = state_quads c.requires.3 c.loop-j.invariant.1
+
+pub shape_of-offsets : goal.shape_of-offsets
+shape_of-offsets c = state_offsets c.requires.3 c.loop-j.invariant.1

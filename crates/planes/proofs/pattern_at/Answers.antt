@@ -29,3 +29,8 @@ module _ (e : List ℕ) (i : ℕ) where
 pub returns-clause-value : goal.returns-clause-value
 returns-clause-value c =
     let e = summed c.args.e c.args.i _ _ _ _ c.two_bits.ensures c.two_bits-2.ensures c.two_bits-3.ensures c.two_bits-4.ensures in e
+
+pub returns-clause-upper_bound : goal.returns-clause-upper_bound
+returns-clause-upper_bound c =
+    let e = summed c.args.e c.args.i _ _ _ _ c.two_bits.ensures c.two_bits-2.ensures c.two_bits-3.ensures c.two_bits-4.ensures in
+    rw e (small c.args.e c.args.i)
