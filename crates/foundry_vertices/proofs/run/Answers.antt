@@ -1,10 +1,9 @@
 -- `run` meets its contract: the table has a bit for each vertex before the one in hand, and none of these is repeated.
 -- Assumes nothing.
-use Prim.Native.Nat.{◌*◌, ◌-◌, ◌≤◌, ◌<◌}
-use mathlib.Core.Path.{◌≡◌, ◌∙◌, sym}
+use Prim.Native.Nat.{◌*◌}
+use mathlib.Core.Path.{◌∙◌, sym}
 use borrow.Author.Rules.{rules}
 use Rattle.repeats.proofs.Tables.{run_ends, run_stops, new_more}
-use mathlib.Core.Bool.{true}
 use borrow.Author.Tests.{not-true, not-false}
 use Rattle.foundry_rule.specs.Spots.{vertex_key}
 use Rattle.foundry_vertices.proofs.run.Goals as goal
