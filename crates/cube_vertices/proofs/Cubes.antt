@@ -5,8 +5,6 @@ use mathlib.Core.Path.{◌≡◌, refl, ap, sym, ◌∙◌, subst}
 use mathlib.Core.List.Memᴰ
 use mathlib.Core.List.{List, [], ◌∷◌, map}
 use native.Mathlib.Omega.{arith}
-use types.Run.{OneOf}
-use denote.Enum.Declared.{tag_of}
 use lib.ListN.{length, take, replicate, length-map}
 use lib.Seq.{sets, take-append_seam}
 use lib.Ieee.{Float}
@@ -20,11 +18,9 @@ use Rattle.place.specs.declared.Offset.{Offset}
 use Rattle.place.specs.Place.{place_of}
 use Rattle.place.specs.Steps.{Placeable}
 use Rattle.cell.specs.declared.CubeAnswer.{CubeAnswer}
-use Rattle.cell.specs.declared.Found.{Found}
 use Rattle.cell.specs.declared.Found.TheVariants as found
 use Rattle.cell.specs.Answer.{mark_of, word_of, origin, cube_verdict, CubeAnswered}
 use Rattle.cell.proofs.Answers.{verdict-is, loop-placeable, accepted-found, accepted-loops, said-cube-injective}
-use Rattle.cell.specs.contracts.Found.{the_type}
 use Rattle.mesh_rule.specs.Buffers.{triples}
 use Rattle.mesh_rule.specs.Layers.{pairs}
 use Rattle.cube_vertices.specs.Cubes.{names_by, words_by, offsets_by, Stored, CubeWritten}

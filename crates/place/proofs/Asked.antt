@@ -2,13 +2,8 @@
 -- Assumes nothing.
 use mathlib.Core.Path.{◌≡◌, refl, sym, ap, ◌∙◌}
 use mathlib.Core.Bool.{Bool, true, false, cond}
-use mathlib.Core.Logic.{inl, inr}
-use mathlib.Core.List.{List, [], ◌∷◌}
+use mathlib.Core.List.{List}
 use Prim.Native.Nat.{ℕ}
-use native.Mathlib.Omega.{arith}
-use types.Run.{OneOf}
-use denote.Enum.Declared.{tag_of}
-use lib.Ieee.{Float}
 use Rattle.block.specs.declared.Checked.TheVariants.{Passes}
 use Rattle.block.specs.declared.Cut.{Cut}
 use Rattle.block.specs.Answer.{refuses}
@@ -17,11 +12,10 @@ use Rattle.block.specs.Rows.{threshold_row}
 use Rattle.block.proofs.Order.{passes_refuses}
 use Rattle.cube_rule.specs.Edges.{lower, upper, corner_sample}
 use Rattle.place.specs.declared.Crossing.{Crossing}
-use Rattle.place.specs.declared.Crossing.TheVariants.{Nothing, At, Refused}
+use Rattle.place.specs.declared.Crossing.TheVariants.{At}
 use Rattle.place.specs.Crossing.{edge_answer, EdgeAnswered}
 use Rattle.place.specs.Place.{fraction_at}
 use Rattle.place.specs.Steps.{Fractional}
-use Rattle.place.specs.contracts.Crossing.{the_type}
 use Rattle.place.proofs.Answers.{edge-answers-fraction}
 use Rattle.place.proofs.Fixed.{said_edge_injective}
 

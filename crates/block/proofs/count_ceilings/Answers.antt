@@ -1,8 +1,7 @@
 -- `count_ceilings` meets its contract. The invariant of both loops: n of the samples before i are at the ceiling. The measure is what is left of
 -- the samples. Assumes nothing.
-use Rattle.block.proofs.ClearRuns.{counted_all}
+use Rattle.block.proofs.ClearRuns.{counted_all, counted_none, counted_more, counted_next}
 use native.Mathlib.Omega.{arith}
-use Rattle.block.proofs.ClearRuns.{counted_none, counted_more, counted_next}
 use Rattle.block.proofs.count_ceilings.Goals as goal
 
 pub loop-i-init : goal.loop-i-init

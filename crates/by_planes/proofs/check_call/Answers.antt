@@ -1,7 +1,6 @@
 -- `check_call` meets its contract: one row after the other.
 -- Assumes nothing.
-use Rattle.std.proofs.Common.{◌≡◌, ℕ, ◌+◌, ◌*◌, ◌<◌, ◌≤◌, length, sym, refl, ap, ◌∙◌, subst, ap₂, arith, rules}
-use borrow.Author.Tests.{not-true, not-false}
+use Rattle.std.proofs.Common.{◌≡◌, ◌*◌, ◌≤◌, sym, ◌∙◌, arith}
 use Rattle.block.specs.declared.Checked.TheVariants.{Passes}
 use Rattle.block.specs.Rows.{threshold_row}
 use Rattle.by_planes.proofs.Rows.{plane_small, plane_is, work_is, call_threshold, call_past, call_plane, call_room}

@@ -1,7 +1,6 @@
 -- `finish` meets its promise.
 -- Assumes nothing.
-use Rattle.std.proofs.Common.{◌≡◌, ℕ, ◌+◌, ◌*◌, ◌<◌, ◌≤◌, length, sym, refl, ap, ◌∙◌, subst, ap₂, arith, rules}
-use borrow.Author.Tests.{not-true, not-false}
+use Rattle.std.proofs.Common.{arith}
 use Rattle.by_planes.proofs.Rows.{end_early, end_given}
 use Rattle.by_planes.proofs.finish.Goals as goal
 

@@ -1,7 +1,6 @@
 -- `start` meets its promise: row 1 refuses, or the size is made and the other rows decide.
 -- Assumes nothing.
-use Rattle.std.proofs.Common.{◌≡◌, ℕ, ◌+◌, ◌*◌, ◌<◌, ◌≤◌, length, sym, refl, ap, ◌∙◌, subst, ap₂, arith, rules}
-use borrow.Author.Tests.{not-true, not-false}
+use Rattle.std.proofs.Common.{sym, ap, ◌∙◌, subst}
 use Rattle.block.specs.declared.Checked.{Checked}
 use Rattle.block.specs.Answer.{judged}
 use Rattle.block.specs.Rows.{axis_row}

@@ -1,8 +1,7 @@
 -- `start_of` meets its contract: row 3 refuses, or row 15, or the run begins.
 -- Assumes nothing.
-use Rattle.std.proofs.Common.{◌≡◌, ℕ, ◌+◌, ◌*◌, ◌<◌, ◌≤◌, length, sym, refl, ap, ◌∙◌, subst, ap₂, arith, rules}
-use borrow.Author.Tests.{not-true, not-false}
-use Rattle.by_planes.proofs.Rows.{plane_small, work_is, start_threshold, start_short, start_begins}
+use Rattle.std.proofs.Common.{sym, ◌∙◌}
+use Rattle.by_planes.proofs.Rows.{work_is, start_threshold, start_short, start_begins}
 use Rattle.by_planes.proofs.start_of.Goals as goal
 
 pub returns-in-Refuses : goal.returns-in-Refuses

@@ -1,7 +1,6 @@
 -- `take` meets its promise: row 1 refuses, or the size is made and the other rows decide.
 -- Assumes nothing.
-use Rattle.std.proofs.Common.{◌≡◌, ℕ, ◌+◌, ◌*◌, ◌<◌, ◌≤◌, length, sym, refl, ap, ◌∙◌, subst, ap₂, arith, rules}
-use borrow.Author.Tests.{not-true, not-false}
+use Rattle.std.proofs.Common.{subst}
 use Rattle.block.specs.Rows.{axis_row}
 use Rattle.block.specs.Size.{SizeMade}
 use Rattle.block.proofs.Order.{order_refuses}

@@ -1,7 +1,6 @@
 -- `take_of` meets its contract: a row that needs no count refuses, or the first plane is remembered, or a further plane finishes a layer.
 -- Assumes nothing.
-use Rattle.std.proofs.Common.{◌≡◌, ℕ, ◌+◌, ◌*◌, ◌<◌, ◌≤◌, length, sym, refl, ap, ◌∙◌, subst, ap₂, arith, rules}
-use borrow.Author.Tests.{not-true, not-false}
+use Rattle.std.proofs.Common.{◌≡◌, ◌*◌, ◌<◌, ◌≤◌, length, sym, ◌∙◌, arith}
 use Rattle.block.specs.declared.Checked.TheVariants.{Passes}
 use Rattle.block.specs.Answer.{in_order}
 use Rattle.by_planes.specs.Answer.{call_rows}

@@ -1,8 +1,7 @@
 -- `mark` meets its contract. The loop's invariant: no corner before i is at the ceiling. The measure is what is left of the eight.
 -- Assumes nothing.
-use Rattle.cell.proofs.Words.{marked_some}
+use Rattle.cell.proofs.Words.{marked_some, marked_none}
 use native.Mathlib.Omega.{arith}
-use Rattle.cell.proofs.Words.{marked_none}
 use Rattle.cell.proofs.mark.Goals as goal
 
 pub returns-clause-value : goal.returns-clause-value

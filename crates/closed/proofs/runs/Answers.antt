@@ -1,7 +1,6 @@
 -- `runs` meets its contract: by cases on its two tests.
 -- Assumes nothing.
-use Rattle.closed.proofs.Search.{runs_both}
-use Rattle.closed.proofs.Search.{runs_other}
+use Rattle.closed.proofs.Search.{runs_both, runs_other}
 use Rattle.closed.proofs.runs.Goals as goal
 
 pub returns-then-d-b-clause-value : goal.returns-then-d-b-clause-value

@@ -1,7 +1,6 @@
 -- `sound` meets its contract: equal ends, or as many walks there as back.
 -- Assumes nothing.
-use Rattle.closed.proofs.Search.{other_ends}
-use Rattle.closed.proofs.Search.{equal_ends}
+use Rattle.closed.proofs.Search.{other_ends, equal_ends}
 use Rattle.closed.proofs.sound.Goals as goal
 
 pub returns : goal.returns

@@ -1,13 +1,11 @@
 -- `clear_heads` meets its contract: the words of the vertices before v are written, and no other.
 -- Assumes nothing.
-use mathlib.Core.Path.{refl}
-use Prim.Native.Nat.{◌-◌, ◌≤◌, ◌<◌}
+use mathlib.Core.Path.{refl, ◌≡◌}
+use Prim.Native.Nat.{◌-◌}
 use borrow.Author.Rules.{rules}
 use lib.ListN.{length}
-use Rattle.closed_with.proofs.Chains.{cleared_more}
-use mathlib.Core.Path.{◌≡◌}
+use Rattle.closed_with.proofs.Chains.{cleared_more, chained_none}
 use native.Mathlib.Omega.{arith}
-use Rattle.closed_with.proofs.Chains.{chained_none}
 use Rattle.closed_with.proofs.clear_heads.Goals as goal
 
 pub returns : goal.returns

@@ -1,7 +1,6 @@
 -- `fault_by_chains` meets its contract.
 -- Assumes nothing.
-use Rattle.closed_with.proofs.Chains.{chains_followed}
-use Rattle.closed_with.proofs.Chains.{chained_then, chains_written}
+use Rattle.closed_with.proofs.Chains.{chains_followed, chained_then, chains_written}
 use Rattle.closed_with.proofs.fault_by_chains.Goals as goal
 
 pub returns-clause-work_after : goal.returns-clause-work_after

@@ -1,12 +1,10 @@
 -- `walks_from` meets its contract: the chain of a is followed.
 -- Assumes nothing.
-use Prim.Native.Nat.{◌-◌}
-use Rattle.closed_with.proofs.Chains.{follow_end}
-use Prim.Native.Nat.{◌+◌}
+use Prim.Native.Nat.{◌-◌, ◌+◌}
+use Rattle.closed_with.proofs.Chains.{follow_end, follow_first, follow_next}
 use native.Mathlib.Omega.{arith}
 use Rattle.closed.specs.Closed.{from}
 use Rattle.closed.proofs.Chains.{first_ge}
-use Rattle.closed_with.proofs.Chains.{follow_first, follow_next}
 use Rattle.closed_with.proofs.walks_from.Goals as goal
 
 pub loop-m-init : goal.loop-m-init

@@ -1,6 +1,6 @@
 -- `cube::difference` meets its contract: two u16 are read as signed numbers, and their difference fits an i32.
 -- Assumes nothing.
-use mathlib.Core.Path.{◌≡◌, ap₂, ◌∙◌, subst⁻¹}
+use mathlib.Core.Path.{◌≡◌, ap₂, subst⁻¹}
 use lib.IntN.{ℤ, pos, ◌-ℤ◌}
 use borrow.Author.Rules.{rules}
 use mir.Syntax.{w16, w32}

@@ -4,8 +4,7 @@ use mathlib.Core.Bool.{Bool}
 use Rattle.laws.specs.Bits.{differ}
 use Rattle.block.specs.Grey.{positive}
 use Rattle.cube_rule.specs.Decider.{joined}
-use Rattle.cube.proofs.Faces.{cut_two}
-use Rattle.cube.proofs.Faces.{cut_four}
+use Rattle.cube.proofs.Faces.{cut_two, cut_four}
 use Rattle.cube.proofs.face_links.Goals.{then-positive-joined, else-positive-joined}
 use Rattle.cube.proofs.face_links.Goals as goal
 

@@ -1,15 +1,11 @@
 -- `cube::product` meets its contract: the product of two i32 fits an i64.
 -- Assumes nothing.
-use mathlib.Core.Path.{◌∙◌}
+use mathlib.Core.Path.{◌∙◌, ap₂}
 use native.Mathlib.Omega.{arith}
-use lib.IntN.{◌*ℤ◌}
-use Rattle.laws.proofs.Signed.{small32, product_fits}
-use Rattle.laws.proofs.Signed.{wide32}
-use mathlib.Core.Path.{ap₂}
-use lib.IntN.{ℤ}
+use lib.IntN.{◌*ℤ◌, ℤ}
+use Rattle.laws.proofs.Signed.{small32, product_fits, wide32, read32}
 use mir.Facts.{to_z-of_z}
 use mir.Syntax.{w64}
-use Rattle.laws.proofs.Signed.{read32}
 use Rattle.cube.proofs.product.Goals as goal
 
 pub overflow_mul-result : goal.overflow_mul-result

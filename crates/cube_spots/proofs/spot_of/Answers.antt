@@ -1,8 +1,6 @@
 -- `spot_of` meets its contract: its coordinates fit the numbers that hold them.
 -- Assumes nothing.
 use native.Mathlib.Omega.{arith}
-use Rattle.block.specs.Numbering.{X, Y, Z}
-use Rattle.mesh_rule.specs.Orientation.{coordinate}
 use Rattle.cube_spots.proofs.Inside.{spot_small}
 use Rattle.cube_spots.proofs.spot_of.Goals as goal
 

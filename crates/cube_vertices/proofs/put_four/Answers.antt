@@ -1,12 +1,10 @@
 -- `put_four` meets its contract. The loop's invariant: the first i words and places are written. The measure is what is left of n.
 -- Assumes nothing.
-use Prim.Native.Nat.{◌-◌, ◌≤◌, ◌<◌}
-use mathlib.Core.Path.{◌≡◌}
+use Prim.Native.Nat.{◌-◌, ◌<◌}
 use native.Mathlib.Omega.{arith}
-use Rattle.cube_vertices.proofs.Stored.{put_words, put_offsets}
+use Rattle.cube_vertices.proofs.Stored.{put_words, put_offsets, put_more}
 use borrow.Author.Rules.{rules}
 use lib.ListN.{length}
-use Rattle.cube_vertices.proofs.Stored.{put_more}
 use Rattle.cube_vertices.proofs.put_four.Goals as goal
 
 pub put_vertex-requires : goal.put_vertex-requires

@@ -1,12 +1,9 @@
 -- `put_decimal` meets its contract: the digits behind those that are left are put.
 -- Assumes nothing.
 use mathlib.Core.Path.{refl}
-use Rattle.file_bytes.proofs.Writing.{down_end}
-use Rattle.file_bytes.proofs.Writing.{down_inside}
-use Rattle.file_bytes.proofs.Writing.{down_start}
+use Rattle.file_bytes.proofs.Writing.{down_end, down_inside, down_start, down_more}
 use native.Mathlib.Omega.{arith}
 use lib.ListN.{length-set}
-use Rattle.file_bytes.proofs.Writing.{down_more}
 use Rattle.file_bytes.proofs.put_decimal.Goals as goal
 
 pub loop-next-preserved : goal.loop-next-preserved

@@ -1,9 +1,8 @@
 -- `put_text` meets its contract: the first i bytes are copied.
 -- Assumes nothing.
-use Rattle.file_bytes.proofs.Writing.{copy_all}
+use Rattle.file_bytes.proofs.Writing.{copy_all, copy_more}
 use native.Mathlib.Omega.{arith}
 use lib.ListN.{length-set}
-use Rattle.file_bytes.proofs.Writing.{copy_more}
 use Rattle.file_bytes.proofs.put_text.Goals as goal
 
 pub loop-i-preserved : goal.loop-i-preserved

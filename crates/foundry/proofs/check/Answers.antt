@@ -2,7 +2,6 @@
 -- Assumes nothing.
 use mathlib.Core.Path.{sym, ◌∙◌}
 use Rattle.block.proofs.Order.{orders_refuse, orders_pass}
-use borrow.Author.Rules.{rules}
 use Rattle.foundry.proofs.check.Goals as goal
 
 pub returns-in-Refuses : goal.returns-in-Refuses

@@ -2,7 +2,6 @@
 -- Assumes nothing.
 use mathlib.Core.Path.{sym, ◌∙◌}
 use Rattle.block.proofs.Order.{order_refuses, order_passes, order_last}
-use borrow.Author.Rules.{rules}
 use Rattle.foundry.proofs.check_sent.Goals as goal
 
 pub returns-in-Refuses : goal.returns-in-Refuses

@@ -4,7 +4,6 @@ use mathlib.Core.Path.{ap}
 use Rattle.block.specs.Answer.{accepted}
 use Rattle.foundry.proofs.SoundQuads.{all_inside}
 use Rattle.foundry.proofs.Outcome.{vertex_named, all_sound, quad_named, same_named, missing_named}
-use borrow.Author.Rules.{rules}
 use Rattle.foundry.proofs.compare.Goals as goal
 
 pub returns-then-v-vertices : goal.returns-then-v-vertices

@@ -7,7 +7,6 @@ use Rattle.block.proofs.Blocks.{axis_judged, made_judged}
 use Rattle.block.proofs.Sizes.{size_made}
 use mathlib.Core.List.{◌++◌}
 use Rattle.foundry.specs.Answer.{said_judgement, sent_rows, compared_with}
-use borrow.Author.Rules.{rules}
 use Rattle.foundry.proofs.judge.Goals as goal
 
 pub judge_in-requires : goal.judge_in-requires

@@ -3,7 +3,6 @@
 use mathlib.Core.Path.{sym, ◌∙◌}
 use Rattle.block.proofs.Order.{judged_refused}
 use Rattle.foundry.proofs.Rows.{sent_sampled, sent_shaped, sent_below, judged_accepts}
-use borrow.Author.Rules.{rules}
 use Rattle.foundry.proofs.judge_in.Goals as goal
 
 pub returns-in-Refuses : goal.returns-in-Refuses

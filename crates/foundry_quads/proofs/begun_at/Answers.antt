@@ -1,7 +1,6 @@
 -- `begun_at` meets its contract: the quad is begun two places before the highest cube.
 -- Assumes nothing.
-use Rattle.foundry_quads.proofs.Quads.{begun_below}
-use Rattle.foundry_quads.proofs.Quads.{begun_by_lem}
+use Rattle.foundry_quads.proofs.Quads.{begun_below, begun_by_lem}
 use Rattle.foundry_quads.proofs.begun_at.Goals as goal
 
 pub returns-clause-four_below : goal.returns-clause-four_below

@@ -1,12 +1,9 @@
 -- `lies_along` meets its contract: the first of the tests that fails decides.
 -- Assumes nothing.
-use Rattle.std.proofs.Common.{◌∙◌}
+use Rattle.std.proofs.Common.{◌∙◌, sym}
 use Rattle.foundry_quads.specs.Steps.{as_quad}
-use Rattle.foundry_quads.proofs.Parts.{along_face}
-use Rattle.foundry_quads.proofs.Parts.{along_side}
-use Rattle.std.proofs.Common.{sym}
+use Rattle.foundry_quads.proofs.Parts.{along_face, along_side, along_by_lem}
 use Rattle.laws.proofs.Tests.{and_last}
-use Rattle.foundry_quads.proofs.Parts.{along_by_lem}
 use Rattle.foundry_quads.proofs.lies_along.Goals as goal
 
 pub returns-then-u-eq0 : goal.returns-then-u-eq0

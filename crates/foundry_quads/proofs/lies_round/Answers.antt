@@ -1,9 +1,7 @@
 -- `lies_round` meets its contract: the first axis along which the quad lies decides.
 -- Assumes nothing.
 use Rattle.std.proofs.Common.{sym, ◌∙◌}
-use Rattle.foundry_quads.proofs.Parts.{or_first}
-use Rattle.foundry_quads.proofs.Parts.{or_third}
-use Rattle.foundry_quads.proofs.Parts.{or_second}
+use Rattle.foundry_quads.proofs.Parts.{or_first, or_third, or_second}
 use Rattle.foundry_quads.proofs.lies_round.Goals as goal
 
 pub returns-then-lies_along : goal.returns-then-lies_along

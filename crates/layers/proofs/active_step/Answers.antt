@@ -3,7 +3,6 @@
 use Prim.Native.Nat.{ℕ}
 use mathlib.Core.Path.{◌≡◌, sym, ◌∙◌}
 use mathlib.Core.List.{List}
-use borrow.Author.Rules.{rules}
 use lib.ListN.{length}
 use Rattle.layers.proofs.Halves.{lent_half_lem, lent_long, put_long, put_here, put_other}
 use Rattle.layers.proofs.Steps.{ready_as, quads_as, written_as}

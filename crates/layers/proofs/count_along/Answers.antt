@@ -2,11 +2,7 @@
 -- Assumes nothing.
 use Prim.Native.Nat.{ℕ, ◌*◌}
 use mathlib.Core.Path.{sym, ap, ◌∙◌}
-use mathlib.Core.List.{[]}
-use native.Mathlib.Omega.{arith}
-use borrow.Author.Rules.{rules}
-use lib.ListN.{length}
-use Rattle.layers.proofs.Steps.{step_none, step_counted}
+use Rattle.layers.proofs.Steps.{step_counted}
 use Rattle.layers.proofs.count_along.Goals as goal
 
 pub returns-clause-value : goal.returns-clause-value

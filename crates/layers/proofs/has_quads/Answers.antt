@@ -1,8 +1,6 @@
 -- `has_quads` meets its contract, case by case.
 -- Assumes nothing.
-use Rattle.layers.proofs.Steps.{has_z}
-use Rattle.layers.proofs.Steps.{has_x}
-use Rattle.layers.proofs.Steps.{has_none_x}
+use Rattle.layers.proofs.Steps.{has_z, has_x, has_none_x}
 use Rattle.layers.proofs.has_quads.Goals as goal
 
 pub returns-in-AxisZ : goal.returns-in-AxisZ

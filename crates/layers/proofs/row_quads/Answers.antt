@@ -4,7 +4,6 @@ use Prim.Native.Nat.{ℕ}
 use mathlib.Core.Path.{refl}
 use mathlib.Core.List.{List}
 use native.Mathlib.Omega.{arith}
-use borrow.Author.Rules.{rules}
 use Rattle.laws.proofs.Puts.{put_length}
 use Rattle.layers.proofs.Halves.{lent_half, lent_other, lent_half_lem, lent_other_lem, lent_long, other_long, halves_reach}
 use Rattle.layers.proofs.Steps.{x_room, y_room, z_room, quads_more, more_as}

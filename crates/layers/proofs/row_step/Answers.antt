@@ -1,7 +1,6 @@
 -- `row_step` meets its contract: a row without an active cube writes nothing, and any other is written.
 -- Assumes nothing.
 use mathlib.Core.Path.{sym, ◌∙◌}
-use borrow.Author.Rules.{rules}
 use Rattle.cube_rule.specs.Decider.{joined}
 use Rattle.cube_rule.proofs.Laws.{cube_laws}
 use Rattle.layers.proofs.Quiets.{quiet_stepped}

@@ -1,8 +1,5 @@
 -- `write_along` meets its contract: nothing where no inner edges start, else the row's quads.
 -- Assumes nothing.
-use Prim.Native.Nat.{◌+◌, ◌≤◌}
-use mathlib.Core.Path.{◌≡◌}
-use borrow.Author.Tests.{not-true}
 use Rattle.layers.proofs.Steps.{step_none, put_nothing}
 use Rattle.layers.proofs.write_along.Goals as goal
 

@@ -12,7 +12,6 @@ use Rattle.lines.specs.Output.{block_text}
 use Rattle.laws.specs.Put.{Put}
 use Rattle.reading.proofs.Axes.{at_most_eight}
 use Rattle.reading.proofs.Samples.{block_small, samples_grey, samples_front}
-use borrow.Author.Rules.{rules}
 use Rattle.lines.proofs.answer.Goals as goal
 
 pub overflow_mul-count : goal.overflow_mul-count

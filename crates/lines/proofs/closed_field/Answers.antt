@@ -1,7 +1,6 @@
 -- `closed_field` meets its contract: what the closed question answers, as 1 or 0.
 -- Assumes nothing.
 use Rattle.lines.proofs.Closing.{field_closed, field_open, field_refused}
-use borrow.Author.Rules.{rules}
 use Rattle.lines.proofs.closed_field.Goals as goal
 
 pub returns-in-Closed : goal.returns-in-Closed

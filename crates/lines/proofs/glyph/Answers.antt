@@ -1,7 +1,6 @@
 -- `glyph` meets its contract: a figure or a letter.
 -- Assumes nothing.
 use Rattle.reading.proofs.Digits.{glyph_low, glyph_high}
-use borrow.Author.Rules.{rules}
 use Rattle.lines.proofs.glyph.Goals as goal
 
 pub returns-then-d-lt10 : goal.returns-then-d-lt10

@@ -8,7 +8,6 @@ use Prim.Native.Nat.{ℕ}
 use mathlib.Core.List.{List}
 use Rattle.laws.specs.Put.{Put}
 use Rattle.lines.proofs.Blocks.{no_refusal, accepted_front}
-use borrow.Author.Rules.{rules}
 use Rattle.lines.proofs.put_block.Goals as goal
 
 pub returns-in_default : goal.returns-in_default

@@ -1,8 +1,6 @@
 -- `put_head` meets its contract: four fields and the end of the line.
 -- Assumes nothing.
-use mathlib.Core.Path.{◌∙◌}
-use Rattle.lines.proofs.Texts.{head_put, head_length}
-use borrow.Author.Rules.{rules}
+use Rattle.lines.proofs.Texts.{head_put}
 use Rattle.lines.proofs.put_head.Goals as goal
 
 pub returns-clause-put : goal.returns-clause-put

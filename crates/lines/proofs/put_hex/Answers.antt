@@ -1,11 +1,10 @@
 -- `put_hex` meets its contract: the digits above the bits that are left are put.
 -- Assumes nothing.
-use Prim.Native.Nat.{◌+◌, ◌*◌, ◌-◌, ◌≤◌}
-use mathlib.Core.Path.{◌≡◌, refl}
+use Prim.Native.Nat.{◌-◌, ◌≤◌}
+use mathlib.Core.Path.{refl}
 use native.Mathlib.Omega.{arith}
 use borrow.Author.Rules.{rules}
-use lib.ListN.{length}
-use Rattle.lines.proofs.Writing.{PutTo, hex_start, hex_digit, hex_end}
+use Rattle.lines.proofs.Writing.{hex_start, hex_digit, hex_end}
 use Rattle.lines.proofs.put_hex.Goals as goal
 
 pub loop-left-init : goal.loop-left-init

@@ -1,11 +1,9 @@
 -- `put_hex` meets its contract: the digits above the bits that are left are put.
 -- Assumes nothing.
 use Prim.Native.Nat.{◌+◌, ◌*◌, ◌-◌, ◌≤◌}
-use mathlib.Core.Path.{◌≡◌, refl}
-use native.Mathlib.Omega.{arith}
-use borrow.Author.Rules.{rules}
+use mathlib.Core.Path.{◌≡◌}
 use lib.ListN.{length}
-use Rattle.lines.proofs.Writing.{PutTo, hex_start, hex_digit, hex_end}
+use Rattle.lines.proofs.Writing.{PutTo}
 use Rattle.lines.proofs.put_hex.Given as goal
 
 abbrev pub invariant-loop-left : goal.invariant-loop-left

@@ -1,7 +1,6 @@
 -- `put_mesh` meets its contract: the head line, the vertices, the quads.
 -- Assumes nothing.
 use Rattle.lines.proofs.Texts.{mesh_put}
-use borrow.Author.Rules.{rules}
 use Rattle.lines.proofs.put_mesh.Goals as goal
 
 pub returns : goal.returns

@@ -1,8 +1,6 @@
 -- `put_quad` meets its contract: five fields and the end of the line.
 -- Assumes nothing.
-use mathlib.Core.Path.{◌∙◌}
-use Rattle.lines.proofs.Texts.{quad_put, quad_length}
-use borrow.Author.Rules.{rules}
+use Rattle.lines.proofs.Texts.{quad_put}
 use Rattle.lines.proofs.put_quad.Goals as goal
 
 pub returns-clause-put : goal.returns-clause-put

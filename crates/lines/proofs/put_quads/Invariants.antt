@@ -1,15 +1,11 @@
 -- `put_quads` meets its contract: the lines of the quads before the one in hand are put.
 -- Assumes nothing.
-use Prim.Native.Nat.{ℕ, ◌+◌, ◌*◌, ◌-◌, ◌≤◌}
-use mathlib.Core.Path.{◌≡◌, refl, ap, ◌∙◌}
-use native.Mathlib.Omega.{arith}
-use borrow.Author.Rules.{rules}
+use Prim.Native.Nat.{◌+◌, ◌*◌, ◌-◌, ◌≤◌}
+use mathlib.Core.Path.{◌≡◌}
 use lib.ListN.{length}
 use Rattle.laws.specs.Below.{below}
 use Rattle.lines.specs.Output.{quad_line}
 use Rattle.laws.specs.Put.{Put}
-use Rattle.laws.proofs.Puts.{puts_none}
-use Rattle.lines.proofs.Texts.{quad_more}
 use Rattle.lines.proofs.put_quads.Given as goal
 
 abbrev pub invariant-loop-q : goal.invariant-loop-q

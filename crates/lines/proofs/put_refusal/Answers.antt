@@ -1,7 +1,6 @@
 -- `put_refusal` meets its contract: three fields and the end of the line.
 -- Assumes nothing.
 use Rattle.lines.proofs.Texts.{refusal_put}
-use borrow.Author.Rules.{rules}
 use Rattle.lines.proofs.put_refusal.Goals as goal
 
 pub returns : goal.returns

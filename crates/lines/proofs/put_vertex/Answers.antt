@@ -1,8 +1,6 @@
 -- `put_vertex` meets its contract: six fields and the end of the line.
 -- Assumes nothing.
-use mathlib.Core.Path.{◌∙◌}
-use Rattle.lines.proofs.Texts.{vertex_put, vertex_length}
-use borrow.Author.Rules.{rules}
+use Rattle.lines.proofs.Texts.{vertex_put}
 use Rattle.lines.proofs.put_vertex.Goals as goal
 
 pub returns-clause-put : goal.returns-clause-put

@@ -3,7 +3,6 @@
 use mathlib.Core.Path.{sym}
 use native.Mathlib.Omega.{arith}
 use Rattle.mesh.proofs.BufferRows.{short_words, short_offsets, short_quads, roomy}
-use borrow.Author.Rules.{rules}
 use Rattle.mesh.proofs.check_buffers.Goals as goal
 
 pub returns-then-words-v : goal.returns-then-words-v

@@ -1,14 +1,10 @@
 -- `layers_from` meets its contract. The loop's invariant: a has the signs of plane k, and the layers before k are counted. The measure is
 -- what is left of the layers. Assumes nothing.
-use Prim.Native.Nat.{ℕ, ◌+◌, ◌-◌, ◌≤◌}
-use mathlib.Core.Path.{◌≡◌, refl, subst}
-use native.Mathlib.Omega.{arith}
-use mathlib.Core.List.{List}
+use Prim.Native.Nat.{◌-◌, ◌≤◌}
+use mathlib.Core.Path.{◌≡◌}
 use lib.ListN.{length}
-use borrow.Author.Rules.{rules}
 use Rattle.cube_rule.specs.Decider.{loops_of}
 use Rattle.signs.specs.Signs.{Plane}
-use Rattle.signs.proofs.Planes.{plane_of_lem}
 use Rattle.mesh.specs.Source.{block_of}
 use Rattle.mesh.specs.Steps.{Counting}
 use Rattle.mesh.proofs.layers_from.Given as goal

@@ -1,19 +1,17 @@
 -- `note_below` meets its contract: nothing under the first layer; else the row is read back from the words of the layer below.
 -- Assumes nothing.
-use Prim.Native.Nat.{ℕ, ◌+◌, ◌*◌, ◌-◌, ◌≤◌, ◌<◌}
-use mathlib.Core.Path.{◌≡◌, refl, sym, ap, ◌∙◌, subst}
+use Prim.Native.Nat.{ℕ, ◌+◌, ◌*◌, ◌-◌, ◌<◌}
+use mathlib.Core.Path.{◌≡◌, sym, ap, ◌∙◌, subst}
 use mathlib.Core.List.{List}
 use lib.ListN.{length, take, drop, length-drop}
 use lib.Seq.{length-take-le}
 use Rattle.cube_rule.specs.Decider.{loops_of}
-use Rattle.vertices.proofs.Layers.{row_bounds}
 use Rattle.quads.specs.Writing.{RowTable}
 use Rattle.layers.proofs.Halves.{lent_half_lem, half_long, put_long, put_here, put_other}
 use Rattle.mesh.specs.Source.{block_of}
 use Rattle.mesh.specs.Writes.{rows_count}
 use Rattle.mesh.proofs.Belows.{rows_le, read_row}
 use Rattle.mesh.proofs.Layers.{layer_words_length}
-use borrow.Author.Rules.{rules}
 use native.Mathlib.Omega.{arith}
 use Rattle.mesh.proofs.note_below.Goals as goal
 

@@ -1,13 +1,12 @@
 -- `step_readings` meets its contract: the row's windows are lent, and what is written is what the block has there.
 -- Assumes nothing.
-use Prim.Native.Nat.{ℕ, ◌+◌, ◌*◌, ◌-◌, ◌≤◌, ◌<◌}
+use Prim.Native.Nat.{ℕ, ◌+◌, ◌*◌, ◌-◌, ◌≤◌}
 use native.Mathlib.Omega.{arith}
-use borrow.Author.Rules.{rules}
 use mathlib.Core.List.{List}
 use lib.Ieee.{Float}
 use lib.ListN.{length, take, drop}
 use Rattle.vertices.proofs.CubeCorners.{Windows}
-use Rattle.vertices.proofs.Layers.{row_bounds, low_fits, high_fits, lent_windows}
+use Rattle.vertices.proofs.Layers.{low_fits, high_fits, lent_windows}
 use Rattle.readings.specs.Reading.{greys_of, Sound}
 use Rattle.readings.proofs.Readings.{greys_length, sound_part}
 use Rattle.mesh.proofs.Sources.{reading_windows}

@@ -1,11 +1,9 @@
 -- `step_samples` meets its contract: the row's windows are lent, and what is written is what the block has there.
 -- Assumes nothing.
-use Prim.Native.Nat.{◌+◌, ◌*◌, ◌-◌, ◌≤◌, ◌<◌}
-use native.Mathlib.Omega.{arith}
-use borrow.Author.Rules.{rules}
+use Prim.Native.Nat.{◌+◌, ◌*◌, ◌-◌, ◌≤◌}
 use lib.ListN.{length}
 use Rattle.vertices.proofs.CubeCorners.{Windows}
-use Rattle.vertices.proofs.Layers.{row_bounds, low_fits, high_fits, lent_low, lent_high, lent_windows}
+use Rattle.vertices.proofs.Layers.{low_fits, high_fits, lent_low, lent_high, lent_windows}
 use Rattle.mesh.proofs.RowSteps.{step_ready, row_more, underway_number, underway_roomy}
 use Rattle.mesh.proofs.step_samples.Goals as goal
 

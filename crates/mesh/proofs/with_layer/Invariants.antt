@@ -1,12 +1,9 @@
 -- `with_layer` meets its contract. The loop's invariant: the rows before j are counted. The measure is what is left of the rows.
 -- Assumes nothing.
-use Prim.Native.Nat.{◌+◌, ◌-◌, ◌≤◌, ◌<◌}
-use native.Mathlib.Omega.{arith}
-use borrow.Author.Rules.{rules}
+use Prim.Native.Nat.{◌-◌, ◌≤◌}
 use Rattle.cube_rule.specs.Decider.{loops_of}
 use Rattle.mesh.specs.Source.{block_of}
 use Rattle.mesh.specs.Steps.{Counting}
-use Rattle.mesh.proofs.Tallies.{marked_layer}
 use Rattle.mesh.proofs.with_layer.Given as goal
 
 abbrev pub invariant-loop-j : goal.invariant-loop-j

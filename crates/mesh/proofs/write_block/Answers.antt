@@ -3,18 +3,15 @@
 use Prim.Native.Nat.{ℕ, ◌+◌, ◌-◌, ◌≤◌, ◌<◌}
 use mathlib.Core.Path.{◌≡◌, refl, ap, ◌∙◌}
 use mathlib.Core.List.{List}
-use lib.ListN.{length}
 use Rattle.cube_rule.specs.Decider.{loops_of}
 use Rattle.mesh_rule.specs.Layers.{layer_first}
 use Rattle.signs.specs.Signs.{Plane}
 use Rattle.signs.proofs.Planes.{plane_of_lem}
 use Rattle.vertices.specs.Layers.{Ready}
 use Rattle.mesh.specs.Source.{block_of}
-use Rattle.mesh.specs.Writes.{Writing}
 use Rattle.mesh.proofs.Belows.{first_is}
 use Rattle.mesh.proofs.Tallies.{tallied_few}
-use Rattle.mesh.proofs.Writings.{words_kept, offsets_kept, quads_kept, writing_start, block_written}
-use borrow.Author.Rules.{rules}
+use Rattle.mesh.proofs.Writings.{writing_start, block_written}
 use native.Mathlib.Omega.{arith}
 use Rattle.mesh.proofs.write_block.Goals as goal
 

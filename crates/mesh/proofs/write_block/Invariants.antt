@@ -1,21 +1,13 @@
 -- `write_block` meets its contract. The loop's invariant: a has the signs of plane k, and the layers before k are written. The measure is
 -- what is left of the layers. Assumes nothing.
-use Prim.Native.Nat.{ℕ, ◌+◌, ◌-◌, ◌≤◌, ◌<◌}
-use mathlib.Core.Path.{◌≡◌, refl, ap, ◌∙◌}
-use mathlib.Core.List.{List}
+use Prim.Native.Nat.{◌+◌, ◌-◌, ◌≤◌, ◌<◌}
+use mathlib.Core.Path.{◌≡◌}
 use lib.ListN.{length}
 use Rattle.cube_rule.specs.Decider.{loops_of}
 use Rattle.mesh_rule.specs.Layers.{layer_first}
 use Rattle.signs.specs.Signs.{Plane}
-use Rattle.signs.proofs.Planes.{plane_of_lem}
-use Rattle.vertices.specs.Layers.{Ready}
 use Rattle.mesh.specs.Source.{block_of}
 use Rattle.mesh.specs.Writes.{Writing}
-use Rattle.mesh.proofs.Belows.{first_is}
-use Rattle.mesh.proofs.Tallies.{tallied_few}
-use Rattle.mesh.proofs.Writings.{words_kept, offsets_kept, quads_kept, writing_start, block_written}
-use borrow.Author.Rules.{rules}
-use native.Mathlib.Omega.{arith}
 use Rattle.mesh.proofs.write_block.Given as goal
 
 abbrev pub invariant-loop-k : goal.invariant-loop-k

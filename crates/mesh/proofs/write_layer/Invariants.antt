@@ -1,13 +1,9 @@
 -- `write_layer` meets its contract. The loop's invariant: the rows before j are written, and the tables of the row before are there. The measure
 -- is what is left of the rows.
 -- Assumes nothing.
-use Prim.Native.Nat.{◌+◌, ◌-◌, ◌≤◌, ◌<◌}
-use mathlib.Core.Path.{refl}
+use Prim.Native.Nat.{◌-◌, ◌≤◌}
 use Rattle.mesh.specs.Source.{block_of}
-use Rattle.mesh.proofs.LayerSteps.{RowState, state_start, below_ready, tables_ready, row_underway, state_more, state_words, state_offsets, state_quads}
-use Rattle.mesh.proofs.Writings.{writing_layer}
-use borrow.Author.Rules.{rules}
-use native.Mathlib.Omega.{arith}
+use Rattle.mesh.proofs.LayerSteps.{RowState}
 use Rattle.mesh.proofs.write_layer.Given as goal
 
 abbrev pub invariant-loop-j : goal.invariant-loop-j

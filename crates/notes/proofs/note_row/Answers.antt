@@ -1,15 +1,12 @@
 -- `note_row` meets its contract. The loop's invariant: whatever row stands there, its cubes whose first vertex is before v are noted;
 -- and whatever stands there, the vertices before v are noted one by one. The measure is what is left of the part.
 -- Assumes nothing.
-use Rattle.notes.proofs.ReadBack.{noted_all}
-use Rattle.notes.proofs.ReadBack.{noted_before}
-use Rattle.notes.proofs.ReadBack.{noted_behind}
+use Rattle.notes.proofs.ReadBack.{noted_all, noted_before, noted_behind, kept_length, passed_none, passed_end, in_part, not_before, passed_more, noted_none, noted_more}
 use Prim.Native.Nat.{◌+◌, ◌*◌, ◌-◌}
 use mathlib.Core.Path.{refl, ◌∙◌}
 use mathlib.Core.Logic.{inr}
 use mathlib.Core.List.{[], ◌∷◌}
 use Rattle.notes.specs.Tables.{which_of, is_first, four_for}
-use Rattle.notes.proofs.ReadBack.{kept_length, passed_none, passed_end, in_part, not_before, passed_more, noted_none, noted_more}
 use native.Mathlib.Omega.{arith}
 use Rattle.notes.proofs.note_row.Goals as goal
 

@@ -1,11 +1,10 @@
 -- `put` meets its contract. The loop's invariant: the first i values are over the front. The measure is what is left of them.
 -- Assumes nothing.
-use Prim.Native.Nat.{◌-◌, ◌≤◌}
-use mathlib.Core.Path.{◌≡◌, refl}
+use Prim.Native.Nat.{◌-◌}
+use mathlib.Core.Path.{refl}
 use native.Mathlib.Omega.{arith}
 use borrow.Author.Rules.{rules}
-use lib.ListN.{length, take, length-set}
-use Rattle.laws.specs.Below.{over}
+use lib.ListN.{length-set}
 use Rattle.parsniprow_c.proofs.Puts.{put_none, put_more, put_full, put_all}
 use Rattle.parsniprow_c.proofs.put.Goals as goal
 

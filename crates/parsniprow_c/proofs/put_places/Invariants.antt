@@ -1,12 +1,9 @@
 -- `put_places` meets its contract. The loop's invariant: the first i values are over the front. The measure is what is left of them.
 -- Assumes nothing.
 use Prim.Native.Nat.{◌-◌, ◌≤◌}
-use mathlib.Core.Path.{◌≡◌, refl}
-use native.Mathlib.Omega.{arith}
-use borrow.Author.Rules.{rules}
-use lib.ListN.{length, take, length-set}
+use mathlib.Core.Path.{◌≡◌}
+use lib.ListN.{length, take}
 use Rattle.laws.specs.Below.{over}
-use Rattle.parsniprow_c.proofs.Puts.{put_none, put_more, put_full, put_all}
 use Rattle.parsniprow_c.proofs.put_places.Given as goal
 
 abbrev pub invariant-loop-i : goal.invariant-loop-i

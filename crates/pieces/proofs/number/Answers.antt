@@ -1,7 +1,6 @@
 -- `number` meets its contract.
 -- Assumes nothing.
-use Rattle.pieces.proofs.Midway.{lowest_one}
-use Rattle.pieces.proofs.Midway.{numbered_one}
+use Rattle.pieces.proofs.Midway.{lowest_one, numbered_one}
 use Rattle.pieces.proofs.number.Goals as goal
 
 pub returns-clause-numbered_one : goal.returns-clause-numbered_one

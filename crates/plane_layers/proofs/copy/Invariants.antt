@@ -1,13 +1,10 @@
 -- `copy` meets its contract. The loop's invariant: the first i words stand at the front. The measure is what is left of the words.
 -- Assumes nothing.
-use Prim.Native.Nat.{◌-◌, ◌%◌, ◌≤◌}
-use mathlib.Core.Path.{◌≡◌, refl, ap, sym, ◌∙◌}
-use native.Mathlib.Omega.{arith}
-use borrow.Author.Rules.{rules}
-use lib.ListN.{length, get_or, length-set, length-replicate, replicate}
+use Prim.Native.Nat.{◌-◌, ◌≤◌}
+use mathlib.Core.Path.{◌≡◌}
+use lib.ListN.{length, get_or}
 use Rattle.laws.specs.Below.{over}
-use Rattle.laws.proofs.Over.{each, over_none, over_put, over_at, over_length}
-use Rattle.plane_layers.proofs.Copies.{copied_all}
+use Rattle.laws.proofs.Over.{each}
 use Rattle.plane_layers.proofs.copy.Given as goal
 
 abbrev pub invariant-loop-i : goal.invariant-loop-i

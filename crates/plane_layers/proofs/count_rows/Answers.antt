@@ -2,16 +2,12 @@
 -- is left of the rows.
 -- Assumes nothing.
 use Prim.Native.Nat.{ℕ, ◌+◌, ◌*◌, ◌-◌, ◌≤◌, ◌<◌}
-use mathlib.Core.Path.{◌≡◌, refl, ap, sym, ◌∙◌, subst}
-use mathlib.Core.List.{List}
+use mathlib.Core.Path.{◌≡◌, refl, ◌∙◌, subst}
 use native.Mathlib.Omega.{arith}
-use borrow.Author.Rules.{rules}
 use lib.ListN.{length}
 use Rattle.cube_rule.specs.Decider.{loops_of}
-use Rattle.plane_layers.specs.Memory.{Shown}
 use Rattle.plane_layers.specs.Layer.{RowsMarked}
 use Rattle.plane_layers.proofs.Rows.{marked_none}
-use Rattle.plane_layers.proofs.Shown.{words_in_lem, words_short}
 use Rattle.plane_layers.proofs.Steps.{row_small, counted_ready, counted_next}
 use Rattle.plane_layers.proofs.count_rows.Goals as goal
 

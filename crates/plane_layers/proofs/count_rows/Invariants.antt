@@ -1,18 +1,13 @@
 -- `count_rows` meets its contract. The loop's invariant: whatever block has these planes, the marks are moved by its rows before j. The measure is what
 -- is left of the rows.
 -- Assumes nothing.
-use Prim.Native.Nat.{ℕ, ◌+◌, ◌*◌, ◌-◌, ◌≤◌, ◌<◌}
-use mathlib.Core.Path.{◌≡◌, refl, ap, sym, ◌∙◌, subst}
+use Prim.Native.Nat.{ℕ, ◌-◌, ◌≤◌}
+use mathlib.Core.Path.{◌≡◌}
 use mathlib.Core.List.{List}
-use native.Mathlib.Omega.{arith}
-use borrow.Author.Rules.{rules}
 use lib.ListN.{length}
 use Rattle.cube_rule.specs.Decider.{loops_of}
 use Rattle.plane_layers.specs.Memory.{Shown}
 use Rattle.plane_layers.specs.Layer.{RowsMarked}
-use Rattle.plane_layers.proofs.Rows.{marked_none}
-use Rattle.plane_layers.proofs.Shown.{words_in_lem, words_short}
-use Rattle.plane_layers.proofs.Steps.{row_small, counted_ready, counted_next}
 use Rattle.plane_layers.proofs.count_rows.Given as goal
 
 abbrev pub invariant-loop-j : goal.invariant-loop-j

@@ -1,10 +1,7 @@
 -- `grow` meets its contract: the layer is counted, rows 5 and 6 refuse, or the layer is written and remembered.
 -- Assumes nothing.
-use Prim.Native.Nat.{ℕ, ◌+◌, ◌*◌, ◌≤◌}
-use mathlib.Core.Path.{◌≡◌, refl, ap, sym, ◌∙◌}
+use mathlib.Core.Path.{refl, ap, sym, ◌∙◌}
 use native.Mathlib.Omega.{arith}
-use borrow.Author.Rules.{rules}
-use lib.ListN.{length}
 use Rattle.mesh.specs.declared.Totals.{Totals}
 use Rattle.plane_layers.specs.Layer.{SignsReady}
 use Rattle.plane_layers.proofs.Grown.{signs_fit, signs_ready, layer_few, grown_refused, layer_roomy, grown_passed}

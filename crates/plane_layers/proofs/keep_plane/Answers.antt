@@ -1,13 +1,12 @@
 -- `keep_plane` meets its contract. The loop's invariant: the first i words of the plane stand at the front. The measure is what is left of the pairs.
 -- Assumes nothing.
-use Prim.Native.Nat.{ℕ, ◌+◌, ◌*◌, ◌-◌, ◌/◌, ◌%◌, ◌≤◌, ◌<◌}
-use mathlib.Core.Path.{◌≡◌, refl, ap, sym, ◌∙◌, subst}
+use Prim.Native.Nat.{ℕ, ◌-◌, ◌/◌}
+use mathlib.Core.Path.{◌≡◌, refl, ◌∙◌, subst}
 use native.Mathlib.Omega.{arith}
-use borrow.Author.Rules.{rules}
-use lib.ListN.{length, get_or, set, length-set}
+use lib.ListN.{length, set, length-set}
 use Rattle.laws.specs.Below.{over}
 use Rattle.plane_layers.specs.Memory.{packed}
-use Rattle.laws.proofs.Over.{each, over_none, over_put}
+use Rattle.laws.proofs.Over.{over_none, over_put}
 use Rattle.plane_layers.proofs.Copies.{word_at, packed_even, packed_odd}
 use Rattle.plane_layers.proofs.keep_plane.Goals as goal
 

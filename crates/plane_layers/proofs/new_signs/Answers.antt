@@ -1,11 +1,10 @@
 -- `new_signs` meets its contract. The loop's invariant: the signs of the rows before j stand there. The measure is what is left of the rows.
 -- Assumes nothing.
-use Prim.Native.Nat.{ℕ, ◌+◌, ◌*◌, ◌-◌, ◌≤◌, ◌<◌}
-use mathlib.Core.Path.{◌≡◌, refl, ap, sym, ◌∙◌}
+use Prim.Native.Nat.{ℕ, ◌+◌, ◌*◌, ◌-◌, ◌<◌}
+use mathlib.Core.Path.{◌≡◌, refl, ◌∙◌}
 use native.Mathlib.Omega.{arith}
-use borrow.Author.Rules.{rules}
 use lib.ListN.{length, get_or, take, drop}
-use Rattle.plane_layers.specs.Memory.{SignedTo, item_at}
+use Rattle.plane_layers.specs.Memory.{item_at}
 use Rattle.plane_layers.proofs.Signed.{signed_more, row_in, lent_row}
 use Rattle.plane_layers.proofs.new_signs.Goals as goal
 

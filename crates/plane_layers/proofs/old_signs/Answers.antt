@@ -1,12 +1,11 @@
 -- `old_signs` meets its contract. The loop's invariant: the signs of the rows before j stand there. The measure is what is left of the rows.
 -- Assumes nothing.
-use Prim.Native.Nat.{ℕ, ◌+◌, ◌*◌, ◌-◌, ◌/◌, ◌%◌, ◌≤◌, ◌<◌}
-use mathlib.Core.Path.{◌≡◌, refl, ap, sym, ◌∙◌}
+use Prim.Native.Nat.{ℕ, ◌+◌, ◌*◌, ◌-◌, ◌/◌, ◌≤◌, ◌<◌}
+use mathlib.Core.Path.{◌≡◌, ◌∙◌}
 use native.Mathlib.Omega.{arith}
-use borrow.Author.Rules.{rules}
 use lib.ListN.{length, get_or}
-use Rattle.plane_layers.specs.Memory.{SignedTo, sample_in}
-use Rattle.plane_layers.proofs.Signed.{signed_more, row_in, words_for, front_for, words_long, lent_window}
+use Rattle.plane_layers.specs.Memory.{sample_in}
+use Rattle.plane_layers.proofs.Signed.{signed_more, row_in, front_for, lent_window}
 use Rattle.plane_layers.proofs.old_signs.Goals as goal
 
 pub loop-j-preserved : goal.loop-j-preserved

@@ -1,12 +1,9 @@
 -- `old_signs` meets its contract. The loop's invariant: the signs of the rows before j stand there. The measure is what is left of the rows.
 -- Assumes nothing.
-use Prim.Native.Nat.{ℕ, ◌+◌, ◌*◌, ◌-◌, ◌/◌, ◌%◌, ◌≤◌, ◌<◌}
-use mathlib.Core.Path.{◌≡◌, refl, ap, sym, ◌∙◌}
-use native.Mathlib.Omega.{arith}
-use borrow.Author.Rules.{rules}
-use lib.ListN.{length, get_or}
+use Prim.Native.Nat.{◌-◌, ◌≤◌}
+use mathlib.Core.Path.{◌≡◌}
+use lib.ListN.{length}
 use Rattle.plane_layers.specs.Memory.{SignedTo, sample_in}
-use Rattle.plane_layers.proofs.Signed.{signed_more, row_in, words_for, front_for, words_long, lent_window}
 use Rattle.plane_layers.proofs.old_signs.Given as goal
 
 abbrev pub invariant-loop-j : goal.invariant-loop-j

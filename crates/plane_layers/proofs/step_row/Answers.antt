@@ -1,11 +1,10 @@
 -- `step_row` meets its contract: the row's windows are made or lent, and what is written is the row of every block that has the planes.
 -- Assumes nothing.
-use Prim.Native.Nat.{ℕ, ◌+◌, ◌*◌, ◌-◌, ◌≤◌, ◌<◌}
+use Prim.Native.Nat.{◌+◌, ◌*◌, ◌-◌, ◌≤◌}
 use mathlib.Core.Path.{◌≡◌, ◌∙◌}
 use native.Mathlib.Omega.{arith}
-use borrow.Author.Rules.{rules}
 use lib.ListN.{length}
-use Rattle.plane_layers.proofs.Shown.{words_in_lem, words_short}
+use Rattle.plane_layers.proofs.Shown.{words_short}
 use Rattle.plane_layers.proofs.Steps.{row_small, written_ready, row_taken}
 use Rattle.plane_layers.proofs.step_row.Goals as goal
 

@@ -2,14 +2,11 @@
 -- the rows.
 -- Assumes nothing.
 use Prim.Native.Nat.{ℕ, ◌+◌, ◌*◌, ◌-◌, ◌%◌, ◌≤◌, ◌<◌}
-use mathlib.Core.Path.{◌≡◌, refl, ap, ap₂, sym, ◌∙◌}
+use mathlib.Core.Path.{◌≡◌, refl, ap, ap₂, ◌∙◌}
 use native.Mathlib.Omega.{arith}
-use borrow.Author.Rules.{rules}
 use lib.ListN.{length}
-use Rattle.cube_rule.specs.Decider.{loops_of}
 use Rattle.plane_layers.specs.Memory.{table_at}
-use Rattle.plane_layers.specs.Layer.{RowsState}
-use Rattle.plane_layers.proofs.Writes.{state_none, table_small, fetch_fits, keep_fits, under_long, row_ready, state_more, state_all, ready_same, signs_same}
+use Rattle.plane_layers.proofs.Writes.{state_none, table_small, fetch_fits, keep_fits, row_ready, state_more, state_all, ready_same, signs_same}
 use Rattle.plane_layers.proofs.write_rows.Goals as goal
 
 pub loop-j-init : goal.loop-j-init

@@ -1,15 +1,11 @@
 -- `write_rows` meets its contract. The loop's invariant: the rows before j are written, and their numbers are remembered. The measure is what is left of
 -- the rows.
 -- Assumes nothing.
-use Prim.Native.Nat.{ℕ, ◌+◌, ◌*◌, ◌-◌, ◌%◌, ◌≤◌, ◌<◌}
-use mathlib.Core.Path.{◌≡◌, refl, ap, ap₂, sym, ◌∙◌}
-use native.Mathlib.Omega.{arith}
-use borrow.Author.Rules.{rules}
+use Prim.Native.Nat.{◌-◌, ◌≤◌}
+use mathlib.Core.Path.{◌≡◌}
 use lib.ListN.{length}
 use Rattle.cube_rule.specs.Decider.{loops_of}
-use Rattle.plane_layers.specs.Memory.{table_at}
 use Rattle.plane_layers.specs.Layer.{RowsState}
-use Rattle.plane_layers.proofs.Writes.{state_none, table_small, fetch_fits, keep_fits, under_long, row_ready, state_more, state_all, ready_same, signs_same}
 use Rattle.plane_layers.proofs.write_rows.Given as goal
 
 abbrev pub invariant-loop-j : goal.invariant-loop-j

@@ -1,8 +1,7 @@
 -- `inner` meets its contract: the places before the last, and in the first word not the first.
 -- Assumes nothing.
-use Rattle.planes.proofs.Masks.{inner_other}
+use Rattle.planes.proofs.Masks.{inner_other, inner_first}
 use mathlib.Core.Path.{◌∙◌}
-use Rattle.planes.proofs.Masks.{inner_first}
 use Rattle.planes.proofs.inner.Goals as goal
 
 pub returns-then-w-eq0 : goal.returns-then-w-eq0

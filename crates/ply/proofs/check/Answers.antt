@@ -4,7 +4,6 @@ use mathlib.Core.Path.{sym, subst, ◌∙◌}
 use Rattle.block.specs.Size.{SizeMade}
 use Rattle.block.proofs.Sizes.{size_made}
 use Rattle.ply.proofs.Rows.{axis_refuses, vertices_refuse, faces_decide, few_vertices}
-use borrow.Author.Rules.{rules}
 use Rattle.ply.proofs.check.Goals as goal
 
 pub check-listed-requires : goal.check-listed-requires

@@ -4,7 +4,6 @@ use Prim.Native.Nat.{ℕ}
 use mathlib.Core.Path.{sym, ap, ◌∙◌}
 use Rattle.block.proofs.Order.{order_refuses, order_passes, order_last}
 use Rattle.block.specs.Rows.{room_row}
-use borrow.Author.Rules.{rules}
 use Rattle.ply.proofs.check_faces.Goals as goal
 
 pub returns-in-Refuses : goal.returns-in-Refuses

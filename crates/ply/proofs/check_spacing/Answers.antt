@@ -2,10 +2,8 @@
 -- Assumes nothing.
 use mathlib.Core.Path.{◌≡◌, sym, ap, ◌∙◌}
 use mathlib.Core.Bool.{Bool, not}
-use borrow.Author.Tests.{not-true, not-false}
 use Rattle.block.proofs.Lowest.{first_of_three, second_of_three, third_of_three, none_of_three}
 use Rattle.ply.specs.Rows.{bad_spacing}
-use borrow.Author.Rules.{rules}
 use Rattle.ply.proofs.check_spacing.Goals as goal
 
 -- a test that answered b of a good spacing says the other of a bad one

@@ -1,7 +1,6 @@
 -- `put_coordinate` meets its contract.
 -- Assumes nothing.
 use Rattle.ply.specs.File.{millimetres, double}
-use borrow.Author.Rules.{rules}
 use Rattle.ply.proofs.put_coordinate.Goals as goal
 
 pub float_to_bits-cube : goal.float_to_bits-cube

@@ -1,9 +1,7 @@
 -- `put_face` meets its contract: how many numbers, and each of them.
 -- Assumes nothing.
 use native.Mathlib.Omega.{arith}
-use mathlib.Core.Path.{◌∙◌}
-use Rattle.ply.proofs.Files.{face_put, face_length}
-use borrow.Author.Rules.{rules}
+use Rattle.ply.proofs.Files.{face_put}
 use Rattle.ply.proofs.put_face.Goals as goal
 
 pub returns-clause-put : goal.returns-clause-put

@@ -1,15 +1,11 @@
 -- `put_faces` meets its contract: the faces before the one in hand are put.
 -- Assumes nothing.
 use Prim.Native.Nat.{◌+◌, ◌*◌, ◌-◌, ◌≤◌}
-use mathlib.Core.Path.{◌≡◌, refl, ◌∙◌}
-use native.Mathlib.Omega.{arith}
+use mathlib.Core.Path.{◌≡◌}
 use lib.ListN.{length}
 use Rattle.laws.specs.Below.{below}
 use Rattle.laws.specs.Put.{Put}
-use Rattle.laws.proofs.Puts.{puts_none}
 use Rattle.ply.specs.File.{face_bytes}
-use Rattle.ply.proofs.Files.{face_more}
-use borrow.Author.Rules.{rules}
 use Rattle.ply.proofs.put_faces.Given as goal
 
 abbrev pub invariant-loop-q : goal.invariant-loop-q

@@ -1,13 +1,10 @@
 -- `put_file` meets its contract: the header, the vertices and the faces.
 -- Assumes nothing.
 use native.Mathlib.Omega.{arith}
-use Prim.Native.Nat.{◌/◌}
 use lib.ListN.{length}
 use Rattle.block.specs.Size.{size_of}
-use Rattle.ply.specs.Words.{AllNumbers}
-use Rattle.ply.proofs.Accepted.{Accepted, accepted_is, all_numbers}
+use Rattle.ply.proofs.Accepted.{accepted_is, all_numbers}
 use Rattle.ply.proofs.Files.{file_put}
-use borrow.Author.Rules.{rules}
 use Rattle.ply.proofs.put_file.Goals as goal
 
 pub put_header-a-requires : goal.put_header-a-requires

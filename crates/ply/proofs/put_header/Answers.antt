@@ -1,11 +1,9 @@
 -- `put_header` meets its contract: three texts, with the counts between them.
 -- Assumes nothing.
 use mathlib.Core.Path.{refl}
-use native.Mathlib.Omega.{arith}
 use Rattle.file_bytes.specs.Bytes.{ascii}
 use Rattle.ply.specs.File.{header}
-use Rattle.ply.proofs.Files.{header_put, header_length_lem}
-use borrow.Author.Rules.{rules}
+use Rattle.ply.proofs.Files.{header_put}
 use Rattle.ply.proofs.put_header.Goals as goal
 
 pub returns-clause-put : goal.returns-clause-put

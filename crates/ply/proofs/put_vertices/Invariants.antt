@@ -1,17 +1,12 @@
 -- `put_vertices` meets its contract: the vertices before the one in hand are put.
 -- Assumes nothing.
-use borrow.Author.Rules.{rules}
-use Prim.Native.Nat.{ℕ, ◌+◌, ◌*◌, ◌-◌, ◌≤◌}
-use mathlib.Core.Path.{◌≡◌, refl, ap, ◌∙◌}
-use native.Mathlib.Omega.{arith}
+use Prim.Native.Nat.{◌+◌, ◌*◌, ◌-◌, ◌≤◌}
+use mathlib.Core.Path.{◌≡◌}
 use lib.ListN.{length}
 use Rattle.laws.specs.Below.{below}
 use Rattle.laws.specs.Put.{Put}
-use Rattle.laws.proofs.Puts.{puts_none}
 use Rattle.block.specs.Size.{size_of}
 use Rattle.ply.specs.File.{vertex_bytes}
-use Rattle.ply.proofs.Accepted.{three_numbers}
-use Rattle.ply.proofs.Files.{vertex_more}
 use Rattle.ply.proofs.put_vertices.Given as goal
 
 abbrev pub invariant-loop-v : goal.invariant-loop-v

@@ -2,7 +2,6 @@
 -- Assumes nothing.
 use mathlib.Core.Path.{sym, ◌∙◌}
 use Rattle.ply.proofs.Written.{file_refused, file_written}
-use borrow.Author.Rules.{rules}
 use Rattle.ply.proofs.write.Goals as goal
 
 pub returns-in-Refuses : goal.returns-in-Refuses

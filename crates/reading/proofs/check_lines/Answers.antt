@@ -1,15 +1,12 @@
 -- `check_lines` meets its contract: all rows before the one in hand are right.
 -- Assumes nothing.
-use Prim.Native.Nat.{ℕ, ◌-◌, ◌≤◌}
-use mathlib.Core.Path.{◌≡◌}
+use Prim.Native.Nat.{ℕ, ◌-◌, ◌+◌}
+use mathlib.Core.Path.{◌≡◌, sym, ◌∙◌}
 use borrow.Author.Rules.{rules}
 use Rattle.laws.proofs.Leading.{before_more}
 use Rattle.block.specs.declared.Checked.TheVariants.{Passes}
-use Rattle.reading.proofs.Rows.{row_check, next_row}
-use Prim.Native.Nat.{◌+◌}
-use mathlib.Core.Path.{sym, ◌∙◌}
+use Rattle.reading.proofs.Rows.{row_check, next_row, at_row, row_refuses, behind_rows, surplus_passes, surplus_refuses}
 use native.Mathlib.Omega.{arith}
-use Rattle.reading.proofs.Rows.{at_row, row_refuses, behind_rows, surplus_passes, surplus_refuses}
 use Rattle.reading.proofs.check_lines.Goals as goal
 
 pub returns-in-Refuses : goal.returns-in-Refuses

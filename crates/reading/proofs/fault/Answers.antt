@@ -2,9 +2,8 @@
 -- Assumes nothing.
 use mathlib.Core.Path.{refl, ◌∙◌}
 use native.Mathlib.Omega.{arith}
-use Rattle.reading.proofs.Faults.{by_missing, row_of_lem}
+use Rattle.reading.proofs.Faults.{by_missing, row_of_lem, by_early}
 use Rattle.reading.specs.Faults.{line_column}
-use Rattle.reading.proofs.Faults.{by_early}
 use Rattle.reading.proofs.fault.Goals as goal
 
 pub returns-then-column-eq0 : goal.returns-then-column-eq0

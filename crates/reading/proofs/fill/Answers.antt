@@ -1,9 +1,8 @@
 -- `fill` meets its contract: the samples before the one in hand stand at the front of the buffer.
 -- Assumes nothing.
 use Prim.Native.Nat.{ℕ, ◌+◌, ◌*◌, ◌-◌, ◌/◌, ◌%◌, ◌≤◌, ◌<◌}
-use mathlib.Core.Path.{◌≡◌}
-use Rattle.reading.proofs.Reading.{sample_place_small}
 use mathlib.Core.Path.{refl}
+use Rattle.reading.proofs.Reading.{sample_place_small}
 use native.Mathlib.Omega.{arith}
 use borrow.Author.Rules.{rules}
 use Rattle.laws.proofs.Over.{over_none, over_put}

@@ -2,15 +2,13 @@
 -- made. Assumes nothing.
 use Prim.Native.Nat.{ℕ, ◌-◌, ◌≤◌}
 use mathlib.Core.Path.{◌≡◌, refl, sym, ◌∙◌, subst}
-use native.Mathlib.Omega.{arith}
-use borrow.Author.Rules.{rules}
 use lib.ListN.{length, take, drop}
 use Rattle.cube_rule.specs.Decider.{joined, loops_of}
 use Rattle.cube_rule.proofs.Laws.{cube_laws}
 use Rattle.layers.specs.Steps.{MarksBy, RowCounted}
 use Rattle.layers.proofs.Quiets.{quiet_counted}
 use Rattle.readings.specs.Reading.{greys_of}
-use Rattle.rows.specs.Rows.{row_masks, RowReady}
+use Rattle.rows.specs.Rows.{row_masks}
 use Rattle.reading_rows.proofs.Windows.{low_long, high_long, plain_few, window_lent, windows_as}
 use Rattle.reading_rows.proofs.row_counts.Goals as goal
 

@@ -3,11 +3,8 @@
 use mathlib.Core.Path.{ap, ◌∙◌}
 use Prim.Native.Nat.{◌*◌}
 use native.Mathlib.Omega.{arith}
-use borrow.Author.Rules.{rules}
-use lib.ListN.{length}
 use lib.Seq.{sets}
-use Rattle.signs.specs.Steps.{BitBytes}
-use Rattle.signs.proofs.Rows.{bytes_bits, five_words_lem}
+use Rattle.signs.proofs.Rows.{five_words_lem}
 use Rattle.readings.specs.Reading.{greys_of}
 use Rattle.readings.proofs.Readings.{greys_length}
 use Rattle.reading_rows.proofs.Windows.{bytes_as}

@@ -1,12 +1,10 @@
 -- `sign_bytes` meets its contract. The loop's invariant: the first i bytes are the signs of the first i readings, and the others are 0. The measure
 -- is the number of readings left.
 -- Assumes nothing.
-use mathlib.Core.Path.{◌≡◌, refl, subst, ◌∙◌}
-use Prim.Native.Nat.{ℕ, ◌-◌, ◌≤◌, ◌<◌}
+use mathlib.Core.Path.{refl, ◌∙◌}
+use Prim.Native.Nat.{◌-◌, ◌<◌}
 use native.Mathlib.Omega.{arith}
-use borrow.Author.Rules.{rules}
 use lib.ListN.{length, length-set}
-use Rattle.signs.specs.Steps.{SignBytes}
 use Rattle.signs.proofs.Rows.{bytes_none, bytes_more}
 use Rattle.readings.specs.Reading.{greys_of}
 use Rattle.reading_rows.proofs.Windows.{sign_is}

@@ -1,6 +1,5 @@
 -- `window` meets its contract.
 -- Assumes nothing.
-use borrow.Author.Rules.{rules}
 use Rattle.reading_rows.proofs.Windows.{window_filled}
 use Rattle.reading_rows.proofs.window.Goals as goal
 

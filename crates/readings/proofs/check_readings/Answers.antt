@@ -1,10 +1,9 @@
 -- `check_readings` meets its contract. The loop's invariant: none of the first p readings is at fault. The measure is what is left of the readings.
 -- Assumes nothing.
 use Prim.Native.Nat.{◌-◌}
-use Rattle.readings.proofs.Rows.{sound_none}
+use Rattle.readings.proofs.Rows.{sound_none, row_passes, sound_run, sound_all}
 use mathlib.Core.Path.{sym}
 use native.Mathlib.Omega.{arith}
-use Rattle.readings.proofs.Rows.{row_passes, sound_run, sound_all}
 use Rattle.readings.proofs.check_readings.Goals as goal
 
 pub loop-p-preserved : goal.loop-p-preserved

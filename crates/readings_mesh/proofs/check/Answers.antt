@@ -1,7 +1,6 @@
 -- `check` meets its contract: the first of rows 2, 3 and 19 to 21 that refuses decides.
 -- Assumes nothing.
 use mathlib.Core.Path.{◌≡◌, sym, ◌∙◌}
-use borrow.Author.Rules.{rules}
 use lib.ListN.{length}
 use Rattle.block.specs.declared.Checked.TheVariants.{Passes}
 use Rattle.block.specs.Rows.{count_row}

@@ -7,7 +7,6 @@ use Rattle.block.proofs.Sizes.{size_made}
 use Rattle.mesh.specs.Answer.{counts_of, said_counts}
 use Rattle.readings.specs.Reading.{greys_of}
 use Rattle.readings_mesh.specs.Answer.{reading_rows}
-use borrow.Author.Rules.{rules}
 use Rattle.readings_mesh.proofs.counts.Goals as goal
 
 pub counts_of-requires : goal.counts_of-requires

@@ -1,7 +1,6 @@
 -- `counts_of_lem` meets its contract: a refusal of rows 2, 3 and 19 to 21, or the counts of the block so obtained.
 -- Assumes nothing.
 use mathlib.Core.Path.{◌≡◌, sym, ◌∙◌}
-use borrow.Author.Rules.{rules}
 use Rattle.block.specs.declared.Checked.TheVariants.{Passes}
 use Rattle.block.specs.Answer.{in_order}
 use Rattle.block.proofs.Order.{judged_refused, judged_passed}

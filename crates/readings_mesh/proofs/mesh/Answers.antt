@@ -6,7 +6,6 @@ use Rattle.readings_mesh.specs.Answer.{reading_rows}
 use Rattle.block.specs.Size.{SizeMade}
 use Rattle.block.proofs.Sizes.{size_made}
 use Rattle.mesh.proofs.Verdicts.{mesh_bad_axis, mesh_made}
-use borrow.Author.Rules.{rules}
 use Rattle.readings_mesh.proofs.mesh.Goals as goal
 
 pub mesh_of-requires : goal.mesh_of-requires

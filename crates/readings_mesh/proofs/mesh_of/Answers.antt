@@ -1,7 +1,6 @@
 -- `mesh_of` meets its contract: rows 2, 3 and 19 to 21 refuse, or leave it to rows 5 and 6 and the mesh.
 -- Assumes nothing.
 use mathlib.Core.Path.{◌≡◌, sym, ◌∙◌}
-use borrow.Author.Rules.{rules}
 use Rattle.block.specs.declared.Checked.TheVariants.{Passes}
 use Rattle.block.specs.Answer.{in_order}
 use Rattle.mesh.proofs.MeshSteps.{early_refused, early_passed}

@@ -1,13 +1,11 @@
 -- `block_edges` meets its contract. The loop's invariant: a has the signs of plane k, and m is the tally up to that plane. The measure is what is left of
 -- the planes. Assumes nothing.
-use Prim.Native.Nat.{◌+◌, ◌-◌, ◌*◌, ◌≤◌}
-use mathlib.Core.Path.{◌≡◌, refl, ◌∙◌}
+use Prim.Native.Nat.{◌+◌, ◌-◌}
+use mathlib.Core.Path.{refl, ◌∙◌}
 use native.Mathlib.Omega.{arith}
-use lib.ListN.{length}
-use borrow.Author.Rules.{rules}
 use Rattle.signs.specs.Signs.{Plane}
 use Rattle.signs.proofs.Planes.{plane_of_lem}
-use Rattle.room.proofs.Tallies.{tally, tally_first, tally_next, tally_all}
+use Rattle.room.proofs.Tallies.{tally_first, tally_next, tally_all}
 use Rattle.room.proofs.block_edges.Goals as goal
 
 pub loop-k-init : goal.loop-k-init

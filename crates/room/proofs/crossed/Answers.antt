@@ -7,7 +7,6 @@ use Rattle.block.proofs.Blocks.{axis_judged, made_judged}
 use Rattle.block.proofs.Sizes.{size_made}
 use Rattle.room.specs.Answer.{said_crossed}
 use Rattle.room.specs.Crossed.{crossed_count}
-use borrow.Author.Rules.{rules}
 use Rattle.room.proofs.crossed.Goals as goal
 
 pub crossed_of-requires : goal.crossed_of-requires

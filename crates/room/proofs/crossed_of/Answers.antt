@@ -8,7 +8,6 @@ use Rattle.block.specs.Block.{block_rows}
 use Rattle.block.proofs.Blocks.{sampled_of}
 use Rattle.block.proofs.Order.{judged_refused, judged_passed}
 use Rattle.room.proofs.Most.{most_edges}
-use borrow.Author.Rules.{rules}
 use Rattle.room.proofs.crossed_of.Goals as goal
 
 pub returns-in-Refuses : goal.returns-in-Refuses

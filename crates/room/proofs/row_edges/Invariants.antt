@@ -1,15 +1,8 @@
 -- `row_edges` meets its contract. The loop's invariant: m is the sum over the first w words of the row. The measure is what is left of the four.
 -- Assumes nothing.
-use borrow.Author.Rules.{rules}
-use native.Mathlib.Nat.{le_antisymm}
-use native.Mathlib.Omega.{arith}
-use mathlib.Core.Path.{◌≡◌, sym, ap, ◌∙◌}
-use Prim.Native.Nat.{ℕ, ◌+◌, ◌-◌, ◌*◌, ◌≤◌}
-use lib.Bits.{bit_and}
-use lib.Count.{ones}
-use lib.ListN.{get_or}
+use mathlib.Core.Path.{◌≡◌}
+use Prim.Native.Nat.{◌-◌, ◌*◌, ◌≤◌}
 use Rattle.laws.specs.Counting.{total}
-use Rattle.laws.proofs.Sums.{total_none, total_one}
 use Rattle.room.specs.Steps.{word_edges}
 use Rattle.room.proofs.row_edges.Given as goal
 

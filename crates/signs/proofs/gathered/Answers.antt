@@ -4,7 +4,6 @@
 use mathlib.Core.Path.{◌≡◌, ap, ◌∙◌}
 use Prim.Native.Nat.{ℕ, ◌+◌, ◌-◌, ◌*◌, ◌≤◌}
 use native.Mathlib.Omega.{arith}
-use borrow.Author.Rules.{rules}
 use lib.ListN.{length}
 use Rattle.laws.specs.Pack.{pack}
 use Rattle.signs.proofs.Spread.{spread_at, part_long, part_word, spread_none, spread_more, spread_exchanged}

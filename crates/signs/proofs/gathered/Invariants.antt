@@ -1,13 +1,10 @@
 -- `gathered` meets its contract. The loop's invariant: y holds the first 8 k bytes of the word, byte 8 j + l as bit j of the byte l. The measure is
 -- what is left of the 8. With rows and columns exchanged, all 64 stand in order.
 -- Assumes nothing.
-use mathlib.Core.Path.{◌≡◌, ap, ◌∙◌}
-use Prim.Native.Nat.{ℕ, ◌+◌, ◌-◌, ◌*◌, ◌≤◌}
-use native.Mathlib.Omega.{arith}
-use borrow.Author.Rules.{rules}
-use lib.ListN.{length}
+use mathlib.Core.Path.{◌≡◌}
+use Prim.Native.Nat.{◌-◌, ◌≤◌}
 use Rattle.laws.specs.Pack.{pack}
-use Rattle.signs.proofs.Spread.{spread_at, part_long, part_word, spread_none, spread_more, spread_exchanged}
+use Rattle.signs.proofs.Spread.{spread_at}
 use Rattle.signs.proofs.gathered.Given as goal
 
 abbrev pub invariant-loop-k : goal.invariant-loop-k

@@ -1,15 +1,13 @@
 -- `plane_signs` meets its contract. The loop's invariant: the words of the first j rows stand at the front of the buffer, and the rest is as it
 -- was. The measure is the number of rows left. Assumes nothing.
-use mathlib.Core.Path.{◌≡◌, ap, ◌∙◌}
+use mathlib.Core.Path.{ap, ◌∙◌}
 use mathlib.Core.List.{List}
 use Prim.Native.Nat.{ℕ, ◌+◌, ◌-◌, ◌*◌, ◌≤◌}
 use lib.ListN.{length}
 use Rattle.laws.specs.Below.{over}
-use Rattle.laws.proofs.Over.{each, over_none}
-use Rattle.signs.specs.Steps.{plane_from}
+use Rattle.laws.proofs.Over.{over_none}
 use Rattle.signs.proofs.Planes.{rows_small, rows_room, plane_made}
 use Rattle.signs.proofs.RowSigns.{row_short, row_stored}
-use borrow.Author.Rules.{rules}
 use native.Mathlib.Omega.{arith}
 use Rattle.signs.proofs.plane_signs.Goals as goal
 

@@ -1,13 +1,10 @@
 -- `row_bytes` meets its contract. The loop's invariant: the first i bytes are the signs of the first i samples, and the others are 0. The measure
 -- is the number of samples left.
 -- Assumes nothing.
-use mathlib.Core.Path.{◌≡◌, refl, subst, ◌∙◌}
-use Prim.Native.Nat.{ℕ, ◌-◌, ◌≤◌, ◌<◌}
-use native.Mathlib.Omega.{arith}
-use borrow.Author.Rules.{rules}
-use lib.ListN.{length, length-set}
+use mathlib.Core.Path.{◌≡◌}
+use Prim.Native.Nat.{◌-◌, ◌≤◌}
+use lib.ListN.{length}
 use Rattle.signs.specs.Steps.{SignBytes}
-use Rattle.signs.proofs.Rows.{bytes_none, bytes_more}
 use Rattle.signs.proofs.row_bytes.Given as goal
 
 abbrev pub invariant-loop-i : goal.invariant-loop-i

@@ -3,7 +3,6 @@
 use mathlib.Core.Path.{◌∙◌}
 use native.Mathlib.Omega.{arith}
 use Rattle.thresholds.proofs.Rows.{many_refuses, short_refuses, row_passes}
-use borrow.Author.Rules.{rules}
 use Rattle.thresholds.proofs.check_row.Goals as goal
 
 pub returns-then-count-gt16 : goal.returns-then-count-gt16

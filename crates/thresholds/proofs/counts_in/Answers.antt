@@ -7,10 +7,8 @@ use lib.ListN.{length}
 use Rattle.laws.specs.Below.{over}
 use Rattle.block.specs.declared.Checked.TheVariants.{Passes}
 use Rattle.block.specs.Rows.{count_row}
-use Rattle.block.proofs.Blocks.{count_passed}
 use Rattle.thresholds.proofs.Marks.{each_few, answers_are}
 use Rattle.thresholds.proofs.Verdicts.{refused_by, answered_by}
-use borrow.Author.Rules.{rules}
 use Rattle.thresholds.proofs.counts_in.Goals as goal
 
 pub returns-in-Refuses : goal.returns-in-Refuses

@@ -10,7 +10,6 @@ use Rattle.block.proofs.Sizes.{size_made}
 use Rattle.thresholds.specs.Answer.{many_row, answers_row}
 use Rattle.thresholds.proofs.Rows.{row_fits}
 use Rattle.thresholds.proofs.Verdicts.{early, bad_axis, made}
-use borrow.Author.Rules.{rules}
 use Rattle.thresholds.proofs.counts_row.Goals as goal
 
 pub returns-in-Refuses : goal.returns-in-Refuses

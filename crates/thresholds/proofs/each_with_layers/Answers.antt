@@ -1,7 +1,6 @@
 -- `each_with_layers` meets its contract. The loop's invariant: the thresholds before i are through the run of layers, and the others stand before it. The measure is
 -- what is left of the thresholds. Assumes nothing.
-use Prim.Native.Nat.{◌-◌, ◌≤◌, ◌<◌}
-use mathlib.Core.Path.{◌≡◌}
+use Prim.Native.Nat.{◌-◌, ◌<◌}
 use native.Mathlib.Omega.{arith}
 use lib.ListN.{length, length-set}
 use Rattle.thresholds.proofs.Marks.{counted_next, counted_rest}

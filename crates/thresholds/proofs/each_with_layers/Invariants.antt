@@ -1,12 +1,9 @@
 -- `each_with_layers` meets its contract. The loop's invariant: the thresholds before i are through the run of layers, and the others stand before it. The measure is
 -- what is left of the thresholds. Assumes nothing.
-use Prim.Native.Nat.{◌-◌, ◌≤◌, ◌<◌}
+use Prim.Native.Nat.{◌-◌, ◌≤◌}
 use mathlib.Core.Path.{◌≡◌}
-use native.Mathlib.Omega.{arith}
-use lib.ListN.{length, length-set}
-use borrow.Author.Rules.{rules}
+use lib.ListN.{length}
 use Rattle.thresholds.specs.Steps.{CountedFrom}
-use Rattle.thresholds.proofs.Marks.{counted_next, counted_rest}
 use Rattle.thresholds.proofs.each_with_layers.Given as goal
 
 abbrev pub invariant-loop-i : goal.invariant-loop-i

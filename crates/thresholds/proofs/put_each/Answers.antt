@@ -1,11 +1,10 @@
 -- `put_each` meets its contract. The loop's invariant: what the thresholds before i are told stands at the front. The measure is what is left of the thresholds.
 -- Assumes nothing.
-use Prim.Native.Nat.{◌-◌, ◌≤◌}
-use mathlib.Core.Path.{◌≡◌, refl, ◌∙◌, subst}
+use Prim.Native.Nat.{◌-◌}
+use mathlib.Core.Path.{refl, ◌∙◌, subst}
 use mathlib.Core.List.{[], ◌∷◌}
 use native.Mathlib.Omega.{arith}
 use lib.ListN.{length}
-use borrow.Author.Rules.{rules}
 use Rattle.laws.proofs.Stores.{sets_length}
 use Rattle.thresholds.proofs.Threes.{Told, told_none, told_more, told_all}
 use Rattle.thresholds.proofs.put_each.Goals as goal

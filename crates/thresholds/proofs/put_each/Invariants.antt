@@ -1,13 +1,9 @@
 -- `put_each` meets its contract. The loop's invariant: what the thresholds before i are told stands at the front. The measure is what is left of the thresholds.
 -- Assumes nothing.
 use Prim.Native.Nat.{◌-◌, ◌≤◌}
-use mathlib.Core.Path.{◌≡◌, refl, ◌∙◌, subst}
-use mathlib.Core.List.{[], ◌∷◌}
-use native.Mathlib.Omega.{arith}
+use mathlib.Core.Path.{◌≡◌}
 use lib.ListN.{length}
-use borrow.Author.Rules.{rules}
-use Rattle.laws.proofs.Stores.{sets_length}
-use Rattle.thresholds.proofs.Threes.{Told, told_none, told_more, told_all}
+use Rattle.thresholds.proofs.Threes.{Told}
 use Rattle.thresholds.proofs.put_each.Given as goal
 
 abbrev pub invariant-loop-i : goal.invariant-loop-i

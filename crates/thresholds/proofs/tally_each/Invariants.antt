@@ -1,12 +1,9 @@
 -- `tally_each` meets its contract. The loop's invariant: for each threshold the layers before k are counted. The measure is what is left of the layers.
 -- Assumes nothing.
 use Prim.Native.Nat.{◌-◌, ◌≤◌}
-use mathlib.Core.Path.{◌≡◌, refl}
-use native.Mathlib.Omega.{arith}
+use mathlib.Core.Path.{◌≡◌}
 use lib.ListN.{length}
-use borrow.Author.Rules.{rules}
 use Rattle.thresholds.specs.Steps.{CountedFrom}
-use Rattle.thresholds.proofs.Marks.{counted_start, counted_all}
 use Rattle.thresholds.proofs.tally_each.Given as goal
 
 abbrev pub invariant-loop-k : goal.invariant-loop-k

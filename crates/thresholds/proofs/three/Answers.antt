@@ -2,7 +2,6 @@
 -- Assumes nothing.
 use mathlib.Core.Path.{sym, ◌∙◌}
 use Rattle.thresholds.proofs.Threes.{told_refused, told_counted}
-use borrow.Author.Rules.{rules}
 use Rattle.thresholds.proofs.three.Goals as goal
 
 pub returns-in-Refuses : goal.returns-in-Refuses

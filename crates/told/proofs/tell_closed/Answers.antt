@@ -7,7 +7,6 @@ use Rattle.laws.specs.Filled.{filled}
 use Rattle.closed.specs.declared.Closure.{Closure}
 use Rattle.closed.specs.Closed.{said_closure}
 use Rattle.told.specs.Numbers.{told_closed}
-use borrow.Author.Rules.{rules}
 use Rattle.told.proofs.tell_closed.Goals as goal
 
 pub returns-in-Closed : goal.returns-in-Closed

@@ -4,7 +4,6 @@ use mathlib.Core.Path.{sym, ap}
 use Rattle.laws.specs.Filled.{filled}
 use Rattle.mesh.specs.declared.Counted.{Counted}
 use Rattle.mesh.specs.Answer.{said_counts, told_counts}
-use borrow.Author.Rules.{rules}
 use Rattle.told.proofs.tell_counts.Goals as goal
 
 pub returns-in-Counts : goal.returns-in-Counts

@@ -5,7 +5,6 @@ use Rattle.laws.specs.Filled.{filled}
 use Rattle.room.specs.declared.Edged.{Edged}
 use Rattle.room.specs.Answer.{said_crossed}
 use Rattle.told.specs.Numbers.{told_number}
-use borrow.Author.Rules.{rules}
 use Rattle.told.proofs.tell_crossed.Goals as goal
 
 pub returns-in-Edges : goal.returns-in-Edges

@@ -5,7 +5,6 @@ use Rattle.laws.specs.Filled.{filled}
 use Rattle.cell.specs.declared.Found.{Found}
 use Rattle.cell.specs.Answer.{said_cube}
 use Rattle.told.specs.Numbers.{told_number}
-use borrow.Author.Rules.{rules}
 use Rattle.told.proofs.tell_cube.Goals as goal
 
 pub returns-in-Loops : goal.returns-in-Loops

@@ -5,7 +5,6 @@ use Rattle.laws.specs.Filled.{filled}
 use Rattle.place.specs.declared.Crossing.{Crossing}
 use Rattle.place.specs.Crossing.{said_edge}
 use Rattle.told.specs.Numbers.{told_edge}
-use borrow.Author.Rules.{rules}
 use Rattle.told.proofs.tell_edge.Goals as goal
 
 pub returns-in-Nothing : goal.returns-in-Nothing

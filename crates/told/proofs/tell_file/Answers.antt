@@ -5,7 +5,6 @@ use Rattle.laws.specs.Filled.{filled}
 use Rattle.ply.specs.declared.Filed.{Filed}
 use Rattle.ply.specs.Answer.{said_file}
 use Rattle.told.specs.Numbers.{told_nothing}
-use borrow.Author.Rules.{rules}
 use Rattle.told.proofs.tell_file.Goals as goal
 
 pub returns-in-Bytes : goal.returns-in-Bytes

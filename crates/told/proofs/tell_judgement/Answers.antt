@@ -7,7 +7,6 @@ use Rattle.laws.specs.Filled.{filled}
 use Rattle.foundry.specs.declared.Judgement.{Judgement}
 use Rattle.foundry.specs.Answer.{said_judgement}
 use Rattle.told.specs.Numbers.{told_judgement}
-use borrow.Author.Rules.{rules}
 use Rattle.told.proofs.tell_judgement.Goals as goal
 
 pub returns-in-Same : goal.returns-in-Same

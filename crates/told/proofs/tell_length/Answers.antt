@@ -8,7 +8,6 @@ use Rattle.ply.specs.declared.Filed.{Filed}
 use Rattle.ply.specs.declared.Filed.TheVariants.{Refused}
 use Rattle.ply.specs.Answer.{said_file}
 use Rattle.told.specs.Numbers.{told_length}
-use borrow.Author.Rules.{rules}
 use Rattle.told.proofs.tell_length.Goals as goal
 
 -- what is told of a refusal

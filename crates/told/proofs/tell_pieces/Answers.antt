@@ -5,7 +5,6 @@ use Rattle.laws.specs.Filled.{filled}
 use Rattle.pieces.specs.declared.Pieced.{Pieced}
 use Rattle.pieces.specs.Answer.{said_pieces}
 use Rattle.told.specs.Numbers.{told_pieces}
-use borrow.Author.Rules.{rules}
 use Rattle.told.proofs.tell_pieces.Goals as goal
 
 pub returns-in-Found : goal.returns-in-Found

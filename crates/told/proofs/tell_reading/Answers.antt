@@ -6,7 +6,6 @@ use Rattle.block.specs.Answer.{decided}
 use Rattle.readings.specs.declared.Reading.{Reading}
 use Rattle.readings.specs.Reading.{said_reading}
 use Rattle.told.specs.Numbers.{told_number}
-use borrow.Author.Rules.{rules}
 use Rattle.told.proofs.tell_reading.Goals as goal
 
 pub returns-in-Grey : goal.returns-in-Grey

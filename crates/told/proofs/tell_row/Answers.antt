@@ -5,7 +5,6 @@ use Rattle.laws.specs.Filled.{filled}
 use Rattle.thresholds.specs.declared.RowAnswer.{RowAnswer}
 use Rattle.thresholds.specs.Answer.{said_row}
 use Rattle.told.specs.Numbers.{told_nothing}
-use borrow.Author.Rules.{rules}
 use Rattle.told.proofs.tell_row.Goals as goal
 
 pub returns-in-Answered : goal.returns-in-Answered

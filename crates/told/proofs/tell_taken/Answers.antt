@@ -1,7 +1,6 @@
 -- `tell_taken` meets its contract: each case in its numbers.
 -- Assumes nothing.
 use mathlib.Core.Path.{sym, ap}
-use borrow.Author.Rules.{rules}
 use Rattle.laws.specs.Filled.{filled}
 use Rattle.by_planes.specs.declared.Taken.{Taken}
 use Rattle.by_planes.specs.Answer.{said_taken}

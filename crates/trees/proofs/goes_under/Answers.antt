@@ -1,8 +1,6 @@
 -- `goes_under` meets its contract.
 -- Assumes nothing.
-use Rattle.trees.proofs.Unites.{under_more}
-use Rattle.trees.proofs.Unites.{under_fewer}
-use Rattle.trees.proofs.Unites.{under_tied}
+use Rattle.trees.proofs.Unites.{under_more, under_fewer, under_tied}
 use Rattle.trees.proofs.goes_under.Goals as goal
 
 pub returns : goal.returns

@@ -1,10 +1,9 @@
 -- `join_quad` meets its contract: the way of the first vertex is known at each join.
 -- Assumes nothing.
 use mathlib.Core.Path.{◌∙◌}
-use Rattle.trees.proofs.Joins.{quad_is}
+use Rattle.trees.proofs.Joins.{quad_is, ready_on}
 use lib.ListN.{length}
 use Rattle.trees.specs.Steps.{Follows}
-use Rattle.trees.proofs.Joins.{ready_on}
 use Rattle.trees.proofs.join_quad.Goals.{After-join-arg-2-1}
 use Rattle.trees.proofs.join_quad.Goals as goal
 

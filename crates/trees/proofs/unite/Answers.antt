@@ -1,10 +1,7 @@
 -- `unite` meets its contract.
 -- Assumes nothing.
-use Rattle.trees.proofs.Unites.{unites_one}
-use Rattle.trees.proofs.Unites.{unites_over}
-use Rattle.trees.proofs.Unites.{unites_under}
+use Rattle.trees.proofs.Unites.{unites_one, unites_over, unites_under, hangable, turned}
 use mathlib.Core.Path.{sym}
-use Rattle.trees.proofs.Unites.{hangable, turned}
 use Rattle.trees.proofs.unite.Goals as goal
 
 pub hang-requires : goal.hang-requires

@@ -1,8 +1,7 @@
 -- `Offset::with_held` meets its contract: an edge that the mask does not hold leaves the sum as it is, and one that it holds is added.
 -- Assumes nothing.
-use Rattle.place.proofs.Visit.{sum_asks}
+use Rattle.place.proofs.Visit.{sum_asks, sum_skips, sum_adds}
 use mathlib.Core.Path.{◌∙◌}
-use Rattle.place.proofs.Visit.{sum_skips, sum_adds}
 use Rattle.place.proofs.Offset.with_held.Goals as goal
 
 pub returns-then-mask-e-eq0 : goal.returns-then-mask-e-eq0
