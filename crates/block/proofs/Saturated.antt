@@ -80,9 +80,9 @@ module _ (samples : List ℕ) where
       before : (k : ℕ) → k < lowest is_ceiling samples → get_or samples k 0 ≡ ceiling → ⊥
       before k h = eqb-false (get_or samples k 0) ceiling (lowest_before is_ceiling 0 samples k h)
 
-      as-given : (n : ℕ) → given n < 4294967295 → given n ≡ n
-      as-given n h = omega arith
+      as_given : (n : ℕ) → given n < 4294967295 → given n ≡ n
+      as_given n h = omega arith
 
       go : (lowest is_ceiling samples < length samples) ⊎ (length samples ≤ lowest is_ceiling samples) → LowestCeiling samples (ceilings_in samples).lowest
-      go (inl l) = rw (as-given (lowest is_ceiling samples) uncut) record { there = l; is = eqb-true (get_or samples (lowest is_ceiling samples) 0) ceiling (lowest_there is_ceiling 0 samples l); before = before }
+      go (inl l) = rw (as_given (lowest is_ceiling samples) uncut) record { there = l; is = eqb-true (get_or samples (lowest is_ceiling samples) 0) ceiling (lowest_there is_ceiling 0 samples l); before = before }
       go (inr g) = absurd (omega (arith, some, ceilings_none.1 (λ k h. before k (omega (arith, g, h)))))

@@ -72,8 +72,8 @@ module _ (st : Stream) (plane work w : List ℕ) (o : List Float) (q : List ℕ)
 
   module _ (ok : early ≡ Passes) (count : length plane ≡ st.nx * st.ny) (room : 6 * (st.nx * st.ny) ≤ length work) (inside : st.planes < st.nz) where
     -- then rows 5 and 6 decide
-    late-decides : (c : Totals) → take_verdict st (length plane) (length work) c (length w) (length o) (length q) ≡ in_order (buffer_rows c (length w) (length o) (length q))
-    late-decides c = orders_pass (call_rows st (length plane) (length work)) _ ok
+    late_decides : (c : Totals) → take_verdict st (length plane) (length work) c (length w) (length o) (length q) ≡ in_order (buffer_rows c (length w) (length o) (length q))
+    late_decides c = orders_pass (call_rows st (length plane) (length work)) _ ok
 
     -- ---- of a block whose planes are handed over
 
@@ -85,8 +85,8 @@ module _ (st : Stream) (plane work w : List ℕ) (o : List Float) (q : List ℕ)
       item i h = ap (λ (l : List ℕ). get_or l i 0) is ∙ get_or-take (plane_size n) (drop (plane_size n * st.planes) s) i 0 h ∙ get_or-drop (plane_size n * st.planes) s i 0
 
       -- its samples are the block's, so they are of 16 bits
-      plane-grey : SixteenBit plane
-      plane-grey i = go (lt_or_ge i (plane_size n))
+      plane_grey : SixteenBit plane
+      plane_grey i = go (lt_or_ge i (plane_size n))
         where
           past : plane_size n ≤ i → ◌≡◌ {A = ℕ} (get_or plane i 0) 0
           past g = get_or-eq_default plane 0 (omega arith)
@@ -99,8 +99,8 @@ module _ (st : Stream) (plane work w : List ℕ) (o : List Float) (q : List ℕ)
       few = left_few left
 
       -- nothing is cut
-      growth-is : (c : Totals) → c.vertices ≤ 66325500 → c.quads ≤ 49354740 → grown_by st c ≡ record { stream = further st c; counts = c }
-      growth-is c hv hq =
+      growth_is : (c : Totals) → c.vertices ≤ 66325500 → c.quads ≤ 49354740 → grown_by st c ≡ record { stream = further st c; counts = c }
+      growth_is c hv hq =
           ap₂ (λ (v u : ℕ). record { stream = record { nx = st.nx; ny = st.ny; nz = st.nz; cut = st.cut; vertices = v; quads = u; planes = st.planes + 1 }; counts = c })
           (mod-eq_of_lt (omega (arith, few))) (mod-eq_of_lt (omega (arith, few)))
 
@@ -110,8 +110,8 @@ module _ (st : Stream) (plane work w : List ℕ) (o : List Float) (q : List ℕ)
       fits : length plane ≤ length work
       fits = omega arith
 
-      first-kept : KeptBehind 0 (4 * 0) (6 * (st.nx * st.ny)) w w o o q q work work'
-      first-kept = record {
+      first_kept : KeptBehind 0 (4 * 0) (6 * (st.nx * st.ny)) w w o o q q work work'
+      first_kept = record {
         words_long = refl;
         offsets_long = refl;
         quads_long = refl;
@@ -124,13 +124,13 @@ module _ (st : Stream) (plane work w : List ℕ) (o : List Float) (q : List ℕ)
 
       pub taken_first : PlaneTaken st plane work w o q (taken.Wrote (grown_by st nothing)) work' w o q
       taken_first =
-          let k : take_verdict st (length plane) (length work) nothing (length w) (length o) (length q) ≡ Passes = late-decides nothing ∙ roomy 0 0 (length w) (length o) (length q) (omega arith) (omega arith) (omega arith) in
+          let k : take_verdict st (length plane) (length work) nothing (length w) (length o) (length q) ≡ Passes = late_decides nothing ∙ roomy 0 0 (length w) (length o) (length q) (omega arith) (omega arith) (omega arith) in
           record {
             counted = nothing;
             answer = judged_passed _ (grown_by st nothing) _ k refl;
             first = λ z. refl;
             refusal_keeps = λ x e. absurd (accepted_refused e);
-            kept = λ g e. first-kept;
+            kept = λ g e. first_kept;
             part = λ s left more is. first_part k left is;
           }
         where
@@ -142,23 +142,23 @@ module _ (st : Stream) (plane work w : List ℕ) (o : List Float) (q : List ℕ)
                 words = over_nothing w (ap (part_words (size_in st) s st.cut) none) ∙ sym (written_passed _ _ w k);
                 offsets = over_nothing o (ap (part_offsets (size_in st) s st.cut) none) ∙ sym (written_passed _ _ o k);
                 quads = over_nothing q (ap (part_quads (size_in st) s st.cut) none) ∙ sym (written_passed _ _ q k);
-                uncut = growth-is left is nothing (omega arith) (omega arith);
-                left = λ p. first-left left is;
+                uncut = growth_is left is nothing (omega arith) (omega arith);
+                left = λ p. first_left left is;
               }
             where
               over_nothing : {A : Type 0} (b : List A) {xs : List A} → xs ≡ [] → b ≡ over xs b
               over_nothing b h = rw h (none_over b)
 
-              first-left : Left s st work → plane ≡ plane_of (size_in st) s st.planes → Left s (further st nothing) work'
-              first-left left is = record {
+              first_left : Left s st work → plane ≡ plane_of (size_in st) s st.planes → Left s (further st nothing) work'
+              first_left left is = record {
                 block = left.block;
                 grey = left.grey;
                 threshold = left.threshold;
-                room = omega (arith, first-kept.work_long);
+                room = omega (arith, first_kept.work_long);
                 in_block = omega arith;
                 vertices_are = add-zero st.vertices ∙ left.vertices_are ∙ ap (layer_first loops_of (size_in st) s st.cut) before;
                 quads_are = ap (λ (x : ℕ). 4 * x) (add-zero st.quads) ∙ left.quads_are ∙ ap (λ (k : ℕ). length (quads_up_to loops_of (size_in st) s st.cut X (plane_size (size_in st) * k)) + length (quads_up_to loops_of (size_in st) s st.cut Y (plane_size (size_in st) * k)) + length (quads_up_to loops_of (size_in st) s st.cut Z (plane_size (size_in st) * k))) before;
-                plane = λ h i l. ap (λ (b : List ℕ). sample_in b i) keeps ∙ packed_sample plane work (plane-grey left is) i (omega arith) ∙ item left is i l ∙ ap (λ (k : ℕ). get_or s (plane_size (size_in st) * k + i) 0) here;
+                plane = λ h i l. ap (λ (b : List ℕ). sample_in b i) keeps ∙ packed_sample plane work (plane_grey left is) i (omega arith) ∙ item left is i l ∙ ap (λ (k : ℕ). get_or s (plane_size (size_in st) * k + i) 0) here;
                 tables = λ h. absurd (omega arith);
               }
                 where
@@ -200,8 +200,8 @@ module _ (st : Stream) (plane work w : List ℕ) (o : List Float) (q : List ℕ)
         next = sym (add-one k) ∙ some
 
         -- the part is some of the mesh
-        part-v : (layer_totals loops_of (size_in st) s st.cut k).vertices ≤ 66325500
-        part-v =
+        part_v : (layer_totals loops_of (size_in st) s st.cut k).vertices ≤ 66325500
+        part_v =
             omega (
               arith,
               layer_first_next (size_in st) s st.cut k,
@@ -209,17 +209,17 @@ module _ (st : Stream) (plane work w : List ℕ) (o : List Float) (q : List ℕ)
               most_vertices loops_of (size_in st) s st.cut (cube_laws joined) left.block.limits,
             )
 
-        plane-more : (a : Axis) → length (quads_up_to loops_of (size_in st) s st.cut a (plane_size (size_in st) * (k + 1))) ≡ length (quads_up_to loops_of (size_in st) s st.cut a (plane_size (size_in st) * k)) + length (plane_quads loops_of (size_in st) s st.cut a k)
-        plane-more a = ap length (planes_quads_next (size_in st) s st.cut a k) ∙ length-append (quads_up_to loops_of (size_in st) s st.cut a (plane_size (size_in st) * k)) (plane_quads loops_of (size_in st) s st.cut a k)
+        plane_more : (a : Axis) → length (quads_up_to loops_of (size_in st) s st.cut a (plane_size (size_in st) * (k + 1))) ≡ length (quads_up_to loops_of (size_in st) s st.cut a (plane_size (size_in st) * k)) + length (plane_quads loops_of (size_in st) s st.cut a k)
+        plane_more a = ap length (planes_quads_next (size_in st) s st.cut a k) ∙ length-append (quads_up_to loops_of (size_in st) s st.cut a (plane_size (size_in st) * k)) (plane_quads loops_of (size_in st) s st.cut a k)
 
-        part-q : (layer_totals loops_of (size_in st) s st.cut k).quads ≤ 49354740
-        part-q =
+        part_q : (layer_totals loops_of (size_in st) s st.cut k).quads ≤ 49354740
+        part_q =
             omega (
               arith,
               quads_length (size_in st) s st.cut k,
-              plane-more X,
-              plane-more Y,
-              plane-more Z,
+              plane_more X,
+              plane_more Y,
+              plane_more Z,
               some_quads (size_in st) s st.cut X (k + 1) (omega arith),
               some_quads (size_in st) s st.cut Y (k + 1) (omega arith),
               some_quads (size_in st) s st.cut Z (k + 1) (omega arith),
@@ -227,16 +227,16 @@ module _ (st : Stream) (plane work w : List ℕ) (o : List Float) (q : List ℕ)
               most_quads loops_of (size_in st) s st.cut left.block.limits,
             )
 
-        new-left : in_order (buffer_rows grown.counted (length w) (length o) (length q)) ≡ Passes → length work' ≡ length work → Left s (further st grown.counted) work'
-        new-left p long = subst (λ (c : Totals). Left s (further st c) work') (sym layer.counts_are) (record {
+        new_left : in_order (buffer_rows grown.counted (length w) (length o) (length q)) ≡ Passes → length work' ≡ length work → Left s (further st grown.counted) work'
+        new_left p long = subst (λ (c : Totals). Left s (further st c) work') (sym layer.counts_are) (record {
           block = left.block;
           grey = left.grey;
           threshold = left.threshold;
           room = omega arith;
           in_block = omega arith;
           vertices_are = omega (arith, left.vertices_are, ap (layer_first loops_of (size_in st) s st.cut) back, layer_first_next (size_in st) s st.cut k, ap (layer_first loops_of (size_in st) s st.cut) here);
-          quads_are = omega (arith, left.quads_are, ap before back, ap before here, quads_four (size_in st) s st.cut k, quads_length (size_in st) s st.cut k, plane-more X, plane-more Y, plane-more Z);
-          plane = λ h i l. layer.front p (plane-grey left is) i l ∙ item left is i l ∙ ap (λ (z : ℕ). get_or s (plane_size (size_in st) * z + i) 0) there;
+          quads_are = omega (arith, left.quads_are, ap before back, ap before here, quads_four (size_in st) s st.cut k, quads_length (size_in st) s st.cut k, plane_more X, plane_more Y, plane_more Z);
+          plane = λ h i l. layer.front p (plane_grey left is) i l ∙ item left is i l ∙ ap (λ (z : ℕ). get_or s (plane_size (size_in st) * z + i) 0) there;
           tables = λ h. subst (λ (z : ℕ). LayerTables loops_of (size_in st) s st.cut z work') two (layer.noted p);
         })
           where
@@ -257,18 +257,18 @@ module _ (st : Stream) (plane work w : List ℕ) (o : List Float) (q : List ℕ)
       verdict = take_verdict st (length plane) (length work) grown.counted (length w) (length o) (length q)
 
       decides : verdict ≡ in_order (buffer_rows grown.counted (length w) (length o) (length q))
-      decides = late-decides grown.counted
+      decides = late_decides grown.counted
 
-      further-part : {s : List ℕ} → Left s st work → plane ≡ plane_of (size_in st) s st.planes → (verdict ≡ Passes → length work' ≡ length work) → PartTaken verdict s st grown.counted w o q work' w' o' q'
-      further-part {s} left is long =
+      further_part : {s : List ℕ} → Left s st work → plane ≡ plane_of (size_in st) s st.planes → (verdict ≡ Passes → length work' ≡ length work) → PartTaken verdict s st grown.counted w o q work' w' o' q'
+      further_part {s} left is long =
           let g = layer left is in
           record {
             counts_are = g.counts_are ∙ ap (part_totals (size_in st) s st.cut) (next left is);
             words = g.words ∙ ap₂ (λ (v : Checked) (z : ℕ). written v (part_words (size_in st) s st.cut z) w) (sym decides) (next left is);
             offsets = g.offsets ∙ ap₂ (λ (v : Checked) (z : ℕ). written v (part_offsets (size_in st) s st.cut z) o) (sym decides) (next left is);
             quads = g.quads ∙ ap₂ (λ (v : Checked) (z : ℕ). written v (part_quads (size_in st) s st.cut z) q) (sym decides) (next left is);
-            uncut = growth-is left is grown.counted (omega (arith, ap (λ (t : Totals). t.vertices) g.counts_are, part-v left is)) (omega (arith, ap (λ (t : Totals). t.quads) g.counts_are, part-q left is));
-            left = λ p. new-left left is (sym decides ∙ p) (long p);
+            uncut = growth_is left is grown.counted (omega (arith, ap (λ (t : Totals). t.vertices) g.counts_are, part_v left is)) (omega (arith, ap (λ (t : Totals). t.quads) g.counts_are, part_q left is));
+            left = λ p. new_left left is (sym decides ∙ p) (long p);
           }
 
       -- rows 5 and 6 refuse
@@ -281,7 +281,7 @@ module _ (st : Stream) (plane work w : List ℕ) (o : List Float) (q : List ℕ)
             first = λ z. absurd (omega arith);
             refusal_keeps = λ y f. grown.refusal_keeps x v;
             kept = λ g f. absurd (accepted_refused (sym f));
-            part = λ s left more is. further-part left is (λ p. absurd (passes_refuses (sym p ∙ decides ∙ v)));
+            part = λ s left more is. further_part left is (λ p. absurd (passes_refuses (sym p ∙ decides ∙ v)));
           }
 
       -- they pass
@@ -294,7 +294,7 @@ module _ (st : Stream) (plane work w : List ℕ) (o : List Float) (q : List ℕ)
             first = λ z. absurd (omega arith);
             refusal_keeps = λ x f. absurd (accepted_refused f);
             kept = λ g f. deeper (grown.kept a.0);
-            part = λ s left more is. further-part left is (λ p. (grown.kept a.0).work_long);
+            part = λ s left more is. further_part left is (λ p. (grown.kept a.0).work_long);
           }
         where
           deeper : KeptBehind grown.counted.vertices (4 * grown.counted.quads) (3 * plane_size (size_in st)) w w' o o' q q' work work' → KeptBehind grown.counted.vertices (4 * grown.counted.quads) (6 * (st.nx * st.ny)) w w' o o' q q' work work'

@@ -44,14 +44,14 @@ module _ (st : Stream) (room : ℕ) where
   start_threshold x e = judged_refused start_last st x (order_refuses (threshold_row st.cut) _ x e)
 
   module _ (t : threshold_row st.cut ≡ Passes) where
-    start-last : start_last ≡ work_row st.nx st.ny room
-    start-last = order_passes (threshold_row st.cut) _ t ∙ order_last (work_row st.nx st.ny room)
+    start_last_lem : start_last ≡ work_row st.nx st.ny room
+    start_last_lem = order_passes (threshold_row st.cut) _ t ∙ order_last (work_row st.nx st.ny room)
 
     pub start_short : (x : Refusal) → work_row st.nx st.ny room ≡ Refuses x → said_start (started.Refused x) ≡ judged start_last st
-    start_short x e = judged_refused start_last st x (start-last ∙ e)
+    start_short x e = judged_refused start_last st x (start_last_lem ∙ e)
 
     pub start_begins : work_row st.nx st.ny room ≡ Passes → said_start (started.Begun st) ≡ judged start_last st
-    start_begins e = judged_passed start_last st st (start-last ∙ e) refl
+    start_begins e = judged_passed start_last st st (start_last_lem ∙ e) refl
 
 -- ---- a plane: rows 3, 17, 2 and 15
 
@@ -63,23 +63,23 @@ module _ (st : Stream) (count room : ℕ) where
   call_threshold x e = sym (order_refuses (threshold_row st.cut) _ x e)
 
   module _ (t : threshold_row st.cut ≡ Passes) where
-    after-threshold : in_order later_rows ≡ in_order (past_row st ∷ plane_row st count ∷ work_row st.nx st.ny room ∷ [])
-    after-threshold = order_passes (threshold_row st.cut) _ t
+    after_threshold : in_order later_rows ≡ in_order (past_row st ∷ plane_row st count ∷ work_row st.nx st.ny room ∷ [])
+    after_threshold = order_passes (threshold_row st.cut) _ t
 
     pub call_past : st.nz ≤ 4294967295 → st.nz ≤ st.planes → Refuses (record { number = 17; value = st.nz }) ≡ in_order later_rows
-    call_past s h = sym (after-threshold ∙ order_refuses (past_row st) _ _ (sym (unless_refuses (ltb st.planes st.nz) 17 st.nz st.nz (le-ltb st.planes st.nz h) (sym (given_small st.nz s)))))
+    call_past s h = sym (after_threshold ∙ order_refuses (past_row st) _ _ (sym (unless_refuses (ltb st.planes st.nz) 17 st.nz st.nz (le-ltb st.planes st.nz h) (sym (given_small st.nz s)))))
 
     module _ (h : st.planes < st.nz) where
-      after-past : in_order later_rows ≡ in_order (plane_row st count ∷ work_row st.nx st.ny room ∷ [])
-      after-past = after-threshold ∙ order_passes (past_row st) _ (sym (unless_passes (ltb st.planes st.nz) 17 st.nz (lt-ltb st.planes st.nz h)))
+      after_past : in_order later_rows ≡ in_order (plane_row st count ∷ work_row st.nx st.ny room ∷ [])
+      after_past = after_threshold ∙ order_passes (past_row st) _ (sym (unless_passes (ltb st.planes st.nz) 17 st.nz (lt-ltb st.planes st.nz h)))
 
       pub call_plane : (all : ℕ) → all ≤ 65536 → all ≡ st.nx * st.ny → (count ≡ all → ⊥) → Refuses (record { number = 2; value = all }) ≡ in_order later_rows
       call_plane all s e ne =
-          sym (after-past ∙ order_refuses (plane_row st count) _ _ (sym (unless_refuses (eqb count (st.nx * st.ny)) 2 (st.nx * st.ny) all (ne_eqb count (st.nx * st.ny) (λ q. ne (q ∙ sym e))) (e ∙ sym (given_small (st.nx * st.ny) (omega arith))))))
+          sym (after_past ∙ order_refuses (plane_row st count) _ _ (sym (unless_refuses (eqb count (st.nx * st.ny)) 2 (st.nx * st.ny) all (ne_eqb count (st.nx * st.ny) (λ q. ne (q ∙ sym e))) (e ∙ sym (given_small (st.nx * st.ny) (omega arith))))))
 
       pub call_room : count ≡ st.nx * st.ny → work_row st.nx st.ny room ≡ in_order later_rows
       call_room e =
-          sym (after-past ∙ order_passes (plane_row st count) _ (sym (unless_passes (eqb count (st.nx * st.ny)) 2 (st.nx * st.ny) (eq-eqb count (st.nx * st.ny) e))) ∙ order_last (work_row st.nx st.ny room))
+          sym (after_past ∙ order_passes (plane_row st count) _ (sym (unless_passes (eqb count (st.nx * st.ny)) 2 (st.nx * st.ny) (eq-eqb count (st.nx * st.ny) e))) ∙ order_last (work_row st.nx st.ny room))
 
   -- row 1 is passed by a size within its limits
   pub call_axes : Limits (size_in st) → in_order (call_rows st count room) ≡ in_order later_rows

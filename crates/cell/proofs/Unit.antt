@@ -19,7 +19,7 @@ use Rattle.place.specs.Unit.{Inside}
 use Rattle.place.proofs.Bounds.{place_in_unit, zero_in_unit}
 use Rattle.cell.specs.declared.CubeAnswer.{CubeAnswer}
 use Rattle.cell.specs.Answer.{origin, cube_verdict, loops_answered, CubeAnswered}
-use Rattle.cell.proofs.Answers.{loop-crossed}
+use Rattle.cell.proofs.Answers.{loop_crossed}
 
 -- each offset of a list is inside the unit cube
 abbrev Each : List Offset → Type 0
@@ -51,7 +51,7 @@ places_inside : (cut : Cut) (corners : List ℕ) → SixteenBit corners → Each
 unfolding filled
 places_inside cut corners grey =
     each_filled origin (place_of cut corners) (loops_answered cut corners) (4 - length (map (place_of cut corners) (loops_answered cut corners))) origin_inside
-    (λ m d. place_in_unit cut corners m grey (loop-crossed cut corners m (answered_loop (cube_verdict cut) (loops_of cut corners) m d)))
+    (λ m d. place_in_unit cut corners m grey (loop_crossed cut corners m (answered_loop (cube_verdict cut) (loops_of cut corners) m d)))
 
 -- "Each coordinate of each offset is at least 0 and at most 1."
 pub cube_offsets_inside : (corners : List ℕ) (cut : Cut) (r : CubeAnswer) → CubeAnswered corners cut r → SixteenBit corners → (o : Offset) → Memᴰ o r.offsets → Inside o

@@ -40,14 +40,14 @@ module _ (quads : List ℕ) where
     abbrev room : ℕ
     room = length work
 
-    refused-with : (r : Refusal) → in_order (work_rows quads room) ≡ Refuses r → ClosedWith quads work (closure.Refused r) work
-    refused-with r e = record { answer = judged_refused _ _ r e; chained = sym (written_refused _ _ work r e) }
+    refused_with : (r : Refusal) → in_order (work_rows quads room) ≡ Refuses r → ClosedWith quads work (closure.Refused r) work
+    refused_with r e = record { answer = judged_refused _ _ r e; chained = sym (written_refused _ _ work r e) }
 
     pub length_refused : (r : Refusal) → length_row quads ≡ Refuses r → ClosedWith quads work (closure.Refused r) work
-    length_refused r e = refused-with r (order_refuses (length_row quads) _ r e)
+    length_refused r e = refused_with r (order_refuses (length_row quads) _ r e)
 
     pub room_refused : length_row quads ≡ Passes → (r : Refusal) → room_row (words_needed quads) (length work) ≡ Refuses r → ClosedWith quads work (closure.Refused r) work
-    room_refused p r e = refused-with r (order_passes (length_row quads) _ p ∙ order_refuses (room_row (words_needed quads) room) _ r e)
+    room_refused p r e = refused_with r (order_passes (length_row quads) _ p ∙ order_refuses (room_row (words_needed quads) room) _ r e)
 
     pub found_with : length_row quads ≡ Passes → room_row (words_needed quads) (length work) ≡ Passes → (r : Closure) (f : Finding) (work' : List ℕ) → said_closure r ≡ accepted f → finding_of quads ≡ f
         → work' ≡ over (chains quads) work → ClosedWith quads work r work'

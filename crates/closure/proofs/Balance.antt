@@ -71,8 +71,8 @@ module _ (D : Decider) (loops_of : Cut → List ℕ → List ℕ) (laws : CubeLa
     no_quad a x y z = not_inner n a x y z (crossed_from n s cut a x y z)
 
     -- square to x: below it the cube (i−1,j,k), with its face 1, and above it (i,j,k), with its face 0
-    balance-x : (u v : ℕ) → face_x loops_of n s cut u v i j k ≡ face_x loops_of n s cut v u i j k
-    balance-x u v =
+    balance_x : (u v : ℕ) → face_x loops_of n s cut u v i j k ≡ face_x loops_of n s cut v u i j k
+    balance_x u v =
         rw (up j, up k)
         (one_face (has_quad Y i j k) (has_quad Z i (j + 1) k) (has_quad Y i j (k + 1)) (has_quad Z i j k)
         (metal n s cut i j k) (metal n s cut i (j + 1) k) (metal n s cut i (j + 1) (k + 1)) (metal n s cut i j (k + 1))
@@ -83,8 +83,8 @@ module _ (D : Decider) (loops_of : Cut → List ℕ → List ℕ) (laws : CubeLa
         (λ f. (no_quad Y i j k (λ h. f (omega arith)), no_quad Z i (j + 1) k (λ h. f (omega arith)), no_quad Y i j (k + 1) (λ h. f (omega arith)), no_quad Z i j k (λ h. f (omega arith)))) u v)
 
     -- square to y: (i,j,k) with its face 2, and (i,j−1,k) with its face 3
-    balance-y : (u v : ℕ) → face_y loops_of n s cut u v i j k ≡ face_y loops_of n s cut v u i j k
-    balance-y u v =
+    balance_y : (u v : ℕ) → face_y loops_of n s cut u v i j k ≡ face_y loops_of n s cut v u i j k
+    balance_y u v =
         rw (up i, up k)
         (one_face (has_quad X i j k) (has_quad Z (i + 1) j k) (has_quad X i j (k + 1)) (has_quad Z i j k)
         (metal n s cut i j k) (metal n s cut (i + 1) j k) (metal n s cut (i + 1) j (k + 1)) (metal n s cut i j (k + 1))
@@ -95,8 +95,8 @@ module _ (D : Decider) (loops_of : Cut → List ℕ → List ℕ) (laws : CubeLa
         (λ f. (no_quad X i j k (λ h. f (omega arith)), no_quad Z (i + 1) j k (λ h. f (omega arith)), no_quad X i j (k + 1) (λ h. f (omega arith)), no_quad Z i j k (λ h. f (omega arith)))) u v)
 
     -- square to z: (i,j,k−1) with its face 5, and (i,j,k) with its face 4
-    balance-z : (u v : ℕ) → face_z loops_of n s cut u v i j k ≡ face_z loops_of n s cut v u i j k
-    balance-z u v =
+    balance_z : (u v : ℕ) → face_z loops_of n s cut u v i j k ≡ face_z loops_of n s cut v u i j k
+    balance_z u v =
         rw (up i, up j)
         (one_face (has_quad X i j k) (has_quad Y (i + 1) j k) (has_quad X i (j + 1) k) (has_quad Y i j k)
         (metal n s cut i j k) (metal n s cut (i + 1) j k) (metal n s cut (i + 1) (j + 1) k) (metal n s cut i (j + 1) k)
@@ -111,7 +111,7 @@ module _ (D : Decider) (loops_of : Cut → List ℕ → List ℕ) (laws : CubeLa
       by_faces loops_of n s cut u v
       ∙ ap₂ (λ (x y : ℕ). x + y)
       (ap₂ (λ (x y : ℕ). x + y)
-      (boxed_same _ _ n.nx n.ny n.nz (λ i j k hi hj hk. balance-x uncut i j k hi hj hk u v))
-      (boxed_same _ _ n.nx n.ny n.nz (λ i j k hi hj hk. balance-y uncut i j k hi hj hk u v)))
-      (boxed_same _ _ n.nx n.ny n.nz (λ i j k hi hj hk. balance-z uncut i j k hi hj hk u v))
+      (boxed_same _ _ n.nx n.ny n.nz (λ i j k hi hj hk. balance_x uncut i j k hi hj hk u v))
+      (boxed_same _ _ n.nx n.ny n.nz (λ i j k hi hj hk. balance_y uncut i j k hi hj hk u v)))
+      (boxed_same _ _ n.nx n.ny n.nz (λ i j k hi hj hk. balance_z uncut i j k hi hj hk u v))
       ∙ sym (by_faces loops_of n s cut v u)

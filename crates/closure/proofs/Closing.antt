@@ -32,10 +32,10 @@ module _ (D : Decider) (loops : Cut → List ℕ → List ℕ) (laws : CubeLaws 
 
   -- and an open mesh is cut off
   pub any_cut : (q r : ℕ) → finding_of (flat (quads loops n s cut)) ≡ open_at q r → CutOff n s cut
-  any_cut q r e = ⊎_elim (λ c. c) (λ uncut. absurd (closed-open (sym (uncut_closed uncut) ∙ e))) (cut_or_uncut n s cut)
+  any_cut q r e = ⊎_elim (λ c. c) (λ uncut. absurd (closed_open (sym (uncut_closed uncut) ∙ e))) (cut_or_uncut n s cut)
     where
-      closed-open : all_sound ≡ open_at q r → ⊥
-      closed-open e = let z : ◌≡◌ {A = ℕ} 0 1 = cc in omega arith
+      closed_open : all_sound ≡ open_at q r → ⊥
+      closed_open e = let z : ◌≡◌ {A = ℕ} 0 1 = cc in omega arith
 
 -- ---- the paper's mesh
 

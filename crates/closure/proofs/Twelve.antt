@@ -128,9 +128,9 @@ module _ (D : Decider) (loops : Cut → List ℕ → List ℕ) (laws : CubeLaws 
         ((four_cubes n a i j k is_inner).0, round_in loops n s cut laws a i j k is_inner q.1, eqb-true _ _ p.1)
 
     -- the samples from which two such edges start are one
-    one-start : (f : Quad → ℕ) (a : Axis) → Tells f a → (p q : ℕ) → at_sample n (meets f a) p ≡ true → at_sample n (meets f a) q ≡ true → p ≡ q
+    one_start : (f : Quad → ℕ) (a : Axis) → Tells f a → (p q : ℕ) → at_sample n (meets f a) p ≡ true → at_sample n (meets f a) q ≡ true → p ≡ q
     unfolding Tells
-    one-start f a tells p q x y =
+    one_start f a tells p q x y =
         let m = met f a (p % n.nx) (p / n.nx % n.ny) (p / n.nx / n.ny) x in
         let k = met f a (q % n.nx) (q / n.nx % n.ny) (q / n.nx / n.ny) y in
         let e = tells (p % n.nx) (p / n.nx % n.ny) (p / n.nx / n.ny) (q % n.nx) (q / n.nx % n.ny) (q / n.nx / n.ny) m.0 k.0 m.1 k.1 (m.2 ∙ sym k.2) in
@@ -140,7 +140,7 @@ module _ (D : Decider) (loops : Cut → List ℕ → List ℕ) (laws : CubeLaws 
     met_by f a = count (at_sample n (meets f a)) (sample_count n)
 
     once : (f : Quad → ℕ) (a : Axis) → Tells f a → met_by f a ≤ 1
-    once f a tells = count_one (at_sample n (meets f a)) (sample_count n) (λ p q _ _ x y. one-start f a tells p q x y)
+    once f a tells = count_one (at_sample n (meets f a)) (sample_count n) (λ p q _ _ x y. one_start f a tells p q x y)
 
     by_place : (a : Axis) → summed (starts_in v) (quads_before loops n s cut a (sample_count n)) ≡ met_by first a + met_by second a + met_by third a + met_by fourth a
     unfolding quads_before quad_at
@@ -153,9 +153,9 @@ module _ (D : Decider) (loops : Cut → List ℕ → List ℕ) (laws : CubeLaws 
     along : (a : Axis) → summed (starts_in v) (quads_before loops n s cut a (sample_count n)) ≤ 4
     along a = omega (arith, by_place a, once first a (tells_first a), once second a (tells_second a), once third a (tells_third a), once fourth a (tells_fourth a))
 
-    all-starts : summed (starts_in v) (quads loops n s cut) ≤ 12
+    all_starts : summed (starts_in v) (quads loops n s cut) ≤ 12
     unfolding quads
-    all-starts =
+    all_starts =
         omega (
           arith,
           summed_append (starts_in v) (quads_before loops n s cut X (sample_count n) ++ quads_before loops n s cut Y (sample_count n)) (quads_before loops n s cut Z (sample_count n)),
@@ -168,9 +168,9 @@ module _ (D : Decider) (loops : Cut → List ℕ → List ℕ) (laws : CubeLaws 
 -- the paper's mesh: at most 12 quads meet at a vertex
 pub twelve_quads : (n : Size) (s : List ℕ) (cut : Cut) (v : ℕ) → quads_at (mesh_quads loops_of n s cut) v ≤ 12
 unfolding mesh_quads
-twelve_quads n s cut v = le_trans (quads_few v (quads loops_of n s cut)) (all-starts joined loops_of (cube_laws joined) n s cut v)
+twelve_quads n s cut v = le_trans (quads_few v (quads loops_of n s cut)) (all_starts joined loops_of (cube_laws joined) n s cut v)
 
 -- and at most 12 sides start there
 pub twelve_sides : (n : Size) (s : List ℕ) (cut : Cut) (v : ℕ) → sides_from (mesh_quads loops_of n s cut) v ≤ 12
 unfolding mesh_quads
-twelve_sides n s cut v = rw (sides_summed (λ (a b : ℕ). eqb a v) (quads loops_of n s cut)) (all-starts joined loops_of (cube_laws joined) n s cut v)
+twelve_sides n s cut v = rw (sides_summed (λ (a b : ℕ). eqb a v) (quads loops_of n s cut)) (all_starts joined loops_of (cube_laws joined) n s cut v)

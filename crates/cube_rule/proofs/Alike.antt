@@ -40,13 +40,13 @@ module _ (s t : ℕ → Bool) (corners : (c : ℕ) → c < 8 → s c ≡ t c) wh
   plain_same = ap (λ (xs : List Bool). plain (at xs)) eight_same
 
   module _ (j k : ℕ → Bool) (faces : (f : ℕ) → f < 6 → j f ≡ k f) where
-    six-same : faces_of j ≡ faces_of k
-    six-same = rw (faces 0 (omega arith), faces 1 (omega arith), faces 2 (omega arith), faces 3 (omega arith), faces 4 (omega arith), faces 5 (omega arith))
+    six_same : faces_of j ≡ faces_of k
+    six_same = rw (faces 0 (omega arith), faces 1 (omega arith), faces 2 (omega arith), faces 3 (omega arith), faces 4 (omega arith), faces 5 (omega arith))
 
     pub one_same : one s j ≡ one t k
     unfolding one
-    one_same = ap₂ (λ (xs ys : List Bool). one (at xs) (at ys)) eight_same six-same
+    one_same = ap₂ (λ (xs ys : List Bool). one (at xs) (at ys)) eight_same six_same
 
     pub two_same : two s j ≡ two t k
     unfolding two
-    two_same = ap₂ (λ (xs ys : List Bool). two (at xs) (at ys)) eight_same six-same
+    two_same = ap₂ (λ (xs ys : List Bool). two (at xs) (at ys)) eight_same six_same

@@ -115,8 +115,8 @@ module _ (D : Decider) where
     unfolding sort_of
     cube_some = good_some (sort_of pattern joins) (crossed_mask pattern) (links_of pattern (decisions D cut cs)) (loops_by D cut cs) tested
 
-    cube-single : plain (holds pattern) ≡ true → loops_by D cut cs ≡ crossed_mask pattern ∷ []
-    cube-single e = cube_one (plain_one (holds pattern) joins e)
+    cube_single : plain (holds pattern) ≡ true → loops_by D cut cs ≡ crossed_mask pattern ∷ []
+    cube_single e = cube_one (plain_one (holds pattern) joins e)
 
     -- where at most five edges are left, they are the next loop
     pub cube_lasts : T (lasts (crossed_mask pattern) (loops_by D cut cs))
@@ -131,5 +131,5 @@ module _ (D : Decider) where
     four = λ cut cs. (cube_ruled D cut cs).four;
     quiet = quiet;
     some = cube_some;
-    single = cube-single;
+    single = cube_single;
   }

@@ -152,16 +152,16 @@ module _ (p : ℕ) (j : ℕ → Bool) where
       ≡ bit (crossed p (ring_edge f i))
   one_link_each f i hf hi =
       one_link (holds p (ring_corner f 0)) (holds p (ring_corner f 1)) (holds p (ring_corner f 2)) (holds p (ring_corner f 3)) (j f) i hi
-      ∙ ap bit (ring-is i hi) ∙ ap bit (sym (ring_edge_crossed (holds p) f i hf hi))
+      ∙ ap bit (ring_is i hi) ∙ ap bit (sym (ring_edge_crossed (holds p) f i hf hi))
     where
-      ring-is : (i : ℕ) → i < 4
+      ring_is : (i : ℕ) → i < 4
           → ring_crossed (holds p (ring_corner f 0)) (holds p (ring_corner f 1)) (holds p (ring_corner f 2)) (holds p (ring_corner f 3)) i
           ≡ differ (holds p (ring_corner f i)) (holds p (ring_corner f (next i)))
-      ring-is zero h = refl
-      ring-is (suc zero) h = refl
-      ring-is (suc (suc zero)) h = refl
-      ring-is (suc (suc (suc zero))) h = refl
-      ring-is (suc (suc (suc (suc i)))) h = absurd (omega arith)
+      ring_is zero h = refl
+      ring_is (suc zero) h = refl
+      ring_is (suc (suc zero)) h = refl
+      ring_is (suc (suc (suc zero))) h = refl
+      ring_is (suc (suc (suc (suc i)))) h = absurd (omega arith)
 
 pub loops_four : (n : ℕ) (ls : List ℕ) (m : ℕ) → length (loops_from n ls m) ≤ n
 unfolding loops_from

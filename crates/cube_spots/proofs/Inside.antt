@@ -81,9 +81,9 @@ module _ (n : Size) (s : List ℕ) (b : Sampled n s) (c : ℕ) (h : c < cube_cou
         north n.nx n.ny i j k,
         both n.nx n.ny i j k,
         up n.nx n.ny i j k,
-        up-east n.nx n.ny i j k,
-        up-north n.nx n.ny i j k,
-        up-both n.nx n.ny i j k,
+        up_east n.nx n.ny i j k,
+        up_north n.nx n.ny i j k,
+        up_both n.nx n.ny i j k,
       )
     where
       east : (w h i j k : ℕ) → i + w * (j + h * k) + 1 ≡ i + 1 + w * (j + h * k)
@@ -98,14 +98,14 @@ module _ (n : Size) (s : List ℕ) (b : Sampled n s) (c : ℕ) (h : c < cube_cou
       up : (w h i j k : ℕ) → i + w * (j + h * k) + w * h ≡ i + w * (j + h * (k + 1))
       up w h i j k = omega arith
 
-      up-east : (w h i j k : ℕ) → i + w * (j + h * (k + 1)) + 1 ≡ i + 1 + w * (j + h * (k + 1))
-      up-east w h i j k = omega arith
+      up_east : (w h i j k : ℕ) → i + w * (j + h * (k + 1)) + 1 ≡ i + 1 + w * (j + h * (k + 1))
+      up_east w h i j k = omega arith
 
-      up-north : (w h i j k : ℕ) → i + w * (j + h * (k + 1)) + w ≡ i + w * (j + 1 + h * (k + 1))
-      up-north w h i j k = omega arith
+      up_north : (w h i j k : ℕ) → i + w * (j + h * (k + 1)) + w ≡ i + w * (j + 1 + h * (k + 1))
+      up_north w h i j k = omega arith
 
-      up-both : (w h i j k : ℕ) → i + w * (j + 1 + h * (k + 1)) + 1 ≡ i + 1 + w * (j + 1 + h * (k + 1))
-      up-both w h i j k = omega arith
+      up_both : (w h i j k : ℕ) → i + w * (j + 1 + h * (k + 1)) + 1 ≡ i + 1 + w * (j + 1 + h * (k + 1))
+      up_both w h i j k = omega arith
 
 -- a plane is at most 256 by 256 samples
 pub plane_small : (n : Size) → Limits n → n.nx * n.ny ≤ 65536

@@ -20,7 +20,7 @@ use Rattle.place.specs.Steps.{Placeable}
 use Rattle.cell.specs.declared.CubeAnswer.{CubeAnswer}
 use Rattle.cell.specs.declared.Found.TheVariants as found
 use Rattle.cell.specs.Answer.{mark_of, word_of, origin, cube_verdict, CubeAnswered}
-use Rattle.cell.proofs.Answers.{verdict-is, loop-placeable, accepted-found, accepted-loops, said-cube-injective}
+use Rattle.cell.proofs.Answers.{verdict_is, loop_placeable, accepted_found, accepted_loops, said_cube_injective}
 use Rattle.mesh_rule.specs.Buffers.{triples}
 use Rattle.mesh_rule.specs.Layers.{pairs}
 use Rattle.cube_vertices.specs.Cubes.{names_by, words_by, offsets_by, Stored, CubeWritten}
@@ -103,20 +103,20 @@ single_small cut cs m e = ((cube_laws joined).sized cut cs m (rw e (Memᴰ.head 
 
 module _ (cut : Cut) (cs : List ℕ) (ok : threshold_row cut ≡ Passes) where
   cube_passes : cube_verdict cut ≡ Passes
-  cube_passes = verdict-is cut ∙ ok
+  cube_passes = verdict_is cut ∙ ok
 
   pub single_placeable : (m : ℕ) → loops_of cut cs ≡ m ∷ [] → Placeable cut cs m
-  single_placeable m e = loop-placeable cut cs cube_passes m (rw e (Memᴰ.head refl))
+  single_placeable m e = loop_placeable cut cs cube_passes m (rw e (Memᴰ.head refl))
 
   -- so the cube question answers its loops
   module _ (r : CubeAnswer) (told : CubeAnswered cs cut r) where
     pub answer_found : r.found ≡ found.Loops (length (loops_of cut cs))
     answer_found =
-        said-cube-injective r.found (found.Loops (length (loops_of cut cs)))
-        (told.found ∙ sym (accepted-found cut cs cube_passes (length (loops_of cut cs)) refl))
+        said_cube_injective r.found (found.Loops (length (loops_of cut cs)))
+        (told.found ∙ sym (accepted_found cut cs cube_passes (length (loops_of cut cs)) refl))
 
     pub answer_words : r.words ≡ filled 4 0 (names_by loops_of cut cs)
-    answer_words = told.words ∙ ap (λ (ms : List ℕ). filled 4 0 (map (word_of cs) ms)) (accepted-loops cut cs cube_passes)
+    answer_words = told.words ∙ ap (λ (ms : List ℕ). filled 4 0 (map (word_of cs) ms)) (accepted_loops cut cs cube_passes)
 
     pub answer_offsets : r.offsets ≡ filled 4 origin (map (place_of cut cs) (loops_of cut cs))
-    answer_offsets = told.offsets ∙ ap (λ (ms : List ℕ). filled 4 origin (map (place_of cut cs) ms)) (accepted-loops cut cs cube_passes)
+    answer_offsets = told.offsets ∙ ap (λ (ms : List ℕ). filled 4 origin (map (place_of cut cs) ms)) (accepted_loops cut cs cube_passes)

@@ -36,7 +36,7 @@ use Rattle.reading.specs.Input.{size_read, cut_read, samples_read}
 use Rattle.lines.specs.Output.{closed_field, Ran}
 use Rattle.parsniprow_c.specs.Told.{tell_over, MeshTold, ClosedTold, ClosedWithTold}
 use Rattle.told.specs.Numbers.{told_closed}
-use Rattle.demands.specs.Answers.{NotRefused, MeshCall, quadsWritten}
+use Rattle.demands.specs.Answers.{NotRefused, MeshCall, quads_written}
 use Rattle.demands.proofs.Allowed.{closed_allows}
 use Rattle.demands.proofs.Refusals.{closed_accepts, closed_with_accepts}
 use Rattle.demands.proofs.Numbers.{closed_numbers, closed_with_numbers}
@@ -49,37 +49,37 @@ module _ {nx ny nz : ℕ} {s : List ℕ} {cut : Cut} (a : MeshCall nx ny nz s cu
   -- ---- whatever the samples are
 
   -- at most 12 of the quads that it wrote meet at a vertex, and at most 12 of their sides start there
-  pub twelve_after : (v : ℕ) → (quads_at (quadsWritten a) v ≤ 12) × (sides_from (quadsWritten a) v ≤ 12)
+  pub twelve_after : (v : ℕ) → (quads_at (quads_written a) v ≤ 12) × (sides_from (quads_written a) v ≤ 12)
   twelve_after v = rw (quads_front a) (twelve_quads (size_of nx ny nz) s cut v, twelve_sides (size_of nx ny nz) s cut v)
 
   -- a word for each vertex and one for each side are memory enough
-  pub enough_after : words_needed (quadsWritten a) ≤ a.counts.vertices + 4 * a.counts.quads
+  pub enough_after : words_needed (quads_written a) ≤ a.counts.vertices + 4 * a.counts.quads
   enough_after = rw (quads_front a) (omega (arith, words_enough (size_of nx ny nz) s cut, vertices_are a, quads_are a))
 
-  length-passes : length_row (quadsWritten a) ≡ Passes
-  length-passes = (length_exactly (quadsWritten a)).1 (rw (quads_front a) (omega (arith, flat_long a)))
+  length-passes : length_row (quads_written a) ≡ Passes
+  length-passes = (length_exactly (quads_written a)).1 (rw (quads_front a) (omega (arith, flat_long a)))
 
   -- open: a face of the box cuts the surface off
-  pub open_after : (q r : ℕ) → ClosedAnswered (quadsWritten a) (Open q r) → CutOff (size_of nx ny nz) s cut
-  open_after q r p = open_cut (size_of nx ny nz) s cut q r (sym (ap finding_of (quads_front a)) ∙ sym ((closed_accepts (quadsWritten a) (Open q r) p (open_at q r)).0 refl).1)
+  pub open_after : (q r : ℕ) → ClosedAnswered (quads_written a) (Open q r) → CutOff (size_of nx ny nz) s cut
+  open_after q r p = open_cut (size_of nx ny nz) s cut q r (sym (ap finding_of (quads_front a)) ∙ sym ((closed_accepts (quads_written a) (Open q r) p (open_at q r)).0 refl).1)
 
-  pub open_with_after : (work work' : List ℕ) (q r : ℕ) → ClosedWith (quadsWritten a) work (Open q r) work' → CutOff (size_of nx ny nz) s cut
+  pub open_with_after : (work work' : List ℕ) (q r : ℕ) → ClosedWith (quads_written a) work (Open q r) work' → CutOff (size_of nx ny nz) s cut
   open_with_after work work' q r p =
-      open_cut (size_of nx ny nz) s cut q r (sym (ap finding_of (quads_front a)) ∙ sym ((closed_with_accepts (quadsWritten a) work (Open q r) work' p (open_at q r)).0 refl).1)
+      open_cut (size_of nx ny nz) s cut q r (sym (ap finding_of (quads_front a)) ∙ sym ((closed_with_accepts (quads_written a) work (Open q r) work' p (open_at q r)).0 refl).1)
 
   -- ---- all samples on the six faces of the box are of one sign
 
   module _ (sign : Bool) (faces : FacesAre sign (size_of nx ny nz) s cut) where
-    found : finding_of (quadsWritten a) ≡ all_sound
+    found : finding_of (quads_written a) ≡ all_sound
     found = rw (quads_front a) (mesh_closed (size_of nx ny nz) s cut sign faces)
 
-    pub closed_after : (r : Closure) → ClosedAnswered (quadsWritten a) r → r ≡ Closed
-    closed_after r p = said_closure_injective r Closed ((closed_accepts (quadsWritten a) r p all_sound).1 (length-passes, sym found))
+    pub closed_after : (r : Closure) → ClosedAnswered (quads_written a) r → r ≡ Closed
+    closed_after r p = said_closure_injective r Closed ((closed_accepts (quads_written a) r p all_sound).1 (length-passes, sym found))
 
-    pub closed_with_after : (work : List ℕ) (r : Closure) (work' : List ℕ) → words_needed (quadsWritten a) ≤ length work → ClosedWith (quadsWritten a) work r work' → r ≡ Closed
+    pub closed_with_after : (work : List ℕ) (r : Closure) (work' : List ℕ) → words_needed (quads_written a) ≤ length work → ClosedWith (quads_written a) work r work' → r ≡ Closed
     closed_with_after work r work' room p =
-        let c = closed_allows (quadsWritten a) in
-        sym (same_answer (quadsWritten a) work work' c.0 r room c.1 p) ∙ closed_after c.0 c.1
+        let c = closed_allows (quads_written a) in
+        sym (same_answer (quads_written a) work work' c.0 r room c.1 p) ∙ closed_after c.0 c.1
 
 -- ---- what a C caller finds: 0 and 1 for closed, 0 and 0 for open
 
@@ -111,7 +111,7 @@ module _ (nx ny nz : ℕ) (s : List ℕ) (t noise : ℕ) (w : List ℕ) (o : Lis
   abbrev list_found : List ℕ
   list_found = take (4 * get_or place' 2 0) q'
 
-  is_written : list_found ≡ quadsWritten call
+  is_written : list_found ≡ quads_written call
   unfolding call
   is_written = ap₂ (λ (k : ℕ) (l : List ℕ). take (4 * k) l) quads_found (sym (mesh_told_call nx ny nz s t noise w o q place w' o' q' place' m z).2.2)
 
@@ -119,10 +119,10 @@ module _ (nx ny nz : ℕ) (s : List ℕ) (t noise : ℕ) (w : List ℕ) (o : Lis
   pub mesh_told_enough : words_needed (take (4 * get_or place' 2 0) q') ≤ get_or place' 1 0 + 4 * get_or place' 2 0
   mesh_told_enough = subst (λ (l : List ℕ). words_needed l ≤ get_or place' 1 0 + 4 * get_or place' 2 0) (sym is_written) (omega (arith, enough_after call, vertices_found, quads_found))
 
-  asked : {p p' : List ℕ} (c : ClosedTold (take (4 * get_or place' 2 0) q') p p') → ClosedAnswered (quadsWritten call) c.answer
+  asked : {p p' : List ℕ} (c : ClosedTold (take (4 * get_or place' 2 0) q') p p') → ClosedAnswered (quads_written call) c.answer
   asked c = subst (λ (l : List ℕ). ClosedAnswered l c.answer) is_written c.answered
 
-  asked_with : {work p work' p' : List ℕ} (c : ClosedWithTold (take (4 * get_or place' 2 0) q') work p work' p') → ClosedWith (quadsWritten call) work c.answer work'
+  asked_with : {work p work' p' : List ℕ} (c : ClosedWithTold (take (4 * get_or place' 2 0) q') work p work' p') → ClosedWith (quads_written call) work c.answer work'
   asked_with {work} {p} {work'} {p'} c = subst (λ (l : List ℕ). ClosedWith l work c.answer work') is_written c.answered
 
   -- open: a face of the box cuts the surface off
@@ -130,27 +130,27 @@ module _ (nx ny nz : ℕ) (s : List ℕ) (t noise : ℕ) (w : List ℕ) (o : Lis
   mesh_told_open p p' c first second =
       told_open p p' c.answer c.is_told
       (none_told 4 _ (said_closure c.answer) p p' c.is_told first (λ x e. omega (arith, closed_numbers list_found x ((refused_exactly _ _ _ c.answered x).0 e)))) second
-      (λ a b e. open_after call a b (subst (ClosedAnswered (quadsWritten call)) e (asked c)))
+      (λ a b e. open_after call a b (subst (ClosedAnswered (quads_written call)) e (asked c)))
 
   pub mesh_told_open_with : (work p work' p' : List ℕ) → ClosedWithTold (take (4 * get_or place' 2 0) q') work p work' p' → get_or p' 0 1 ≡ 0 → get_or p' 1 1 ≡ 0 → CutOff (size_of nx ny nz) s (cut_of t noise)
   mesh_told_open_with work p work' p' c first second =
       told_open p p' c.answer c.is_told
       (none_told 4 _ (said_closure c.answer) p p' c.is_told first
       (λ x e. ⊎_elim (λ h. omega (arith, h)) (λ h. omega (arith, h)) (closed_with_numbers list_found (length work) x ((refused_exactly _ _ _ c.answered.answer x).0 e)))) second
-      (λ a b e. open_with_after call work work' a b (subst (λ (r : Closure). ClosedWith (quadsWritten call) work r work') e (asked_with c)))
+      (λ a b e. open_with_after call work work' a b (subst (λ (r : Closure). ClosedWith (quads_written call) work r work') e (asked_with c)))
 
   module _ (sign : Bool) (faces : FacesAre sign (size_of nx ny nz) s (cut_of t noise)) where
-    is-closed : (p p' : List ℕ) (r : Closure) → p' ≡ tell_over (told_closed (said_closure r)) p → r ≡ Closed → p' ≡ tell_over (0 ∷ 1 ∷ 0 ∷ 0 ∷ []) p
+    is_closed : (p p' : List ℕ) (r : Closure) → p' ≡ tell_over (told_closed (said_closure r)) p → r ≡ Closed → p' ≡ tell_over (0 ∷ 1 ∷ 0 ∷ 0 ∷ []) p
     unfolding filled
-    is-closed p p' r e c = e ∙ ap (λ (x : Closure). tell_over (told_closed (said_closure x)) p) c
+    is_closed p p' r e c = e ∙ ap (λ (x : Closure). tell_over (told_closed (said_closure x)) p) c
 
     pub mesh_told_closed : (p p' : List ℕ) → ClosedTold (take (4 * get_or place' 2 0) q') p p' → p' ≡ tell_over (0 ∷ 1 ∷ 0 ∷ 0 ∷ []) p
-    mesh_told_closed p p' c = is-closed p p' c.answer c.is_told (closed_after call sign faces c.answer (asked c))
+    mesh_told_closed p p' c = is_closed p p' c.answer c.is_told (closed_after call sign faces c.answer (asked c))
 
     pub mesh_told_closed_with : (work p work' p' : List ℕ) → words_needed (take (4 * get_or place' 2 0) q') ≤ length work → ClosedWithTold (take (4 * get_or place' 2 0) q') work p work' p'
         → p' ≡ tell_over (0 ∷ 1 ∷ 0 ∷ 0 ∷ []) p
     mesh_told_closed_with work p work' p' room c =
-        is-closed p p' c.answer c.is_told (closed_with_after call sign faces work c.answer work' (subst (λ (l : List ℕ). words_needed l ≤ length work) is_written room) (asked_with c))
+        is_closed p p' c.answer c.is_told (closed_with_after call sign faces work c.answer work' (subst (λ (l : List ℕ). words_needed l ≤ length work) is_written room) (asked_with c))
 
 -- ---- the program: the last field of its first line is 01 for such a block, and if it is 00 the surface is cut off
 

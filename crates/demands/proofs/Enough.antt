@@ -58,12 +58,12 @@ module _ (u v : ℕ → Bool) (w h : ℕ) where
   plane_le : (t : ℕ → Bool) (k : ℕ) → count (λ (x : ℕ). u ((w * h * k + x) % w) && v ((w * h * k + x) / w % h) && t ((w * h * k + x) / w / h)) (w * h) ≤ count u w * count v h
   plane_le t k =
       rw (count_plane k) at
-      (count_le (λ (x : ℕ). u ((w * h * k + x) % w) && v ((w * h * k + x) / w % h) && t ((w * h * k + x) / w / h)) (λ (x : ℕ). passes (w * h * k + x)) (w * h) (λ x l. third-le (u ((w * h * k + x) % w) && v ((w * h * k + x) / w % h)) (t ((w * h * k + x) / w / h))))
+      (count_le (λ (x : ℕ). u ((w * h * k + x) % w) && v ((w * h * k + x) / w % h) && t ((w * h * k + x) / w / h)) (λ (x : ℕ). passes (w * h * k + x)) (w * h) (λ x l. third_le (u ((w * h * k + x) % w) && v ((w * h * k + x) / w % h)) (t ((w * h * k + x) / w / h))))
     where
-      third-le : (a b : Bool) → bit (a && b) ≤ bit (a && true)
-      third-le true true = omega arith
-      third-le true false = omega arith
-      third-le false b = omega arith
+      third_le : (a b : Bool) → bit (a && b) ≤ bit (a && true)
+      third_le true true = omega arith
+      third_le true false = omega arith
+      third_le false b = omega arith
 
 -- ---- a layer
 

@@ -51,7 +51,7 @@ use Rattle.foundry.proofs.Rows.{sent_below}
 use Rattle.parsniprow_c.specs.Told.{tell_over, JudgeTold}
 use Rattle.told.specs.Numbers.{told_judgement}
 use Rattle.block.specs.Grey.{cut_of}
-use Rattle.demands.specs.Answers.{MeshCall, quadsWritten}
+use Rattle.demands.specs.Answers.{MeshCall, quads_written}
 use Rattle.demands.specs.Foundry.{SentFrom}
 use Rattle.demands.proofs.Files.{offsets_pass}
 use Rattle.demands.proofs.Numbers.{axis_number_lem, count_number, threshold_number, length_number, search_number, unless_number}
@@ -223,12 +223,12 @@ module _ {nx ny nz : ℕ} {s : List ℕ} {cut : Cut} (a : MeshCall nx ny nz s cu
 
 -- and so does what it wrote, as it wrote it
 pub written_sent : {nx ny nz : ℕ} {s : List ℕ} {cut : Cut} (a : MeshCall nx ny nz s cut)
-    → SentFrom a (take (2 * a.counts.vertices) a.words_after) (take (3 * a.counts.vertices) a.offsets_after) (quadsWritten a)
+    → SentFrom a (take (2 * a.counts.vertices) a.words_after) (take (3 * a.counts.vertices) a.offsets_after) (quads_written a)
 unfolding itself_shuffled
 written_sent {nx} {ny} {nz} {s} {cut} a = record {
   words_long = ap length (words_front a) ∙ mesh_words_length (size_of nx ny nz) s cut ∙ ap (λ (m : ℕ). 2 * m) (sym (vertices_are a));
   offsets_long = ap length (offsets_front a) ∙ mesh_offsets_length (size_of nx ny nz) s cut ∙ ap (λ (m : ℕ). 3 * m) (sym (vertices_are a));
   quads_long = ap length (quads_front a) ∙ flat_long a;
-  shuffled = itself_shuffled (take (2 * a.counts.vertices) a.words_after) (quadsWritten a);
+  shuffled = itself_shuffled (take (2 * a.counts.vertices) a.words_after) (quads_written a);
   offsets_kept = λ v k h few. ap (λ (l : List Float). get_or l (3 * v + k) nan) (offsets_front a) ∙ sym (offset_at a (3 * v + k) (omega (arith, h, few)));
 }

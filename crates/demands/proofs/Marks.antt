@@ -30,7 +30,7 @@ use Rattle.cube_rule.specs.Plain.{mixed}
 use Rattle.cube_rule.proofs.Laws.{cube_laws, pattern_sign, differ_self}
 use Rattle.cell.specs.declared.CubeAnswer.{CubeAnswer}
 use Rattle.cell.specs.Answer.{word_of, cube_verdict, said_cube, loops_answered, CubeAnswered}
-use Rattle.cell.proofs.Answers.{accepted-loops}
+use Rattle.cell.proofs.Answers.{accepted_loops}
 use Rattle.cell.proofs.Words.{word_mark, word_mask, word_small}
 use Rattle.mesh_rule.specs.Buffers.{mesh_words}
 use Rattle.mesh_rule.specs.Grid.{sample_at, corners_at, corners_of, ahead, crossed_from, EdgeIn}
@@ -242,20 +242,20 @@ module _ {nx ny nz : ℕ} {s : List ℕ} {cut : Cut} (a : MeshCall nx ny nz s cu
     under : (v : ℕ) → v < 65536 → (v ≡ 65535 → ⊥) → v < 65535
     under v l d = omega arith
 
-    corner-below : (x y z : Bool) → sample_at n s (i + bit x) (j + bit y) (k + bit z) < 65535
-    corner-below x y z =
+    corner_below : (x y z : Bool) → sample_at n s (i + bit x) (j + bit y) (k + bit z) < 65535
+    corner_below x y z =
         under (sample_at n s (i + bit x) (j + bit y) (k + bit z)) (grey _)
         (λ e. clear (record { place = corner_number x y z; there = rw corners (corner_lt x y z); is = at x y z ∙ e }))
 
-    pair-below : (sample_at n s (i + bit x) (j + bit y) (k + bit z) < 65535) × (sample_at n s (i + bit x') (j + bit y') (k + bit z') < 65535)
-    pair-below = (corner-below x y z, corner-below x' y' z')
+    pair_below : (sample_at n s (i + bit x) (j + bit y) (k + bit z) < 65535) × (sample_at n s (i + bit x') (j + bit y') (k + bit z') < 65535)
+    pair_below = (corner_below x y z, corner_below x' y' z')
 
   -- two samples by their coordinates, at corners of the cube (b₀,b₁,b₂)
   near_below : (i j k i' j' k' b₀ b₁ b₂ : ℕ) (x y z x' y' z' : Bool) → b₀ < nx - 1 → b₁ < ny - 1 → b₂ < nz - 1
       → i ≡ b₀ + bit x → j ≡ b₁ + bit y → k ≡ b₂ + bit z → i' ≡ b₀ + bit x' → j' ≡ b₁ + bit y' → k' ≡ b₂ + bit z'
       → apart cut (sample_at n s i j k) (sample_at n s i' j' k') ≡ true → (sample_at n s i j k < 65535) × (sample_at n s i' j' k' < 65535)
   near_below i j k i' j' k' b₀ b₁ b₂ x y z x' y' z' h₀ h₁ h₂ e₀ e₁ e₂ f₀ f₁ f₂ cross =
-      rw (e₀, e₁, e₂, f₀, f₁, f₂) (pair-below b₀ b₁ b₂ h₀ h₁ h₂ x y z x' y' z' (rw (e₀, e₁, e₂, f₀, f₁, f₂) at cross))
+      rw (e₀, e₁, e₂, f₀, f₁, f₂) (pair_below b₀ b₁ b₂ h₀ h₁ h₂ x y z x' y' z' (rw (e₀, e₁, e₂, f₀, f₁, f₂) at cross))
 
   neighbours_below : (i j k i' j' k' : ℕ) → Sides nx i i' → Sides ny j j' → Sides nz k k'
       → apart cut (sample_at n s i j k) (sample_at n s i' j' k') ≡ true → (sample_at n s i j k < 65535) × (sample_at n s i' j' k' < 65535)
@@ -285,7 +285,7 @@ module _ (corners : List ℕ) (cut : Cut) (r : CubeAnswer) (promise : CubeAnswer
   place_is : (l : ℕ) → get_or r.words l 0 ≡ get_or (map (word_of corners) (loops_of cut corners)) l 0
   place_is l =
       ap (λ (ws : List ℕ). get_or ws l 0) promise.words ∙ filled_at 4 0 (map (word_of corners) (loops_answered cut corners)) l
-      ∙ ap (λ (ms : List ℕ). get_or (map (word_of corners) ms) l 0) (accepted-loops cut corners both_of.0)
+      ∙ ap (λ (ms : List ℕ). get_or (map (word_of corners) ms) l 0) (accepted_loops cut corners both_of.0)
 
   used_is : (l : ℕ) → l < n → get_or r.words l 0 ≡ word_of corners (get_or (loops_of cut corners) l 0)
   used_is l h = place_is l ∙ map_at (word_of corners) (loops_of cut corners) l (omega (arith, h, both_of.1))

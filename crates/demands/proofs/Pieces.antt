@@ -34,7 +34,7 @@ use Rattle.pieces.proofs.Rules.{together_exactly, sizes_sum, no_quads_number, no
 use Rattle.pieces.proofs.Found.{some_numbers, refused_by}
 use Rattle.parsniprow_c.specs.Told.{tell_over, PiecesTold}
 use Rattle.told.specs.Numbers.{told_pieces}
-use Rattle.demands.specs.Answers.{MeshCall, quadsWritten}
+use Rattle.demands.specs.Answers.{MeshCall, quads_written}
 use Rattle.demands.proofs.Lists.{quads_whole, quads_known}
 use Rattle.demands.proofs.Numbers.{length_number, search_number, unless_number}
 use Rattle.demands.proofs.Refusals.{refuses_by}
@@ -177,7 +177,7 @@ pieces_told_allows n quads piece size place few =
 
 -- The quads that a call of `mesh` wrote, with as many vertices as it answered, are refused by no row but 5: all that the verdict says is whether both buffers are long enough.
 pub pieces_of_mesh : {nx ny nz : ℕ} {s : List ℕ} {cut : Cut} (a : MeshCall nx ny nz s cut) (piece size : ℕ)
-    → pieces_verdict a.counts.vertices (quadsWritten a) piece size ≡ buffer_row a.counts.vertices piece size
+    → pieces_verdict a.counts.vertices (quads_written a) piece size ≡ buffer_row a.counts.vertices piece size
 pieces_of_mesh {nx} {ny} {nz} {s} {cut} a piece size =
     rw (quads_front a)
     (order_passes (length_row (mesh_quads loops_of (size_of nx ny nz) s cut)) _ (quads_whole (size_of nx ny nz) s cut)

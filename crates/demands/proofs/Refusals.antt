@@ -162,8 +162,8 @@ module _ (bytes : List ℕ) where
     prints : (text : List ℕ) → output_of bytes ≡ text → Prints text out r out'
     prints text e = record { count = promise.count ∙ ap length e; text = promise.text ∙ ap (λ (xs : List ℕ). over xs out) e }
 
-    printed-is : (text : List ℕ) → Prints text out r out' → output_of bytes ≡ text
-    printed-is text p = prints_one (prints (output_of bytes) refl) p
+    printed_is : (text : List ℕ) → Prints text out r out' → output_of bytes ≡ text
+    printed_is text p = prints_one (prints (output_of bytes) refl) p
 
     -- the line of a refusal is printed exactly when the checks refuse so
     pub run_refuses : (x : Refusal) → x.number < 256 → x.value ≤ 4294967295 → Prints (refusal_line x) out r out' ↔ (input_verdict bytes ≡ Refuses x)
@@ -172,8 +172,8 @@ module _ (bytes : List ℕ) where
         there : Prints (refusal_line x) out r out' → input_verdict bytes ≡ Refuses x
         there p =
             either (input_verdict bytes ≡ Refuses x)
-            (λ y e. e ∙ ap Refuses (refusal_same y x (told_number_lem y (run_numbers bytes y e)) (run_values bytes y e) n v (sym (output_refused y e) ∙ printed-is (refusal_line x) p)))
-            (λ e. absurd (mesh_no_refusal _ _ _ _ _ x (sym (output_accepted e) ∙ printed-is (refusal_line x) p)))
+            (λ y e. e ∙ ap Refuses (refusal_same y x (told_number_lem y (run_numbers bytes y e)) (run_values bytes y e) n v (sym (output_refused y e) ∙ printed_is (refusal_line x) p)))
+            (λ e. absurd (mesh_no_refusal _ _ _ _ _ x (sym (output_accepted e) ∙ printed_is (refusal_line x) p)))
 
     -- and the mesh of the block exactly when they pass
     pub run_accepts : Prints (block_text (size_read bytes) (samples_read bytes (size_read bytes)) (cut_read bytes)) out r out' ↔ (input_verdict bytes ≡ Passes)
@@ -182,5 +182,5 @@ module _ (bytes : List ℕ) where
         there : Prints text_read out r out' → input_verdict bytes ≡ Passes
         there p =
             either (input_verdict bytes ≡ Passes)
-            (λ y e. absurd (mesh_no_refusal _ _ _ _ _ y (sym (printed-is text_read p) ∙ output_refused y e)))
+            (λ y e. absurd (mesh_no_refusal _ _ _ _ _ y (sym (printed_is text_read p) ∙ output_refused y e)))
             (λ e. e)

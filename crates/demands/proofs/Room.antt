@@ -36,7 +36,7 @@ use Rattle.file_bytes.proofs.Decimal.{length_most}
 use Rattle.ply.specs.Words.{file_length}
 use Rattle.parsniprow_c.specs.Told.{tell_over, CrossedTold, MeshTold}
 use Rattle.told.specs.Numbers.{told_number}
-use Rattle.demands.specs.Answers.{NotRefused, MeshCall, quadsWritten, Reserved}
+use Rattle.demands.specs.Answers.{NotRefused, MeshCall, quads_written, Reserved}
 use Rattle.demands.proofs.Closing.{enough_after}
 use Rattle.demands.proofs.Numbers.{counts_numbers}
 use Rattle.demands.proofs.Places.{tell_at, none_told}
@@ -84,18 +84,18 @@ module _ (nx ny nz : ℕ) (s : List ℕ) (cut : Cut) (r : Edged) (promise : Cros
     passed : block_verdict nx ny nz s cut ≡ Passes
     passed = ((crossed_accepts e).0 answered).0
 
-    is-count : e ≡ crossed_count (size_of nx ny nz) s cut
-    is-count = ((crossed_accepts e).0 answered).1
+    is_count : e ≡ crossed_count (size_of nx ny nz) s cut
+    is_count = ((crossed_accepts e).0 answered).1
 
     -- at most all edges of the largest block
     pub crossed_at_most : e ≤ 50135040
-    crossed_at_most = rw is-count (most_edges (size_of nx ny nz) s cut (axes_within nx ny nz (order_first (axis_row nx ny nz) _ passed)))
+    crossed_at_most = rw is_count (most_edges (size_of nx ny nz) s cut (axes_within nx ny nz (order_first (axis_row nx ny nz) _ passed)))
 
     few_vertices : 3 * vertex_count (size_of nx ny nz) s cut ≤ 4 * e
-    few_vertices = rw is-count (vertices_bound joined loops_of (cube_laws joined) (size_of nx ny nz) s cut)
+    few_vertices = rw is_count (vertices_bound joined loops_of (cube_laws joined) (size_of nx ny nz) s cut)
 
     few_quads : quad_count (size_of nx ny nz) s cut ≤ e
-    few_quads = rw is-count (quads_bound loops_of (size_of nx ny nz) s cut)
+    few_quads = rw is_count (quads_bound loops_of (size_of nx ny nz) s cut)
 
     -- "Three times the vertices is at most four times E, and quads are at most E": of what counting answers, and of a mesh
     pub room_enough : (c : Counted) → CountsAnswered nx ny nz s cut c → (t : Totals) → said_counts c ≡ accepted t → (3 * t.vertices ≤ 4 * e) × (t.quads ≤ e)
@@ -121,16 +121,16 @@ module _ (nx ny nz : ℕ) (s : List ℕ) (cut : Cut) (r : Edged) (promise : Cros
 
     -- ---- and so much is enough for what is asked of that mesh afterwards: the words of the closed question, the vertices of pieces, the bytes of the file
 
-    few-digits : (n : ℕ) → n ≤ 4 * e / 3 → length (decimal n) ≤ 8
-    few-digits n h = length_most 8 n (omega arith) (omega (arith, h, crossed_at_most))
+    few_digits : (n : ℕ) → n ≤ 4 * e / 3 → length (decimal n) ≤ 8
+    few_digits n h = length_most 8 n (omega arith) (omega (arith, h, crossed_at_most))
 
     pub room_after : (a : MeshCall nx ny nz s cut)
-        → (words_needed (quadsWritten a) ≤ 4 * e / 3 + 4 * e) × (a.counts.vertices ≤ 4 * e / 3) × (file_length a.counts.vertices a.counts.quads ≤ 186 + 24 * (4 * e / 3) + 17 * e)
+        → (words_needed (quads_written a) ≤ 4 * e / 3 + 4 * e) × (a.counts.vertices ≤ 4 * e / 3) × (file_length a.counts.vertices a.counts.quads ≤ 186 + 24 * (4 * e / 3) + 17 * e)
     room_after a =
         let b = room_enough_mesh a in
         let v : a.counts.vertices ≤ 4 * e / 3 = omega (arith, b.0) in
         let q : a.counts.quads ≤ 4 * e / 3 = omega (arith, b.1) in
-        (omega (arith, b, enough_after a), v, omega (arith, v, b.1, few-digits a.counts.vertices v, few-digits a.counts.quads q))
+        (omega (arith, b, enough_after a), v, omega (arith, v, b.1, few_digits a.counts.vertices v, few_digits a.counts.quads q))
 
 -- ---- a C caller
 

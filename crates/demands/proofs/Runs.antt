@@ -135,11 +135,11 @@ module _ {nx ny nz : ℕ} {s : List ℕ} {cut : Cut} {m : ℕ} (r : PlaneRun nx 
     gave : (verdict ≡ Passes) × (given ≡ grown)
     gave = let a = accepted_says _ _ given (sym (r.accepts k h) ∙ taken.answer) in (a.0, a.1 ∙ part.uncut)
 
-    counts-at : r.counts k ≡ part_totals n s cut k
-    counts-at = ap (λ (g : Growth). g.counts) gave.1 ∙ part.counts_are
+    counts_at : r.counts k ≡ part_totals n s cut k
+    counts_at = ap (λ (g : Growth). g.counts) gave.1 ∙ part.counts_are
 
-    next-at : At (suc k)
-    next-at =
+    next_at : At (suc k)
+    next_at =
         record {
           is = ap (λ (g : Growth). g.stream) gave.1 ∙ on;
           left = subst (λ (st : Stream). Left s st (r.work (suc k))) on (part.left gave.0);
@@ -150,7 +150,7 @@ module _ {nx ny nz : ℕ} {s : List ℕ} {cut : Cut} {m : ℕ} (r : PlaneRun nx 
 
   at : (k : ℕ) → k ≤ m → At k
   at zero h = begins_at
-  at (suc k) h = next-at k (omega arith) (at k (omega arith))
+  at (suc k) h = next_at k (omega arith) (at k (omega arith))
 
   -- what was left is left: the state and the work buffer after k planes
   pub planes_left : (k : ℕ) → k ≤ m → Left s (r.state k) (r.work k)
@@ -176,7 +176,7 @@ module _ {nx ny nz : ℕ} {s : List ℕ} {cut : Cut} {m : ℕ} (r : PlaneRun nx 
     here = at k (omega arith)
 
     pub planes_counts : r.counts k ≡ part_totals n s cut k
-    planes_counts = counts-at k h here
+    planes_counts = counts_at k h here
 
     -- no sum is cut
     pub planes_uncut : ((r.state (suc k)).vertices ≡ (r.state k).vertices + (r.counts k).vertices) × ((r.state (suc k)).quads ≡ (r.state k).quads + (r.counts k).quads)
@@ -258,12 +258,12 @@ module _ {nx ny nz : ℕ} {s : List ℕ} {cut : Cut} (r : PlaneRun nx ny nz s cu
   -- the quads of all calls, and that those of the last plane are none
   call_flat : (k : ℕ) → part_quads size s cut (suc k) ≡ flat (call_list (cube_laws joined) size s cut k)
   call_flat k =
-      three_same (plane-flat X) (plane-flat Y) (plane-flat Z)
+      three_same (plane_flat X) (plane_flat Y) (plane_flat Z)
       ∙ sym (flat_append (plane_list (cube_laws joined) size s cut X k ++ plane_list (cube_laws joined) size s cut Y k) (plane_list (cube_laws joined) size s cut Z k)
       ∙ ap (λ (l : List ℕ). l ++ flat (plane_list (cube_laws joined) size s cut Z k)) (flat_append (plane_list (cube_laws joined) size s cut X k) (plane_list (cube_laws joined) size s cut Y k)))
     where
-      plane-flat : (a : Axis) → plane_quads loops_of size s cut a k ≡ flat (plane_list (cube_laws joined) size s cut a k)
-      plane-flat a = sym (flat_below (λ (x : ℕ). at_sample size (quad_at loops_of size s cut a) (plane_size size * k + x)) (plane_size size))
+      plane_flat : (a : Axis) → plane_quads loops_of size s cut a k ≡ flat (plane_list (cube_laws joined) size s cut a k)
+      plane_flat a = sym (flat_below (λ (x : ℕ). at_sample size (quad_at loops_of size s cut a) (plane_size size * k + x)) (plane_size size))
 
   all_flat : all_quads r ≡ flat (below (call_list (cube_laws joined) size s cut) last)
   all_flat =
@@ -297,7 +297,7 @@ module _ {nx ny nz : ℕ} {s : List ℕ} {cut : Cut} (r : PlaneRun nx ny nz s cu
   pub planes_totals : (c : Counted) → FinishAnswered (r.state nz) c → said_counts c ≡ accepted (counts_of size s cut)
   planes_totals c f =
       subst (λ (st : Stream). FinishAnswered st c) (at r nz (omega arith)).is f
-      ∙ sym (judged_passed _ (counts_of size s cut) _ ended (ap₂ (λ (v q : ℕ). record { vertices = v; quads = q }) vertices-all quads-all))
+      ∙ sym (judged_passed _ (counts_of size s cut) _ ended (ap₂ (λ (v q : ℕ). record { vertices = v; quads = q }) vertices_all quads_all))
     where
       l : Left s (standing r nz) (r.work nz)
       l = (at r nz (omega arith)).left
@@ -305,11 +305,11 @@ module _ {nx ny nz : ℕ} {s : List ℕ} {cut : Cut} (r : PlaneRun nx ny nz s cu
       ended : in_order (end_row (standing r nz) ∷ []) ≡ Passes
       ended = order_last (end_row (standing r nz)) ∙ ap (λ (b : Bool). cond b (refuses 18 nz) Passes) (le-ltb nz nz (omega arith))
 
-      vertices-all : vertex_count size s cut ≡ vertices_to r nz
-      vertices-all = sym (l.vertices_are ∙ ap (λ (k : ℕ). length (vertices_before loops_of size s cut k)) (layers_all size last last_is) ∙ vertices_are size s cut)
+      vertices_all : vertex_count size s cut ≡ vertices_to r nz
+      vertices_all = sym (l.vertices_are ∙ ap (λ (k : ℕ). length (vertices_before loops_of size s cut k)) (layers_all size last last_is) ∙ vertices_are size s cut)
 
-      quads-all : quad_count size s cut ≡ quads_to r nz
-      quads-all =
+      quads_all : quad_count size s cut ≡ quads_to r nz
+      quads_all =
           omega (
             arith,
             l.quads_are,

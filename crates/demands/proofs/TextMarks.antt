@@ -219,8 +219,8 @@ module _ (bytes out : List ℕ) (r : ℕ) (out' : List ℕ) (promise : Ran bytes
     cubes_few : cube_count n ≤ 512
     cubes_few = product_le (n.nx - 1) (n.ny - 1) (n.nz - 1) 8 8 8 (omega (arith, eight.x)) (omega (arith, eight.y)) (omega (arith, eight.z))
 
-    cube-read : number_at out' (vertex_place v + 2) 8 ≡ get_or (mesh_words loops_of n s cut) (2 * v) 0
-    cube-read =
+    cube_read : number_at out' (vertex_place v + 2) 8 ≡ get_or (mesh_words loops_of n s cut) (2 * v) 0
+    cube_read =
         field 2 8 (omega arith)
         ∙ line_cube (mesh_words loops_of n s cut) (mesh_offsets loops_of n s cut) v (omega (arith, cube_short n s cut v there, cubes_few))
 
@@ -232,7 +232,7 @@ module _ (bytes out : List ℕ) (r : ℕ) (out' : List ℕ) (promise : Ran bytes
     pub run_marked : (has_mark (number_at out' (vertex_place v + 10) 4) ≡ true) ↔ AtCeiling (corners_of n s (number_at out' (vertex_place v + 2) 8))
     run_marked =
         told_by (number_at out' (vertex_place v + 10) 4) (corners_of n s (number_at out' (vertex_place v + 2) 8))
-        (ap has_mark word_read ∙ word_bit n s cut v there ∙ ap (λ (c : ℕ). has_ceiling (corners_of n s c)) (sym cube-read))
+        (ap has_mark word_read ∙ word_bit n s cut v there ∙ ap (λ (c : ℕ). has_ceiling (corners_of n s c)) (sym cube_read))
 
   -- and where no vertex of the text is marked, no cube with corners of both signs has such a corner
   pub run_clear : ((v : ℕ) → v < number_at out' 2 8 → has_mark (number_at out' (vertex_place v + 10) 4) ≡ false)

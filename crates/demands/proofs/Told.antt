@@ -19,7 +19,7 @@ use Rattle.block.proofs.Saturated.{ceilings_none, ceilings_lowest}
 use Rattle.cell.specs.declared.Found.TheVariants as found-is
 use Rattle.cell.specs.declared.Found.{Found}
 use Rattle.cell.specs.Answer.{word_of, said_cube}
-use Rattle.cell.proofs.Answers.{verdict-is, accepted-loops}
+use Rattle.cell.proofs.Answers.{verdict_is, accepted_loops}
 use Rattle.mesh_rule.specs.Grid.{sample_at, corners_of, ahead, crossed_from, EdgeIn}
 use Rattle.mesh.specs.declared.Counted.{Counted}
 use Rattle.mesh.specs.declared.Counted.TheVariants as counted
@@ -79,7 +79,7 @@ module _ (corners : List ℕ) (t noise : ℕ) (w : List ℕ) (o : List Float) (p
   words_long =
       let e = (cube_accepts corners (cut_of t noise) m.answer m.answered loops.0).0 loops.1 in
       let is : m.answer.words ≡ filled 4 0 (map (word_of corners) (loops_of (cut_of t noise) corners)) =
-      m.answered.words ∙ ap (λ (ms : List ℕ). filled 4 0 (map (word_of corners) ms)) (accepted-loops (cut_of t noise) corners (verdict-is (cut_of t noise) ∙ e.0)) in
+      m.answered.words ∙ ap (λ (ms : List ℕ). filled 4 0 (map (word_of corners) ms)) (accepted_loops (cut_of t noise) corners (verdict_is (cut_of t noise) ∙ e.0)) in
       omega (arith, e.1, ap length is, length-append (map (word_of corners) (loops_of (cut_of t noise) corners)) (replicate (4 - length (map (word_of corners) (loops_of (cut_of t noise) corners))) 0), length-map (loops_of (cut_of t noise) corners) (word_of corners))
 
   word_found : (l : ℕ) → l < length w → l < loops.0 → get_or w' l 0 ≡ get_or m.answer.words l 0

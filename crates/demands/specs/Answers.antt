@@ -39,8 +39,8 @@ pub record ReadingsCall (nx ny nz : ℕ) (xs : List Float) (cut : Cut) : Type 0 
   pub accepts : said_counts answer ≡ accepted counts
 
 -- the quads that a call of `mesh` wrote
-abbrev pub quadsWritten : {nx ny nz : ℕ} {s : List ℕ} {cut : Cut} → MeshCall nx ny nz s cut → List ℕ
-quadsWritten a = take (4 * a.counts.quads) a.quads_after
+abbrev pub quads_written : {nx ny nz : ℕ} {s : List ℕ} {cut : Cut} → MeshCall nx ny nz s cut → List ℕ
+quads_written a = take (4 * a.counts.quads) a.quads_after
 
 -- buffers as a caller reserves them for e crossed edges, by their lengths: two words and three offsets for each of 4·e/3 vertices, four words for each of
 -- e quads

@@ -3,7 +3,7 @@ use Rattle.std.specs.Prelude.{ℕ, ◌+◌, ◌*◌, ◌<◌, ◌≡◌, List, F
 use Rattle.std.specs.Float.{nan}
 use Rattle.block.specs.declared.Cut.{Cut}
 use Rattle.foundry_rule.specs.Shuffled.{Shuffled}
-use Rattle.demands.specs.Answers.{MeshCall, quadsWritten}
+use Rattle.demands.specs.Answers.{MeshCall, quads_written}
 
 -- as many vertices and quads, in any order: each vertex keeps its cube, its word and its offsets, and each quad has the numbers of its vertices there and may be
 -- begun at any of them
@@ -11,5 +11,5 @@ pub record SentFrom {nx ny nz : ℕ} {s : List ℕ} {cut : Cut} (a : MeshCall nx
   pub words_long : length words ≡ 2 * a.counts.vertices
   pub offsets_long : length offsets ≡ 3 * a.counts.vertices
   pub quads_long : length quads ≡ 4 * a.counts.quads
-  pub shuffled : Shuffled (take (2 * a.counts.vertices) a.words_after) (quadsWritten a) words quads
+  pub shuffled : Shuffled (take (2 * a.counts.vertices) a.words_after) (quads_written a) words quads
   pub offsets_kept : (v k : ℕ) → v < a.counts.vertices → k < 3 → get_or offsets (3 * shuffled.vertex_at v + k) nan ≡ get_or a.offsets_after (3 * v + k) nan

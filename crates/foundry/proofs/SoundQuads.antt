@@ -72,11 +72,11 @@ module _ (n : Size) (s : List ℕ) (cut : Cut) (words : List ℕ) (offsets : Lis
     all_known : (q : ℕ) → q < quad_total quads → AllKnown n s cut words offsets quads (sent q)
     all_known q l = let b = all_below q l in (is_known _ b.at0, is_known _ b.at1, is_known _ b.at2, is_known _ b.at3)
 
-    fits-ours : (q : ℕ) → q < quad_total quads → quad_fits n s cut words quads q ≡ our_quad our_words our_quads words offsets quads q
-    fits-ours q l = sym (ours_by_table n s cut words offsets quads q (all_known q l))
+    fits_ours : (q : ℕ) → q < quad_total quads → quad_fits n s cut words quads q ≡ our_quad our_words our_quads words offsets quads q
+    fits_ours q l = sym (ours_by_table n s cut words offsets quads q (all_known q l))
 
-    our-sent : (q : ℕ) → q < quad_total quads → our_quad our_words our_quads words offsets quads q ≡ true → OurSent n s cut words offsets quads (vertex_total words) distinct q
-    our-sent q l e = record { all_below = all_below q l; all_known = all_known q l; is_ours_lem = e }
+    our_sent : (q : ℕ) → q < quad_total quads → our_quad our_words our_quads words offsets quads q ≡ true → OurSent n s cut words offsets quads (vertex_total words) distinct q
+    our_sent q l e = record { all_below = all_below q l; all_known = all_known q l; is_ours_lem = e }
 
     -- an earlier quad has the key exactly if it is the same round
     again_by_key : (q : ℕ) → q < quad_total quads → our_quad our_words our_quads words offsets quads q ≡ true → HoldsTo (quad_spot_sound n s cut words quads) q
@@ -84,14 +84,14 @@ module _ (n : Size) (s : List ℕ) (cut : Cut) (words : List ℕ) (offsets : Lis
     again_by_key q l e h =
         some_agree (λ (p : ℕ). eqb (key_at n words quads q) (key_at n words quads p)) (λ (p : ℕ). same_round (sent q) (sent p)) q
         (λ p k. let i : p < quad_total quads = omega (arith, k, l) in
-        quad_keys n s cut words offsets quads (vertex_total words) distinct q p (our-sent q l e) (our-sent p i (sym (fits-ours p i) ∙ (and_both _ _ (h p k)).0)))
+        quad_keys n s cut words offsets quads (vertex_total words) distinct q p (our_sent q l e) (our_sent p i (sym (fits_ours p i) ∙ (and_both _ _ (h p k)).0)))
 
     agree : (q : ℕ) → q < quad_total quads → HoldsTo (quad_spot_sound n s cut words quads) q
         → quad_spot_sound n s cut words quads q ≡ sound_quad our_words our_quads words offsets quads q
     unfolding sound_quad
     agree q l h =
         and_agree (quad_fits n s cut words quads q) (fresh (key_at n words quads) q) (our_quad our_words our_quads words offsets quads q)
-        (not (is_some (λ (p : ℕ). same_round (sent q) (sent p)) q)) (fits-ours q l) (λ e. ap not (again_by_key q l e h))
+        (not (is_some (λ (p : ℕ). same_round (sent q) (sent p)) q)) (fits_ours q l) (λ e. ap not (again_by_key q l e h))
 
     pub quads_found : leading (quad_spot_sound n s cut words quads) (quad_total quads) ≡ leading (sound_quad our_words our_quads words offsets quads) (quad_total quads)
     quads_found = leading_agree (quad_spot_sound n s cut words quads) (sound_quad our_words our_quads words offsets quads) (quad_total quads) agree

@@ -75,24 +75,24 @@ module _ (our_words our_quads words : List ℕ) (offsets : List Float) (quads : 
         (alike_turned words v our_words (own v) (own_alike our_words our_quads words offsets quads v known)) (matches.cube_and_word v l))
 
     -- alike vertices are one
-    alike-one : (v u : ℕ) → v < vertex_total words → u < vertex_total words → alike words v words u ≡ true → v ≡ u
-    alike-one v u a b t =
+    alike_one : (v u : ℕ) → v < vertex_total words → u < vertex_total words → alike words v words u ≡ true → v ≡ u
+    alike_one v u a b t =
         matches.vertices.apart v u a b
         (distinct.vertices (matches.vertex v) (matches.vertex u) (matches.vertices.into v a) (matches.vertices.into u b)
         (alike_then our_words (matches.vertex v) words v our_words (matches.vertex u) (alike_turned words v our_words (matches.vertex v) (matches.cube_and_word v a))
         (alike_then words v words u our_words (matches.vertex u) t (matches.cube_and_word u b))))
 
-    match-vertices : HoldsTo sound_v (vertex_total words)
-    match-vertices v l =
+    match_vertices : HoldsTo sound_v (vertex_total words)
+    match_vertices v l =
         let at : matches.vertex v < vertex_total our_words = matches.vertices.into v l in
         vertex_sound_lem our_words our_quads words offsets quads v
         (own_known our_words our_quads words offsets quads v (matches.vertex v) at (matches.cube_and_word v l))
-        (λ u m. not_so _ (λ t. let e : v ≡ u = alike-one v u l (omega arith) t in omega arith))
+        (λ u m. not_so _ (λ t. let e : v ≡ u = alike_one v u l (omega arith) t in omega arith))
         (matches.offsets_in v l)
 
     -- quads of the same round are one
-    round-one : (q p : ℕ) → q < quad_total quads → p < quad_total quads → same_round (named_quad as_sent quads q) (named_quad as_sent quads p) ≡ true → q ≡ p
-    round-one q p a b t =
+    round_one : (q p : ℕ) → q < quad_total quads → p < quad_total quads → same_round (named_quad as_sent quads q) (named_quad as_sent quads p) ≡ true → q ≡ p
+    round_one q p a b t =
         let ours : ℕ → Quad = λ x. named_quad as_sent our_quads (matches.place x) in
         let theirs : ℕ → Quad = named_quad matches.vertex quads in
         matches.places.apart q p a b
@@ -107,18 +107,18 @@ module _ (our_words our_quads words : List ℕ) (offsets : List Float) (quads : 
         (sym (renamed_alike own matches.vertex (vertex_total words) own_is (named_quad as_sent quads q) (quad_below_lem (vertex_total words) quads q (range q l))))
         (matches.turned q l)
 
-    match-quads : HoldsTo sound_q (quad_total quads)
-    match-quads q l =
+    match_quads : HoldsTo sound_q (quad_total quads)
+    match_quads q l =
         quad_sound_lem our_words our_quads words offsets quads q (matches.place q) (matches.places.into q l) (place_is q l)
-        (λ p m. not_so _ (λ t. let e : q ≡ p = round-one q p l (omega arith) t in omega arith))
+        (λ p m. not_so _ (λ t. let e : q ≡ p = round_one q p l (omega arith) t in omega arith))
 
   pub match_is_yes : Distinct our_words our_quads → QuadsBelow (vertex_total words) quads → Matches our_words our_quads words offsets quads
       → compared our_words our_quads words offsets quads ≡ same
   unfolding compared
   match_is_yes distinct range matches =
       find_same (vertex_total words) (quad_total quads) (vertex_total our_words) (quad_total our_quads) (leading sound_v (vertex_total words)) (leading sound_q (quad_total quads))
-      (omega (arith, leading_all sound_v (vertex_total words) (match-vertices distinct range matches)))
-      (omega (arith, leading_all sound_q (quad_total quads) (match-quads distinct range matches)))
+      (omega (arith, leading_all sound_v (vertex_total words) (match_vertices distinct range matches)))
+      (omega (arith, leading_all sound_q (quad_total quads) (match_quads distinct range matches)))
       (one_to_one_count matches.vertices) (one_to_one_count matches.places)
 
   -- "say yes exactly if .."

@@ -158,8 +158,8 @@ module _ (words : List ℕ) where
   lies_by r p e q = lies words r p e.v0 e.v1 e.v2 e.v3 q
 
   module _ (r p : ℕ) (c e : Quad) (steps : Steps r p c) (q : Quad) where
-    lies-spots : cube_at words q.v2 ≡ c.v2 → lies_by r p e q ≡ true → FourSpots c e q
-    lies-spots third h =
+    lies_spots : cube_at words q.v2 ≡ c.v2 → lies_by r p e q ≡ true → FourSpots c e q
+    lies_spots third h =
         let x = and_both _ _ h in
         let y = and_both _ _ x.0 in
         let z = and_both _ _ y.0 in
@@ -175,19 +175,19 @@ module _ (words : List ℕ) where
         back : (a b d : ℕ) → a + d ≡ cube_at words q.v2 → b + d ≡ c.v2 → a ≡ b
         back a b d f g = omega (arith, third)
 
-    spots-lies : FourSpots c e q → lies_by r p e q ≡ true
-    spots-lies h =
+    spots_lies : FourSpots c e q → lies_by r p e q ≡ true
+    spots_lies h =
         rw (step r h.1 steps.to_second, step p h.3 steps.to_fourth, step (r + p) h.0 steps.to_first, h.0.at_edge, h.1.at_edge, h.2.at_edge, h.3.at_edge)
       where
         step : {v b e : ℕ} (d : ℕ) → Spot v b e → b + d ≡ c.v2 → eqb (cube_at words v + d) (cube_at words q.v2) ≡ true
         step {v} d s f = eq-eqb (cube_at words v + d) (cube_at words q.v2) (omega (arith, s.at_cube_lem, h.2.at_cube_lem))
 
-    spots-first : FourSpots c e q → cube_at words q.v0 + (r + p) ≡ cube_at words q.v2
-    spots-first h = rw (h.0.at_cube_lem, h.2.at_cube_lem) steps.to_first
+    spots_first : FourSpots c e q → cube_at words q.v0 + (r + p) ≡ cube_at words q.v2
+    spots_first h = rw (h.0.at_cube_lem, h.2.at_cube_lem) steps.to_first
 
     -- the third cube is the highest
-    spots-highest : 0 < r → 0 < p → FourSpots c e q → Highest (cube_at words) q
-    spots-highest hr hp h = record {
+    spots_highest : 0 < r → 0 < p → FourSpots c e q → Highest (cube_at words) q
+    spots_highest hr hp h = record {
       above_first = rw (h.0.at_cube_lem, h.2.at_cube_lem) (omega (arith, steps.to_first));
       above_second = rw (h.1.at_cube_lem, h.2.at_cube_lem) (omega (arith, steps.to_second));
       above_fourth = rw (h.3.at_cube_lem, h.2.at_cube_lem) (omega (arith, steps.to_fourth));
@@ -203,30 +203,30 @@ module _ (words : List ℕ) where
       pub is_inner : Inner n axis i j k
       pub all_spots : AllSpots n axis i j k (turned (metal n s cut i j k) q)
 
-    highest-turned : (b : Bool) (q : Quad) → Highest (cube_at words) (turned b q) → Highest (cube_at words) q
-    highest-turned true q h = h
-    highest-turned false q h = record { above_first = h.above_first; above_second = h.above_fourth; above_fourth = h.above_second }
+    highest_turned : (b : Bool) (q : Quad) → Highest (cube_at words) (turned b q) → Highest (cube_at words) q
+    highest_turned true q h = h
+    highest_turned false q h = record { above_first = h.above_first; above_second = h.above_fourth; above_fourth = h.above_second }
 
-    all-highest : (a : Axis) (i j k : ℕ) (q : Quad) → Inner n a i j k → AllSpots n a i j k q → Highest (cube_at words) q
-    all-highest a i j k q h r =
+    all_highest : (a : Axis) (i j k : ℕ) (q : Quad) → Inner n a i j k → AllSpots n a i j k q → Highest (cube_at words) q
+    all_highest a i j k q h r =
         let u = steps_up n a i j k (third_in n a i j k h) in
-        spots-highest _ _ _ _ (table_steps n a i j k (four_cubes n a i j k h).0) q u.0 u.1 r
+        spots_highest _ _ _ _ (table_steps n a i j k (four_cubes n a i j k h).0) q u.0 u.1 r
 
     -- its third vertex is in the highest cube
     pub laid_highest : (q : Quad) → Laid q → Highest (cube_at words) q
-    laid_highest q d = highest-turned (metal n s cut d.i d.j d.k) q (all-highest d.axis d.i d.j d.k _ d.is_inner d.all_spots)
+    laid_highest q d = highest_turned (metal n s cut d.i d.j d.k) q (all_highest d.axis d.i d.j d.k _ d.is_inner d.all_spots)
 
-    turned-third : (b : Bool) (q : Quad) → (turned b q).v2 ≡ q.v2
-    turned-third true q = refl
-    turned-third false q = refl
+    turned_third : (b : Bool) (q : Quad) → (turned b q).v2 ≡ q.v2
+    turned_third true q = refl
+    turned_third false q = refl
 
     -- and is in the cube whose first corner is the edge's lower sample
     pub laid_third : (q : Quad) (d : Laid q) → cube_at words q.v2 ≡ cube_number n d.i d.j d.k
     laid_third q d =
-        ap (cube_at words) (sym (turned-third (metal n s cut d.i d.j d.k) q)) ∙ d.all_spots.2.at_cube_lem ∙ third_is n d.axis d.i d.j d.k
+        ap (cube_at words) (sym (turned_third (metal n s cut d.i d.j d.k) q)) ∙ d.all_spots.2.at_cube_lem ∙ third_is n d.axis d.i d.j d.k
 
     all_first : (a : Axis) (i j k : ℕ) (q : Quad) → Inner n a i j k → AllSpots n a i j k q → cube_at words q.v0 + (second_step n a + fourth_step n a) ≡ cube_at words q.v2
-    all_first a i j k q h r = spots-first _ _ _ _ (table_steps n a i j k (four_cubes n a i j k h).0) q r
+    all_first a i j k q h r = spots_first _ _ _ _ (table_steps n a i j k (four_cubes n a i j k h).0) q r
 
     -- and the first lies both steps before it
     pub laid_first : (q : Quad) (d : Laid q) → cube_at words q.v0 + (second_step n d.axis + fourth_step n d.axis) ≡ cube_at words q.v2
@@ -242,18 +242,18 @@ module _ (words : List ℕ) where
     abbrev lies_along : Axis → ℕ → ℕ → ℕ → Quad → Bool
     lies_along a i j k q = lower_test a i j k && lies_by (second_step n a) (fourth_step n a) (table_edges a) q
 
-    along-spots : (a : Axis) (i j k : ℕ) (q : Quad) → cube_at words q.v2 ≡ cube_number n i j k → lies_along a i j k q ≡ true → OneLower a i j k × AllSpots n a i j k q
-    along-spots a i j k q c h =
+    along_spots : (a : Axis) (i j k : ℕ) (q : Quad) → cube_at words q.v2 ≡ cube_number n i j k → lies_along a i j k q ≡ true → OneLower a i j k × AllSpots n a i j k q
+    along_spots a i j k q c h =
         let b = and_both (lower_test a i j k) (lies_by (second_step n a) (fourth_step n a) (table_edges a) q) h in
         let l = lower_facts a i j k b.0 in
-        (l, lies-spots _ _ _ _ (table_steps n a i j k l) q (c ∙ sym (third_is n a i j k)) b.1)
+        (l, lies_spots _ _ _ _ (table_steps n a i j k l) q (c ∙ sym (third_is n a i j k)) b.1)
 
-    spots-along : (a : Axis) (i j k : ℕ) (q : Quad) → OneLower a i j k → AllSpots n a i j k q → lies_along a i j k q ≡ true
-    spots-along a i j k q h r = rw (lower_test_lem a i j k h) (spots-lies _ _ _ _ (table_steps n a i j k h) q r)
+    spots_along : (a : Axis) (i j k : ℕ) (q : Quad) → OneLower a i j k → AllSpots n a i j k q → lies_along a i j k q ≡ true
+    spots_along a i j k q h r = rw (lower_test_lem a i j k h) (spots_lies _ _ _ _ (table_steps n a i j k h) q r)
 
     -- one of three
-    along-some : (i j k : ℕ) (q : Quad) → lies_round words n i j k q ≡ true → (a : Axis) × (lies_along a i j k q ≡ true)
-    along-some i j k q h = ⊎_elim (λ l. ⊎_elim (λ x. (X, x)) (λ y. (Y, y)) (or_either _ _ l)) (λ z. (Z, z)) (or_either _ _ h)
+    along_some : (i j k : ℕ) (q : Quad) → lies_round words n i j k q ≡ true → (a : Axis) × (lies_along a i j k q ≡ true)
+    along_some i j k q h = ⊎_elim (λ l. ⊎_elim (λ x. (X, x)) (λ y. (Y, y)) (or_either _ _ l)) (λ z. (Z, z)) (or_either _ _ h)
 
     some_along : (a : Axis) (i j k : ℕ) (q : Quad) → lies_along a i j k q ≡ true → lies_round words n i j k q ≡ true
     some_along X i j k q h = rw h
@@ -269,21 +269,21 @@ module _ (words : List ℕ) where
         let j = coordinate n Y c in
         let k = coordinate n Z c in
         let m = metal n s cut i j k in
-        let o = along-some i j k (turned m q) h in
-        let r = along-spots o.0 i j k (turned m q) (ap (cube_at words) (turned-third m q) ∙ sym (index_of (n.nx - 1) (n.ny - 1) c)) o.1 in
+        let o = along_some i j k (turned m q) h in
+        let r = along_spots o.0 i j k (turned m q) (ap (cube_at words) (turned_third m q) ∙ sym (index_of (n.nx - 1) (n.ny - 1) c)) o.1 in
         record { axis = o.0; i = i; j = j; k = k; is_inner = inner_lower n o.0 i j k (index_box (n.nx - 1) (n.ny - 1) (n.nz - 1) c l) r.0; all_spots = r.1 }
 
     -- what `fits` tests, by the coordinates of the third cube
-    fits-at : (i j k : ℕ) (q : Quad) → CubeIn n i j k → cube_at words q.v2 ≡ cube_number n i j k
+    fits_at : (i j k : ℕ) (q : Quad) → CubeIn n i j k → cube_at words q.v2 ≡ cube_number n i j k
         → fits words n s cut q ≡ lies_round words n i j k (turned (metal n s cut i j k) q)
     unfolding fits
-    fits-at i j k q h e =
+    fits_at i j k q h e =
         let test : ℕ → ℕ → ℕ → Bool = λ i j k. lies_round words n i j k (turned (metal n s cut i j k) q) in
         ap (at_cube n test) e ∙ cube_back n test i j k h.0 h.1
 
     -- and a quad that lies so fits
     pub laid_fits : (q : Quad) → Laid q → fits words n s cut q ≡ true
     laid_fits q d =
-        fits-at d.i d.j d.k q (third_in n d.axis d.i d.j d.k d.is_inner) (laid_third q d)
+        fits_at d.i d.j d.k q (third_in n d.axis d.i d.j d.k d.is_inner) (laid_third q d)
         ∙ some_along d.axis d.i d.j d.k _
-        (spots-along d.axis d.i d.j d.k _ (four_cubes n d.axis d.i d.j d.k d.is_inner).0 d.all_spots)
+        (spots_along d.axis d.i d.j d.k _ (four_cubes n d.axis d.i d.j d.k d.is_inner).0 d.all_spots)

@@ -13,7 +13,7 @@ use Rattle.laws.proofs.Leading.{HoldsTo, leading_holds, leading_stops, leading_a
 use Rattle.laws.proofs.Tests.{lt_or_ge}
 use Rattle.foundry_rule.specs.Judged.{vertex_total, quad_total, alike, named_quad, as_sent, own_number, sound_vertex, sound_quad, vertex_at_fault, quad_at_fault, some_missing, compared}
 use Rattle.foundry_rule.specs.Distinct.{Distinct, QuadsBelow}
-use Rattle.foundry_rule.specs.Faults.{VertexFault, is_ours, QuadFault, Missing, vertexMissing, quadMissing, FirstAtFault, NoneAtFault}
+use Rattle.foundry_rule.specs.Faults.{VertexFault, is_ours, QuadFault, Missing, vertex_missing, quad_missing, FirstAtFault, NoneAtFault}
 use Rattle.foundry_rule.proofs.Pigeons.{missed, apart_le}
 use Rattle.foundry_rule.proofs.Rounds.{round_turned, round_then}
 use Rattle.foundry_rule.proofs.Firsts.{both_ways, is_so, not_so, alike_turned, alike_then}
@@ -130,54 +130,54 @@ module _ (our_words our_quads words : List ℕ) (offsets : List Float) (quads : 
 
   module _ (sv : HoldsTo sound_v (vertex_total words)) where
     -- fewer vertices than ours: the one of ours that none is taken to has a cube and word of its own
-    fewer-vertices : Distinct our_words our_quads → vertex_total words < vertex_total our_words → Missing our_words our_quads words offsets quads
-    fewer-vertices distinct l =
+    fewer_vertices : Distinct our_words our_quads → vertex_total words < vertex_total our_words → Missing our_words our_quads words offsets quads
+    fewer_vertices distinct l =
         let into = own_into our_words our_quads words offsets quads sv in
         let out = missed own (vertex_total words) (vertex_total our_words) into l in
-        vertexMissing out.0 out.1 (λ v m. not_so _ (λ t. out.2 v m
+        vertex_missing out.0 out.1 (λ v m. not_so _ (λ t. out.2 v m
         (distinct.vertices (own v) out.0 (into v m) out.1
         (alike_then our_words (own v) words v our_words out.0 (alike_turned words v our_words (own v) (own_same our_words our_quads words offsets quads sv v m)) t))))
 
     module _ (sq : HoldsTo sound_q (quad_total quads)) (range : QuadsBelow (vertex_total words) quads) where
-      fewer-quads : Distinct our_words our_quads → quad_total quads < quad_total our_quads → Missing our_words our_quads words offsets quads
-      fewer-quads distinct l =
+      fewer_quads : Distinct our_words our_quads → quad_total quads < quad_total our_quads → Missing our_words our_quads words offsets quads
+      fewer_quads distinct l =
           let into = place_into our_words our_quads words offsets quads sv sq range in
           let out = missed own_q (quad_total quads) (quad_total our_quads) into l in
-          quadMissing out.0 out.1 (λ q m. not_so _ (λ t. out.2 q m
+          quad_missing out.0 out.1 (λ q m. not_so _ (λ t. out.2 q m
           (distinct.quads (own_q q) out.0 (into q m) out.1
           (round_then (named_quad as_sent our_quads (own_q q)) (named_quad own quads q) (named_quad as_sent our_quads out.0)
           (round_turned (named_quad own quads q) (named_quad as_sent our_quads (own_q q)) (place_turned our_words our_quads words offsets quads sv sq range q m)) t))))
 
       -- as nothing sent is there twice, other counts are smaller counts
-      some-missing : Distinct our_words our_quads → (vertex_total words ≡ vertex_total our_words → quad_total quads ≡ quad_total our_quads → ⊥)
+      some_missing_lem : Distinct our_words our_quads → (vertex_total words ≡ vertex_total our_words → quad_total quads ≡ quad_total our_quads → ⊥)
           → Missing our_words our_quads words offsets quads
-      some-missing distinct other = go (lt_or_ge (vertex_total words) (vertex_total our_words)) (lt_or_ge (quad_total quads) (quad_total our_quads))
+      some_missing_lem distinct other = go (lt_or_ge (vertex_total words) (vertex_total our_words)) (lt_or_ge (quad_total quads) (quad_total our_quads))
         where
-          vertices-fit : vertex_total words ≤ vertex_total our_words
-          vertices-fit =
+          vertices_fit : vertex_total words ≤ vertex_total our_words
+          vertices_fit =
               apart_le own (vertex_total words) (vertex_total our_words) (own_into our_words our_quads words offsets quads sv)
               (own_apart our_words our_quads words offsets quads sv)
 
-          quads-fit : quad_total quads ≤ quad_total our_quads
-          quads-fit =
+          quads_fit : quad_total quads ≤ quad_total our_quads
+          quads_fit =
               apart_le own_q (quad_total quads) (quad_total our_quads) (place_into our_words our_quads words offsets quads sv sq range)
               (place_apart our_words our_quads words offsets quads sv sq range)
 
           go : (vertex_total words < vertex_total our_words) ⊎ (vertex_total our_words ≤ vertex_total words)
               → (quad_total quads < quad_total our_quads) ⊎ (quad_total our_quads ≤ quad_total quads) → Missing our_words our_quads words offsets quads
-          go (inl l) _ = fewer-vertices distinct l
-          go (inr l) (inl m) = fewer-quads distinct m
-          go (inr l) (inr m) = absurd (other (omega (arith, vertices-fit)) (omega (arith, quads-fit)))
+          go (inl l) _ = fewer_vertices distinct l
+          go (inr l) (inl m) = fewer_quads distinct m
+          go (inr l) (inr m) = absurd (other (omega (arith, vertices_fit)) (omega (arith, quads_fit)))
 
       -- where one is missing the counts are not the same: as many that are apart would meet each
-      missing-other : Missing our_words our_quads words offsets quads → vertex_total words ≡ vertex_total our_words → quad_total quads ≡ quad_total our_quads → ⊥
-      missing-other (vertexMissing u l away) e d =
+      missing_other : Missing our_words our_quads words offsets quads → vertex_total words ≡ vertex_total our_words → quad_total quads ≡ quad_total our_quads → ⊥
+      missing_other (vertex_missing u l away) e d =
           let all = pigeons_to own (vertex_total words) (vertex_total our_words) e (own_into our_words our_quads words offsets quads sv)
           (own_apart our_words our_quads words offsets quads sv) in
           let at = all.onto u l in
           both_ways (subst (λ (x : ℕ). alike words at.0 our_words x ≡ true) at.2 (own_same our_words our_quads words offsets quads sv at.0 at.1))
           (away at.0 at.1)
-      missing-other (quadMissing p l away) e d =
+      missing_other (quad_missing p l away) e d =
           let all = pigeons_to own_q (quad_total quads) (quad_total our_quads) d (place_into our_words our_quads words offsets quads sv sq range)
           (place_apart our_words our_quads words offsets quads sv sq range) in
           let at = all.onto p l in
@@ -185,29 +185,29 @@ module _ (our_words our_quads words : List ℕ) (offsets : List Float) (quads : 
           (place_turned our_words our_quads words offsets quads sv sq range at.0 at.1)) (away at.0 at.1)
 
   module _ (distinct : Distinct our_words our_quads) (range : QuadsBelow (vertex_total words) quads) where
-    missing-so : compared our_words our_quads words offsets quads ≡ some_missing
+    missing_so : compared our_words our_quads words offsets quads ≡ some_missing
         → NoneAtFault FaultV (vertex_total words) × NoneAtFault FaultQ (quad_total quads) × Missing our_words our_quads words offsets quads
     unfolding compared
-    missing-so e =
+    missing_so e =
         let h = missing_found (vertex_total words) (quad_total quads) (vertex_total our_words) (quad_total our_quads) end_v end_q e in (
           search_none sound_v FaultV fine_v bad_v (vertex_total words) h.0,
           search_none sound_q FaultQ fine_q bad_q (quad_total quads) h.1,
-          some-missing (all_hold_lem sound_v (vertex_total words) h.0) (all_hold_lem sound_q (quad_total quads) h.1) range distinct h.2,
+          some_missing_lem (all_hold_lem sound_v (vertex_total words) h.0) (all_hold_lem sound_q (quad_total quads) h.1) range distinct h.2,
         )
 
-    so-missing : NoneAtFault FaultV (vertex_total words) → NoneAtFault FaultQ (quad_total quads) → Missing our_words our_quads words offsets quads
+    so_missing : NoneAtFault FaultV (vertex_total words) → NoneAtFault FaultQ (quad_total quads) → Missing our_words our_quads words offsets quads
         → compared our_words our_quads words offsets quads ≡ some_missing
     unfolding compared
-    so-missing noV noQ gone =
+    so_missing noV noQ gone =
         find_missing (vertex_total words) (quad_total quads) (vertex_total our_words) (quad_total our_quads) end_v end_q
         (omega (arith, none_search sound_v FaultV fine_v bad_v (vertex_total words) noV)) (omega (arith, none_search sound_q FaultQ fine_q bad_q (quad_total quads) noQ))
-        (missing-other (no_fault_holds sound_v FaultV fine_v bad_v (vertex_total words) (vertex_total words) noV)
+        (missing_other (no_fault_holds sound_v FaultV fine_v bad_v (vertex_total words) (vertex_total words) noV)
         (no_fault_holds sound_q FaultQ fine_q bad_q (quad_total quads) (quad_total quads) noQ) range gone)
 
     pub names_missing : (compared our_words our_quads words offsets quads ≡ some_missing)
         ↔ (NoneAtFault (VertexFault our_words words offsets) (vertex_total words) × NoneAtFault (QuadFault our_words our_quads words offsets quads) (quad_total quads)
         × Missing our_words our_quads words offsets quads)
-    names_missing = (missing-so, λ h. so-missing h.0 h.1 h.2)
+    names_missing = (missing_so, λ h. so_missing h.0 h.1 h.2)
 
     pub no_names : NoNames our_words our_quads words offsets quads
     no_names = record { vertex = names_vertex; quad = names_quad; missing = names_missing }

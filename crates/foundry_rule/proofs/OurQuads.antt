@@ -170,8 +170,8 @@ module _ (n : Size) (s : List ℕ) (cut : Cut) where
       v : ℕ
       v = (named_quad as_sent Q q).v2
 
-      cube-of : (p : ℕ) (h : p < quad_total Q) → (vertex_of loops_of n s cut (named_quad as_sent Q p).v2).cube ≡ at_sample n (cube_number n) (placed n s cut p h).sample
-      cube-of p h = sym (words_at_lem loops_of n s cut (named_quad as_sent Q p).v2 (our_below p h).at2).0 ∙ laid_third W n s cut (named_quad as_sent Q p) (own_laid p h)
+      cube_of : (p : ℕ) (h : p < quad_total Q) → (vertex_of loops_of n s cut (named_quad as_sent Q p).v2).cube ≡ at_sample n (cube_number n) (placed n s cut p h).sample
+      cube_of p h = sym (words_at_lem loops_of n s cut (named_quad as_sent Q p).v2 (our_below p h).at2).0 ∙ laid_third W n s cut (named_quad as_sent Q p) (own_laid p h)
 
       rises : at_sample n (cube_number n) (placed n s cut p hp).sample < at_sample n (cube_number n) (placed n s cut q hq).sample
       rises = cube_rises n _ _ l (third_in n (own_laid p hp).axis (own_laid p hp).i (own_laid p hp).j (own_laid p hp).k (own_laid p hp).is_inner)
@@ -181,7 +181,7 @@ module _ (n : Size) (s : List ℕ) (cut : Cut) where
 
       go : (u < v) ⊎ (v ≤ u) → u < v
       go (inl g) = g
-      go (inr g) = absurd (plain _ _ _ _ (cube-of p hp) (cube-of q hq) (by_cube loops_of n s cut v u g (our_below p hp).at2) rises)
+      go (inr g) = absurd (plain _ _ _ _ (cube_of p hp) (cube_of q hq) (by_cube loops_of n s cut v u g (our_below p hp).at2) rises)
 
   -- the numbers of our quads rise along the list
   pub our_quad_keys_rise : (p q : ℕ) → p < q → q < quad_total Q

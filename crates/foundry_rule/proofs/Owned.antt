@@ -114,8 +114,8 @@ module _ (n : Size) (s : List ℕ) (cut : Cut) where
     tied_turned true t = t
     tied_turned false t = record { first = t.first; second = t.fourth; third = t.third; fourth = t.second }
 
-    spots-hold : (a : Axis) (i j k : ℕ) (q p : Quad) → AllTied q p → AllSpots words n a i j k q → FourHold (table_cubes n a i j k) (table_edges a) p
-    spots-hold a i j k q p t r =
+    spots_hold : (a : Axis) (i j k : ℕ) (q p : Quad) → AllTied q p → AllSpots words n a i j k q → FourHold (table_cubes n a i j k) (table_edges a) p
+    spots_hold a i j k q p t r =
         let l = edges_lt a in
         (t.first.to_holder _ _ l.0 r.0, t.second.to_holder _ _ l.1 r.1, t.third.to_holder _ _ l.2 r.2, t.fourth.to_holder _ _ l.3 r.3)
 
@@ -129,7 +129,7 @@ module _ (n : Size) (s : List ℕ) (cut : Cut) where
     pub laid_edge : (q p : Quad) → AllTied q p → (d : Laid words n s cut q)
         → (crossed_from n s cut d.axis d.i d.j d.k ≡ true) × (p ≡ quad_of loops_of n s cut d.axis d.i d.j d.k)
     laid_edge q p t d =
-        let r = spots-hold d.axis d.i d.j d.k _ _ (tied_turned (metal n s cut d.i d.j d.k) t) d.all_spots in
+        let r = spots_hold d.axis d.i d.j d.k _ _ (tied_turned (metal n s cut d.i d.j d.k) t) d.all_spots in
         (edge_crossed d.axis d.i d.j d.k _ d.is_inner r, holds_edge_quad d.axis d.i d.j d.k p r)
 
     pub laid_from : (q p : Quad) → AllTied q p → Laid words n s cut q → FromEdge loops_of n s cut p

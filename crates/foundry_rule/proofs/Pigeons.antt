@@ -62,8 +62,8 @@ pub missed : (f : ℕ → ℕ) (m n : ℕ) → Into f m n → m < n → (j : ℕ
 unfolding hits
 missed f m n g l = go (some_or_none (λ (j : ℕ). eqb (hits f m j) 0) n)
   where
-    some-hit : ((j : ℕ) → j < n → eqb (hits f m j) 0 ≡ false) → n ≤ m
-    some-hit h =
+    some_hit : ((j : ℕ) → j < n → eqb (hits f m j) 0 ≡ false) → n ≤ m
+    some_hit h =
         omega (arith, hits_total f m n g, ones_total n, total_le (λ (j : ℕ). 1) (hits f m) n (λ j b. omega (arith, eqb-false (hits f m j) 0 (h j b))))
 
     go : ((j : ℕ) × (j < n) × (eqb (hits f m j) 0 ≡ true)) ⊎ ((j : ℕ) → j < n → eqb (hits f m j) 0 ≡ false)
@@ -73,7 +73,7 @@ missed f m n g l = go (some_or_none (λ (j : ℕ). eqb (hits f m j) 0) n)
       s.1,
       (λ i b. eqb-false (f i) s.0 (count_clear (λ (i : ℕ). eqb (f i) s.0) m (eqb-true _ _ s.2) i b)),
     )
-    go (inr h) = absurd (omega (arith, some-hit h))
+    go (inr h) = absurd (omega (arith, some_hit h))
 
 -- one is missed: there is more room than numbers
 missed_lt : (f : ℕ → ℕ) (m n j : ℕ) → Into f m n → Apart f m → j < n → ((i : ℕ) → i < m → eqb (f i) j ≡ false) → m < n

@@ -14,7 +14,7 @@ use Rattle.laws.proofs.Tests.{and_both, lt_or_ge}
 use Rattle.vertex_lists.specs.Rows.{offset_inside}
 use Rattle.foundry_rule.specs.Judged.{first_passing, is_some, vertex_total, quad_total, alike, named_quad, as_sent, same_round, own_number, sound_vertex, our_quad, sound_quad}
 use Rattle.foundry_rule.specs.Distinct.{QuadsBelow}
-use Rattle.foundry_rule.specs.Faults.{VertexFault, vertex_unknown, vertex_again, offset_bad, is_ours, QuadFault, quadUnknown, quadAgain}
+use Rattle.foundry_rule.specs.Faults.{VertexFault, vertex_unknown, vertex_again, offset_bad, is_ours, QuadFault, quad_unknown, quad_again}
 use Rattle.foundry_rule.proofs.Pigeons.{Into, Apart}
 use Rattle.foundry_rule.proofs.Rounds.{round_turned, round_then, round_back, quad_below_lem}
 use Rattle.foundry_rule.proofs.Firsts.{both_ways, one_fails, first_passes, none_passes, is_some_lem, is_none, alike_turned, alike_then}
@@ -131,8 +131,8 @@ module _ (our_words our_quads words : List ℕ) (offsets : List Float) (quads : 
   place_ours q l = first_passes (is_ours our_words our_quads words offsets quads q) (quad_total our_quads) l
 
   pub sound_no_quad_fault : (q : ℕ) → sound_q q ≡ true → QuadFault our_words our_quads words offsets quads q → ⊥
-  sound_no_quad_fault q t (quadUnknown h) = let p = sound_quad_parts q t in both_ways (place_ours q p.0) (h (own_place q) p.0)
-  sound_no_quad_fault q t (quadAgain p l e) = both_ways e (none_passes (repeats q) q (sound_quad_parts q t).1 p l)
+  sound_no_quad_fault q t (quad_unknown h) = let p = sound_quad_parts q t in both_ways (place_ours q p.0) (h (own_place q) p.0)
+  sound_no_quad_fault q t (quad_again p l e) = both_ways e (none_passes (repeats q) q (sound_quad_parts q t).1 p l)
 
   pub unsound_quad_fault : (q : ℕ) → sound_q q ≡ false → QuadFault our_words our_quads words offsets quads q
   unfolding sound_quad our_quad
@@ -140,10 +140,10 @@ module _ (our_words our_quads words : List ℕ) (offsets : List Float) (quads : 
     where
       go : (is_some (is_ours our_words our_quads words offsets quads q) (quad_total our_quads) ≡ false) ⊎ (not (is_some (repeats q) q) ≡ false)
           → QuadFault our_words our_quads words offsets quads q
-      go (inl e) = quadUnknown (none_passes (is_ours our_words our_quads words offsets quads q) (quad_total our_quads) e)
+      go (inl e) = quad_unknown (none_passes (is_ours our_words our_quads words offsets quads q) (quad_total our_quads) e)
       go (inr e) =
           let l : first_passing (repeats q) q < q = ltb-true _ _ (not-false _ e) in
-          quadAgain (first_passing (repeats q) q) l (first_passes (repeats q) q l)
+          quad_again (first_passing (repeats q) q) l (first_passes (repeats q) q l)
 
   -- ---- all vertices and quads are sound
 
@@ -155,8 +155,8 @@ module _ (our_words our_quads words : List ℕ) (offsets : List Float) (quads : 
     place_turned q l = place_ours q (place_into q l)
 
     -- two quads that are the same one of ours have the same numbers, as our numbers of their vertices are apart
-    same-repeats : (i k : ℕ) → i < quad_total quads → k < quad_total quads → own_place i ≡ own_place k → repeats i k ≡ true
-    same-repeats i k a b e =
+    same_repeats : (i k : ℕ) → i < quad_total quads → k < quad_total quads → own_place i ≡ own_place k → repeats i k ≡ true
+    same_repeats i k a b e =
         round_back own (vertex_total words) (own_apart sound) (named_quad as_sent quads i) (named_quad as_sent quads k)
         (quad_below_lem (vertex_total words) quads i (range i a)) (quad_below_lem (vertex_total words) quads k (range k b))
         (round_then (named_quad own quads i) (named_quad as_sent our_quads (own_place i)) (named_quad own quads k) (place_turned i a)
@@ -166,4 +166,4 @@ module _ (our_words our_quads words : List ℕ) (offsets : List Float) (quads : 
     pub place_apart : Apart own_place (quad_total quads)
     place_apart i k a b e =
         no_earlier (λ (i k : ℕ). repeats i k ≡ true) (λ i k. round_turned (named_quad as_sent quads i) (named_quad as_sent quads k)) (quad_total quads)
-        (λ i k l m t. both_ways t (none_passes (repeats i) i (sound_quad_parts i (soundQs i l)).1 k m)) i k a b (same-repeats i k a b e)
+        (λ i k l m t. both_ways t (none_passes (repeats i) i (sound_quad_parts i (soundQs i l)).1 k m)) i k a b (same_repeats i k a b e)

@@ -16,13 +16,13 @@ module _ (our_words our_quads words : List ℕ) (offsets : List Float) (quads : 
 
   -- "a quad, if it is none of ours or repeats an earlier one"
   pub data QuadFault (q : ℕ) : Type 0 where
-    quadUnknown : ((p : ℕ) → p < quad_total our_quads → is_ours q p ≡ false) → QuadFault q
-    quadAgain : (p : ℕ) → p < q → same_round (named_quad as_sent quads q) (named_quad as_sent quads p) ≡ true → QuadFault q
+    quad_unknown : ((p : ℕ) → p < quad_total our_quads → is_ours q p ≡ false) → QuadFault q
+    quad_again : (p : ℕ) → p < q → same_round (named_quad as_sent quads q) (named_quad as_sent quads p) ≡ true → QuadFault q
 
   -- "some are missing": a vertex of ours whose cube and word no vertex has, or a quad of ours that no quad is
   pub data Missing : Type 0 where
-    vertexMissing : (u : ℕ) → u < vertex_total our_words → ((v : ℕ) → v < vertex_total words → alike words v our_words u ≡ false) → Missing
-    quadMissing : (p : ℕ) → p < quad_total our_quads → ((q : ℕ) → q < quad_total quads → is_ours q p ≡ false) → Missing
+    vertex_missing : (u : ℕ) → u < vertex_total our_words → ((v : ℕ) → v < vertex_total words → alike words v our_words u ≡ false) → Missing
+    quad_missing : (p : ℕ) → p < quad_total our_quads → ((q : ℕ) → q < quad_total quads → is_ours q p ≡ false) → Missing
 
 -- v is the first of n at fault
 pub record FirstAtFault (Fault : ℕ → Type 0) (n v : ℕ) : Type 0 where

@@ -88,17 +88,17 @@ module _ (cut : Cut) (corners : List ℕ) where
       abbrev single : List ℕ
       single = x ∷ 0 ∷ 0 ∷ 0 ∷ []
 
-      is-single : single ≡ four
-      is-single = rw e (sym (few_four (rw e at f)))
+      is_single : single ≡ four
+      is_single = rw e (sym (few_four (rw e at f)))
 
       pub found_single : w - k ≡ x → 0 ≡ word_place cut corners w
-      found_single q = place_0 (w - k) single q ∙ found_high single is-single h
+      found_single q = place_0 (w - k) single q ∙ found_high single is_single h
 
       pub found_none : (w - k ≡ x → ⊥) → 4 ≡ word_place cut corners w
-      found_none d = place_4 (w - k) single d not-0 not-0 not-0 ∙ found_high single is-single h
+      found_none d = place_4 (w - k) single d not_0 not_0 not_0 ∙ found_high single is_single h
         where
-          not-0 : w - k ≡ 0 → ⊥
-          not-0 z = omega (arith, z, h)
+          not_0 : w - k ≡ 0 → ⊥
+          not_0 z = omega (arith, z, h)
 
 -- ---- of the cube c of a block
 
@@ -126,13 +126,13 @@ module _ (n : Size) (s : List ℕ) (cut : Cut) where
     pub place_unsound : 3 < sound_place n s cut words offsets v → looks_sound n s cut words offsets v ≡ false
     place_unsound = go (offset_inside offsets v)
       where
-        and-off : (b : Bool) → (b && false) ≡ false
-        and-off true = refl
-        and-off false = refl
+        and_off : (b : Bool) → (b && false) ≡ false
+        and_off true = refl
+        and_off false = refl
 
         go : (b : Bool) → 3 < cond b at 4 → (ltb at 4 && b) ≡ false
         go true h = rw (le-ltb at 4 h)
-        go false h = and-off (ltb at 4)
+        go false h = and_off (ltb at 4)
 
     pub place_sound : sound_place n s cut words offsets v < 4 → (looks_sound n s cut words offsets v ≡ true) × (sound_place n s cut words offsets v ≡ at)
     place_sound = go (offset_inside offsets v)

@@ -79,21 +79,21 @@ module _ (n : Size) (s : List ℕ) (cut : Cut) (words : List ℕ) (r v : ℕ) wh
     k_lt : k < span
     k_lt = rw i (inside (cube_at words v) at r (ltb-true at 4 p) e).0
 
-    k-is : key v ≡ b + k
-    k-is = rw i (inside (cube_at words v) at r (ltb-true at 4 p) e).1
+    k_is : key v ≡ b + k
+    k_is = rw i (inside (cube_at words v) at r (ltb-true at 4 p) e).1
 
     pub near_lt : k < 262144
     near_lt = k_lt
 
     pub met_near : (table : List ℕ) → Table key b v table → bit_at table k ≡ not (fresh_in key b v)
-    met_near table t = rw (fresh_inside key b v k table t k_lt k-is) (twice (bit_at table k))
+    met_near table t = rw (fresh_inside key b v k table t k_lt k_is) (twice (bit_at table k))
       where
         twice : (a : Bool) → a ≡ not (not a)
         twice true = refl
         twice false = refl
 
     pub passed_near : (table table' : List ℕ) → Table key b v table → Marked k table table' → Table key b (v + 1) table'
-    passed_near table table' t m = table_marked key b v k table table' t k_lt k-is m
+    passed_near table table' t m = table_marked key b v k table table' t k_lt k_is m
 
 -- ---- 64 vertices of which none is in the range
 

@@ -157,12 +157,12 @@ module _ {lo hi : List ℕ} {cut : Cut} {nx p : ℕ} {e : List ℕ} {act : ℕ} 
     corners : (c : ℕ) → c < 8 → holds (pattern_at e x) c ≡ holds (pattern_of cut cs) c
     corners c l = ap (λ (q : ℕ). holds q c) (ready.signs x h set)
 
-    told-one : holds (one_of e (alternates_of e) words) x ≡ true → loops_by joined cut cs ≡ crossed_mask (pattern_of cut cs) ∷ []
-    told-one t =
+    told_one : holds (one_of e (alternates_of e) words) x ≡ true → loops_by joined cut cs ≡ crossed_mask (pattern_of cut cs) ∷ []
+    told_one t =
         cube_one joined cut cs (sym (one_same (holds (pattern_at e x)) (holds (pattern_of cut cs)) corners (λ f. holds (get_or words f 0) x) (joined_on (holds (pattern_of cut cs)) (decisions joined cut cs)) faces) ∙ sym (one_bit x e words) ∙ t)
 
-    told-two : holds (two_of e (alternates_of e) words) x ≡ true → length (loops_by joined cut cs) ≡ 2
-    told-two t =
+    told_two : holds (two_of e (alternates_of e) words) x ≡ true → length (loops_by joined cut cs) ≡ 2
+    told_two t =
         cube_two joined cut cs (sym (two_same (holds (pattern_at e x)) (holds (pattern_of cut cs)) corners (λ f. holds (get_or words f 0) x) (joined_on (holds (pattern_of cut cs)) (decisions joined cut cs)) faces) ∙ sym (two_bit x e words) ∙ t)
 
   -- by the decided faces
@@ -172,8 +172,8 @@ module _ {lo hi : List ℕ} {cut : Cut} {nx p : ℕ} {e : List ℕ} {act : ℕ} 
 
   pub sorted_faces : {r : Sorts} → r ≡ sorted_of lo hi nx p cut e act → Sorted loops_of lo hi cut nx p act r
   sorted_faces {r} all = record {
-    one = λ x h set t. told-one x h set (ap (λ (q : Sorts). holds q.one x) (sym all) ∙ t);
-    two = λ x h set t. told-two x h set (ap (λ (q : Sorts). holds q.two x) (sym all) ∙ t);
+    one = λ x h set t. told_one x h set (ap (λ (q : Sorts). holds q.one x) (sym all) ∙ t);
+    two = λ x h set t. told_two x h set (ap (λ (q : Sorts). holds q.two x) (sym all) ∙ t);
   }
 
 -- the word of the cubes with one loop: of the plain ones, and of the sorted ones

@@ -126,12 +126,12 @@ div_within f x n P N w =
     let v : num y ≡ n * den y = sym (mul-one (num y)) ∙ value→cross y n 1 (whole_value f n N) in
     let Y : 0 < num y = subst (λ (k : ℕ). 0 < k) (sym v) (mul-pos P (den_pos y)) in
     subst (Within 1) (sym (div_is f x y w.0 (whole_within f n n N (le_of_eq refl)).0 Y))
-    (round_within f (num x * den y) (num y * den x) 1 (mul-pos Y (den_pos x)) (one-fits f)
+    (round_within f (num x * den y) (num y * den x) 1 (mul-pos Y (den_pos x)) (one_fits f)
     (le_trans (mul-le-mul_right (den y) w.1) (le_of_eq (mul_right_comm n (den x) (den y) ∙ ap (λ (k : ℕ). k * den x) (sym v) ∙ sym (one-mul (num y * den x))))))
   where
-    one-fits : (f : Format) → 1 ≤ 2 ^ prec f
-    one-fits binary32 = lit≤ tt
-    one-fits binary64 = lit≤ tt
+    one_fits : (f : Format) → 1 ≤ 2 ^ prec f
+    one_fits binary32 = lit≤ tt
+    one_fits binary64 = lit≤ tt
 
 -- ---- products
 

@@ -94,16 +94,16 @@ module _ (nx ny nz t : ℕ) (s w : List ℕ) (o : List Float) (q : List ℕ) (r 
     offsets_are : take (3 * c.vertices) o' ≡ mesh_offsets loops_of size s cut
     offsets_are = written_front verdict (mesh_offsets loops_of size s cut) o o' (3 * c.vertices) both.0 m.offsets (mesh_offsets_length size s cut ∙ omega (arith, vertices_are))
 
-    quad-numbers-are : take (4 * c.quads) q' ≡ mesh_quads loops_of size s cut
-    quad-numbers-are = written_front verdict (mesh_quads loops_of size s cut) q q' (4 * c.quads) both.0 m.quads (quads_all_length size s cut ∙ omega (arith, quads_are))
+    quad_numbers_are : take (4 * c.quads) q' ≡ mesh_quads loops_of size s cut
+    quad_numbers_are = written_front verdict (mesh_quads loops_of size s cut) q q' (4 * c.quads) both.0 m.quads (quads_all_length size s cut ∙ omega (arith, quads_are))
 
-    accepted-text : mesh_text c.vertices c.quads (take (2 * c.vertices) w') (take (3 * c.vertices) o') (take (4 * c.quads) q')
+    accepted_text : mesh_text c.vertices c.quads (take (2 * c.vertices) w') (take (3 * c.vertices) o') (take (4 * c.quads) q')
         ≡ block_text size s cut
-    accepted-text = rw (words_are, offsets_are, quad-numbers-are, vertices_are, quads_are)
+    accepted_text = rw (words_are, offsets_are, quad_numbers_are, vertices_are, quads_are)
 
     pub accepted_front : SixteenBit s → Front size s cut w' o' q' c
     accepted_front grey = record {
       few = (omega (arith, vertices_are, few_v), omega (arith, quads_are, few_q));
       numbers = subst Numbers (sym offsets_are) (offset_numbers size s cut grey);
-      text = accepted-text;
+      text = accepted_text;
     }

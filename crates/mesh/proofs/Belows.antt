@@ -103,9 +103,9 @@ module _ (n : Size) (s : List ℕ) (cut : Cut) where
     count : (x : ℕ) → length (below (λ (y : ℕ). names (base z + y)) x) ≡ length (run_masks loops_of n s cut (base z) x)
     count x = same_below _ _ x (λ y l. names_count (base z + y))
 
-    row-there : RowOf (λ (x : ℕ). names (base z + (w * j + x))) w c (rows_count loops_of n s cut j z) (layer_words loops_of n s cut z)
+    row_there : RowOf (λ (x : ℕ). names (base z + (w * j + x))) w c (rows_count loops_of n s cut j z) (layer_words loops_of n s cut z)
     unfolding cube_words
-    row-there =
+    row_there =
         subst (λ (v : ℕ). RowOf (λ (x : ℕ). names (base z + (w * j + x))) w c v (layer_words loops_of n s cut z)) (count (w * j))
         (subst (λ (v : ℕ). RowOf (λ (x : ℕ). names (base z + (w * j + x))) w v (length (below (λ (y : ℕ). names (base z + y)) (w * j))) (layer_words loops_of n s cut z)) (sym (ec ∙ row_first j z))
         (row_of_lem (λ (y : ℕ). names (base z + y)) (base z) (layer_size n) (w * j) w inside (λ x. omega (arith, names_count (base z + x), (cube_laws joined).four cut (corners_of n s (base z + x))))))
@@ -115,11 +115,11 @@ module _ (n : Size) (s : List ℕ) (cut : Cut) where
 
     module _ (first r : ℕ) (table : List ℕ) (h : RowRead w c (rows_count loops_of n s cut j z) first (layer_words loops_of n s cut z) table r) (ef : first ≡ layer_first loops_of n s cut z) where
       pub read_passed : r ≡ rows_count loops_of n s cut (j + 1) z
-      read_passed = (h _ row-there).0 ∙ ap (λ (x : ℕ). rows_count loops_of n s cut j z + x) row_count ∙ sym (rows_more j z)
+      read_passed = (h _ row_there).0 ∙ ap (λ (x : ℕ). rows_count loops_of n s cut j z + x) row_count ∙ sym (rows_more j z)
 
       pub read_table : RowTable loops_of n s cut j z table
       read_table =
-          let t = (h _ row-there).1 in
+          let t = (h _ row_there).1 in
           record {
             first = λ x l some.
                 t.first x l (there x some)

@@ -69,7 +69,7 @@ module _ {n : Size} {s : List ℕ} {cut : Cut} {a b : List ℕ} {j k : ℕ} {m :
     order = λ h. omega (arith, el h, first_is n s cut k u.writing, layer_first_next n s cut (k - 1), ap (layer_first loops_of n s cut) (back h));
     inside = λ h. omega (arith, few, u.room.words, words_kept now_writing);
     few = λ h. omega (arith, few, most_vertices loops_of n s cut (cube_laws joined) ok.limits);
-    part = λ h. part_is n s cut j (k - 1) m' u.w₀ w u.o₀ o u.q₀ q below m.v (at-layer h) u.room.words (subst (λ (x : ℕ). row_cube n.nx n.ny j x ≤ cube_count n) (sym (back h)) (in_block j (omega arith))) (el h) (first_is n s cut k u.writing ∙ ap (layer_first loops_of n s cut) (sym (back h)));
+    part = λ h. part_is n s cut j (k - 1) m' u.w₀ w u.o₀ o u.q₀ q below m.v (at_layer h) u.room.words (subst (λ (x : ℕ). row_cube n.nx n.ny j x ≤ cube_count n) (sym (back h)) (in_block j (omega arith))) (el h) (first_is n s cut k u.writing ∙ ap (layer_first loops_of n s cut) (sym (back h)));
     below_is = el;
     passed_is = st.passed_is;
   }
@@ -80,8 +80,8 @@ module _ {n : Size} {s : List ℕ} {cut : Cut} {a b : List ℕ} {j k : ℕ} {m :
       few : m.v ≤ vertex_count n s cut
       few = omega (arith, u.writing.marks.v_is, vertices_le n s cut (row_cube n.nx n.ny 0 k) (in_block 0 (omega arith)))
 
-      at-layer : 0 < k → Writing loops_of n s cut j (k - 1 + 1) m' u.w₀ w u.o₀ o u.q₀ q
-      at-layer h = subst (λ (x : ℕ). Writing loops_of n s cut j x m' u.w₀ w u.o₀ o u.q₀ q) (sym (back h)) now_writing
+      at_layer : 0 < k → Writing loops_of n s cut j (k - 1 + 1) m' u.w₀ w u.o₀ o u.q₀ q
+      at_layer h = subst (λ (x : ℕ). Writing loops_of n s cut j x m' u.w₀ w u.o₀ o u.q₀ q) (sym (back h)) now_writing
 
   module _ {under' : List ℕ} {passed' : ℕ} (l : BelowNoted loops_of n s cut j k under under' passed') where
     pub tables_ready : TablesReady loops_of n s cut j k under' tab

@@ -17,18 +17,18 @@ use Rattle.mesh.proofs.Layers.{length_scaled}
 pairs_number : (c : ℕ) (ws : List ℕ) (l : ℕ) → l < length ws → get_or (pairs c ws) (2 * l) 0 ≡ c
 pairs_number c [] l h = absurd (omega arith)
 pairs_number c (w ∷ ws) zero h = refl
-pairs_number c (w ∷ ws) (suc l) h = ap (λ (k : ℕ). get_or (pairs c (w ∷ ws)) k 0) two-more ∙ pairs_number c ws l (omega arith)
+pairs_number c (w ∷ ws) (suc l) h = ap (λ (k : ℕ). get_or (pairs c (w ∷ ws)) k 0) two_more ∙ pairs_number c ws l (omega arith)
   where
-    two-more : 2 * suc l ≡ suc (suc (2 * l))
-    two-more = omega arith
+    two_more : 2 * suc l ≡ suc (suc (2 * l))
+    two_more = omega arith
 
 pairs_word : (c : ℕ) (ws : List ℕ) (l : ℕ) → get_or (pairs c ws) (2 * l + 1) 0 ≡ get_or ws l 0
 pairs_word c [] l = refl
 pairs_word c (w ∷ ws) zero = refl
-pairs_word c (w ∷ ws) (suc l) = ap (λ (k : ℕ). get_or (pairs c (w ∷ ws)) k 0) two-more ∙ pairs_word c ws l
+pairs_word c (w ∷ ws) (suc l) = ap (λ (k : ℕ). get_or (pairs c (w ∷ ws)) k 0) two_more ∙ pairs_word c ws l
   where
-    two-more : 2 * suc l + 1 ≡ suc (suc (2 * l + 1))
-    two-more = omega arith
+    two_more : 2 * suc l + 1 ≡ suc (suc (2 * l + 1))
+    two_more = omega arith
 
 module _ (F : ℕ → List ℕ) (base M : ℕ) where
   abbrev block : ℕ → List ℕ

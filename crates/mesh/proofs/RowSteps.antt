@@ -182,35 +182,35 @@ module _ {n : Size} {s : List ℕ} {cut : Cut} {a b : List ℕ} {j k : ℕ} {und
     h : RowStepped loops_of lo hi (row_of n cut first j k) a b under m w w' o o' q q' tab tab' m'
     h = subst (λ (x : Row). RowStepped loops_of lo hi x a b under m w w' o o' q q' tab tab' m') er stepped
 
-    row-noted : RowTable loops_of n s cut j k (half j tab')
-    row-noted =
+    row_noted : RowTable loops_of n s cut j k (half j tab')
+    row_noted =
         subst (λ (v : ℕ). Numbered (λ (x : ℕ). cube_loops loops_of n s cut (cube + x)) (λ (x : ℕ). names_by loops_of cut (corners_of n s (cube + x))) (n.nx - 1) v (half j tab')) number
         (numbers_are loops_of p cut t.row (numbered h.written.noted))
 
     prev : 0 < j → RowTable loops_of n s cut (j - 1) k (half (j + 1) tab')
     prev l = subst (RowTable loops_of n s cut (j - 1) k) (sym h.prev_kept) (t.before l)
 
-    x-ring : has_quads AxisX j (ltb 0 k) ≡ true → RingTables loops_of n s cut AxisX j k (half (j + 1) under) (half j under) (half j tab') (half (j + 1) tab')
-    x-ring e =
+    x_ring : has_quads AxisX j (ltb 0 k) ≡ true → RingTables loops_of n s cut AxisX j k (half (j + 1) under) (half j under) (half j tab') (half (j + 1) tab')
+    x_ring e =
         let c = and_both (ltb 0 j) (ltb 0 k) e in
         let lj = ltb-true 0 j c.0 in
         let lk = ltb-true 0 k c.1 in
-        record { t0 = t.below_before lj lk; t1 = t.below lk; t2 = row-noted; t3 = prev lj }
+        record { t0 = t.below_before lj lk; t1 = t.below lk; t2 = row_noted; t3 = prev lj }
 
-    y-ring : has_quads AxisY j (ltb 0 k) ≡ true → RingTables loops_of n s cut AxisY j k (half j under) (half j under) (half j tab') (half j tab')
-    y-ring e = let lk = ltb-true 0 k e in record { t0 = t.below lk; t1 = t.below lk; t2 = row-noted; t3 = row-noted }
+    y_ring : has_quads AxisY j (ltb 0 k) ≡ true → RingTables loops_of n s cut AxisY j k (half j under) (half j under) (half j tab') (half j tab')
+    y_ring e = let lk = ltb-true 0 k e in record { t0 = t.below lk; t1 = t.below lk; t2 = row_noted; t3 = row_noted }
 
-    z-ring : has_quads AxisZ j (ltb 0 k) ≡ true → RingTables loops_of n s cut AxisZ j k (half (j + 1) tab') (half (j + 1) tab') (half j tab') (half j tab')
-    z-ring e = let lj = ltb-true 0 j e in record { t0 = prev lj; t1 = prev lj; t2 = row-noted; t3 = row-noted }
+    z_ring : has_quads AxisZ j (ltb 0 k) ≡ true → RingTables loops_of n s cut AxisZ j k (half (j + 1) tab') (half (j + 1) tab') (half j tab') (half j tab')
+    z_ring e = let lj = ltb-true 0 j e in record { t0 = prev lj; t1 = prev lj; t2 = row_noted; t3 = row_noted }
 
     pub row_more : RowMore loops_of n s cut j k m m' w w' o o' q q' tab'
     row_more = record {
       moved = row_moved r j t.row first p (step_counts loops_of lo hi (row_of n cut first j k) a b under m w w' o o' q q' tab tab' m' h);
       words = h.written.stored.words_are ∙ ap (sets w (2 * m.v)) (words_are loops_of p cut t.row);
       offsets = h.written.stored.offsets_are ∙ ap (sets o (3 * m.v)) (offsets_are loops_of p cut t.row);
-      quads_are = rw (← step_is r j t.row AxisX x-ring, ← step_is r j t.row AxisY y-ring, ← step_is r j t.row AxisZ z-ring) h.more.quads_are;
+      quads_are = rw (← step_is r j t.row AxisX x_ring, ← step_is r j t.row AxisY y_ring, ← step_is r j t.row AxisZ z_ring) h.more.quads_are;
       tab_long = h.long;
-      noted = row-noted;
+      noted = row_noted;
     }
 
 -- ---- a row of buffers that have room for the whole mesh: the vertex 0 stands first in them

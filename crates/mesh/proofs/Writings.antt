@@ -95,8 +95,8 @@ module _ (n : Size) (s : List ℕ) (cut : Cut) where
     cubes : {A : Type 0} (f : ℕ → List A) → below f (row_cube n.nx n.ny (j + 1) k) ≡ below f c ++ below (λ (x : ℕ). f (c + x)) (n.nx - 1)
     cubes f = ap (below f) (next_cube n.nx n.ny j k) ∙ below_add f c (n.nx - 1)
 
-    quads-next : q' ≡ sets (sets (sets q₀ 0 (quads_up_to loops_of n s cut X (row_sample n.nx n.ny (j + 1) k))) (start_y loops_of n s cut) (quads_up_to loops_of n s cut Y (row_sample n.nx n.ny (j + 1) k))) (start_z loops_of n s cut) (quads_up_to loops_of n s cut Z (row_sample n.nx n.ny (j + 1) k))
-    quads-next =
+    quads_next : q' ≡ sets (sets (sets q₀ 0 (quads_up_to loops_of n s cut X (row_sample n.nx n.ny (j + 1) k))) (start_y loops_of n s cut) (quads_up_to loops_of n s cut Y (row_sample n.nx n.ny (j + 1) k))) (start_z loops_of n s cut) (quads_up_to loops_of n s cut Z (row_sample n.nx n.ny (j + 1) k))
+    quads_next =
         let xs = quads_up_to loops_of n s cut X (row_sample n.nx n.ny j k) in
         let ys = quads_up_to loops_of n s cut Y (row_sample n.nx n.ny j k) in
         let zs = quads_up_to loops_of n s cut Z (row_sample n.nx n.ny j k) in
@@ -120,7 +120,7 @@ module _ (n : Size) (s : List ℕ) (cut : Cut) where
       offsets =
           store_next o₀ o o' (below (cube_offsets loops_of n s cut) c) (run_offsets loops_of n s cut c (n.nx - 1)) (below (cube_offsets loops_of n s cut) (row_cube n.nx n.ny (j + 1) k)) (3 * m.v)
           r.offsets (omega (arith, r.marks.v_is, offsets_length n s cut c)) h.offsets (cubes (cube_offsets loops_of n s cut));
-      quads = quads-next;
+      quads = quads_next;
     }
 
   -- ---- one layer more
@@ -139,9 +139,9 @@ module _ (n : Size) (s : List ℕ) (cut : Cut) where
 
   pub block_written : (k : ℕ) {m : Marks} {w₀ w : List ℕ} {o₀ o : List Float} {q₀ q : List ℕ} → Writing loops_of n s cut 0 k m w₀ w o₀ o q₀ q → k + 1 ≡ n.nz → Roomy loops_of n s cut w₀ o₀ q₀ → BlockWritten loops_of n s cut w₀ w o₀ o q₀ q
   block_written k {m} {w₀} {w} {o₀} {o} {q₀} {q} r e room = record {
-    words = r.words ∙ ap (λ (c : ℕ). sets w₀ 0 (below (cube_words loops_of n s cut) c)) (all_cubes n s cut k e) ∙ sets_over w₀ (below (cube_words loops_of n s cut) (cube_count n)) (omega (arith, words-all, room.words))
+    words = r.words ∙ ap (λ (c : ℕ). sets w₀ 0 (below (cube_words loops_of n s cut) c)) (all_cubes n s cut k e) ∙ sets_over w₀ (below (cube_words loops_of n s cut) (cube_count n)) (omega (arith, words_all, room.words))
         ∙ ap (λ (l : List ℕ). over l w₀) (sym (words_by_cube loops_of n s cut));
-    offsets = r.offsets ∙ ap (λ (c : ℕ). sets o₀ 0 (below (cube_offsets loops_of n s cut) c)) (all_cubes n s cut k e) ∙ sets_over o₀ (below (cube_offsets loops_of n s cut) (cube_count n)) (omega (arith, offsets-all, room.offsets))
+    offsets = r.offsets ∙ ap (λ (c : ℕ). sets o₀ 0 (below (cube_offsets loops_of n s cut) c)) (all_cubes n s cut k e) ∙ sets_over o₀ (below (cube_offsets loops_of n s cut) (cube_count n)) (omega (arith, offsets_all, room.offsets))
         ∙ ap (λ (l : List Float). over l o₀) (sym (offsets_by_cube loops_of n s cut));
     quads =
         r.quads
@@ -151,8 +151,8 @@ module _ (n : Size) (s : List ℕ) (cut : Cut) where
         ∙ sets_over q₀ (mesh_quads loops_of n s cut) (omega (arith, quads_all_length n s cut, room.quads));
   }
     where
-      words-all : length (below (cube_words loops_of n s cut) (cube_count n)) ≡ 2 * vertex_count n s cut
-      words-all = words_length n s cut (cube_count n) ∙ ap (λ (x : ℕ). 2 * x) (vertices_are n s cut)
+      words_all : length (below (cube_words loops_of n s cut) (cube_count n)) ≡ 2 * vertex_count n s cut
+      words_all = words_length n s cut (cube_count n) ∙ ap (λ (x : ℕ). 2 * x) (vertices_are n s cut)
 
-      offsets-all : length (below (cube_offsets loops_of n s cut) (cube_count n)) ≡ 3 * vertex_count n s cut
-      offsets-all = offsets_length n s cut (cube_count n) ∙ ap (λ (x : ℕ). 3 * x) (vertices_are n s cut)
+      offsets_all : length (below (cube_offsets loops_of n s cut) (cube_count n)) ≡ 3 * vertex_count n s cut
+      offsets_all = offsets_length n s cut (cube_count n) ∙ ap (λ (x : ℕ). 3 * x) (vertices_are n s cut)

@@ -41,12 +41,12 @@ count_between zero = refl
 count_between (suc n) =
     omega (
       arith,
-      ap bit (last-not n),
+      ap bit (last_not n),
       count_but_first (between (suc n)) n refl (λ c p l. mid_between (suc n) c (omega arith)),
     )
   where
-    last-not : (n : ℕ) → between (suc n) n ≡ false
-    last-not n = rw (le-ltb (n + 1) (suc n) (omega arith)) (and-false (ltb 0 n))
+    last_not : (n : ℕ) → between (suc n) n ≡ false
+    last_not n = rw (le-ltb (n + 1) (suc n) (omega arith)) (and-false (ltb 0 n))
 
 -- the edge along the axis from the sample with the index p is inner
 abbrev pub inner_from : Size → Axis → ℕ → Bool

@@ -21,7 +21,7 @@ use Rattle.place.specs.Place.{place_of}
 use Rattle.place.specs.Unit.{InUnit, Inside}
 use Rattle.block.specs.Grey.{SixteenBit}
 use Rattle.place.proofs.Bounds.{unit_number, place_in_unit}
-use Rattle.cell.proofs.Answers.{loop-crossed}
+use Rattle.cell.proofs.Answers.{loop_crossed}
 use Rattle.mesh_rule.specs.Grid.{corners_at, corners_of}
 use Rattle.mesh_rule.specs.Mesh.{Vertex, vertices, cube_loops}
 use Rattle.mesh_rule.specs.Buffers.{triples, mesh_offsets}
@@ -62,7 +62,7 @@ module _ (n : Size) (s : List ℕ) (cut : Cut) where
   unfolding cube_offsets
   cube_in_unit g c =
       triples_in_unit (place_of cut (corners_of n s c)) (cube_loops loops_of n s cut c)
-      (λ m d. place_in_unit cut (corners_of n s c) m (corners_grey n s g c) (loop-crossed cut (corners_of n s c) m d))
+      (λ m d. place_in_unit cut (corners_of n s c) m (corners_grey n s g c) (loop_crossed cut (corners_of n s c) m d))
 
   -- of the whole mesh
   pub offsets_in_unit : SixteenBit s → (k : ℕ) → k < length (mesh_offsets loops_of n s cut) → InUnit (get_or (mesh_offsets loops_of n s cut) k nan)

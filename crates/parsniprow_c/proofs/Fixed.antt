@@ -14,7 +14,7 @@ use Rattle.place.specs.Crossing.{said_edge}
 use Rattle.place.proofs.Fixed.{edge_fixed}
 use Rattle.cell.specs.declared.CubeAnswer.{CubeAnswer}
 use Rattle.cell.specs.Answer.{said_cube}
-use Rattle.cell.proofs.Answers.{cube-fixed}
+use Rattle.cell.proofs.Answers.{cube_fixed}
 use Rattle.mesh_rule.specs.Buffers.{triples}
 use Rattle.mesh.specs.declared.Counted.{Counted}
 use Rattle.mesh.specs.Answer.{said_counts, told_counts}
@@ -75,7 +75,7 @@ pub cube_told_fixed : (corners : List ℕ) (t noise : ℕ) (words : List ℕ) (o
     → Fixes (λ (f : List ℕ × List Float × List ℕ). CubeTold corners t noise words offsets place f.0 f.1 f.2)
 cube_told_fixed corners t noise words offsets place a b x y =
     is_cube_found corners t noise words offsets place a x
-    ∙ ap (cube_found words offsets place) (cube-fixed corners (cut_of t noise) x.answer y.answer x.answered y.answered)
+    ∙ ap (cube_found words offsets place) (cube_fixed corners (cut_of t noise) x.answer y.answer x.answered y.answered)
     ∙ sym (is_cube_found corners t noise words offsets place b y)
 
 pub crossed_told_fixed : (nx ny nz : ℕ) (s : List ℕ) (t : ℕ) (place : List ℕ) → Fixes (CrossedTold nx ny nz s t place)

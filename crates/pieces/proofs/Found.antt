@@ -49,15 +49,15 @@ module _ (n : ℕ) (few : n < 4294967296) (quads : List ℕ) (whole : length qua
     standing = subst (Stands n) (sym last) (joined_to n few quads below (length quads / 4) (omega arith)).stands
 
     -- the lowest vertex with the same top is the piece's number
-    piece-here : (v : ℕ) → v < n → PieceOf quads v (low n (top_of (at up) n) v)
-    piece-here v h =
+    piece_here : (v : ℕ) → v < n → PieceOf quads v (low n (top_of (at up) n) v)
+    piece_here v h =
         subst (λ (st : State). PieceOf quads v (low n (top_of (at st.up) n) v)) (sym last)
         (piece_is n few quads below (length quads / 4) (omega arith) (joined_to n few quads below (length quads / 4) (omega arith)) v h)
 
     pub found_all : (up' size' : List ℕ) (pieces : ℕ) → Numbered n up up' size' pieces
         → Numbers n quads up' × ((size' ≡ sizes n up') × (record { count = pieces; longest = longest } ≡ parts_of n quads up'))
     found_all up' size' pieces N = (
-      record { for_each = N.up_length; number = λ v h. subst (PieceOf quads v) (sym (N.number v h)) (piece-here v h) },
+      record { for_each = N.up_length; number = λ v h. subst (PieceOf quads v) (sym (N.number v h)) (piece_here v h) },
       (
         ext_get_or 0 size' (sizes n up') (N.size_length ∙ sym (each_length (members n up') n)) (λ v h. counted v (rw N.size_length at h)),
         ap₂ (λ (c l : ℕ). record { count = c; longest = l }) (N.pieces ∙ count_same _ _ n (λ v h. ap (λ (p : ℕ). eqb p v) (sym (N.number v h)))) (ap (λ (st : State). st.longest) last),

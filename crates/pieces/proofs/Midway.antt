@@ -125,13 +125,13 @@ module _ (n : ℕ) (up₀ size₀ : List ℕ) (S : Standing n up₀ size₀) whe
             ap (λ (l : List ℕ). at l u) eu
             ∙ (λ p. set_as (set up t v) v v (rw (length-set up t v, M.up_length) hv) p u)
             ∙ (λ p. cond (eqb u v) v (set_as up t v (rw M.up_length ht) p u))
-            ∙ (λ p. cond (eqb u v) v (cond (eqb u (at-root p)) v (M.links u hu p)))
+            ∙ (λ p. cond (eqb u v) v (cond (eqb u (at_root p)) v (M.links u hu p)))
             ∙ lowest_up S.trees v hv own u hu;
         sizes = λ u hu.
             ap (λ (l : List ℕ). at l u) es
             ∙ (λ p. set_as (set size t 0) v (at size t) (rw (length-set size t 0, M.size_length) hv) p u)
             ∙ (λ p. cond (eqb u v) (taken p) (set_as size t 0 (rw M.size_length ht) p u))
-            ∙ (λ p. cond (eqb u v) (at size₀ (root v)) (cond (eqb u (at-root p)) 0 (M.sizes u hu p)))
+            ∙ (λ p. cond (eqb u v) (at size₀ (root v)) (cond (eqb u (at_root p)) 0 (M.sizes u hu p)))
             ∙ lowest_size S.trees v hv own u hu;
         found = one_more true (eq-eqb (low n root v) v own) (N.fresh ∙ ap (λ (b : Bool). bit (not b)) c);
       }
@@ -148,14 +148,14 @@ module _ (n : ℕ) (up₀ size₀ : List ℕ) (S : Standing n up₀ size₀) whe
           own : low n root v ≡ v
           own = not_numbered S.trees v hv (subst (λ (x : ℕ). v ≤ x) is h)
 
-          at-root : t ≡ root v
-          at-root = is ∙ old_top S.trees v hv own
+          at_root : t ≡ root v
+          at_root = is ∙ old_top S.trees v hv own
 
           ht : t < n
-          ht = rw at-root (S.trees.inside v hv)
+          ht = rw at_root (S.trees.inside v hv)
 
           taken : at size t ≡ at size₀ (root v)
-          taken = M.sizes t ht ∙ ap (size_at n (at size₀) root v) at-root ∙ size_there S.trees v hv own
+          taken = M.sizes t ht ∙ ap (size_at n (at size₀) root v) at_root ∙ size_there S.trees v hv own
 
       pub midway_next : Midway n (v + 1) up₀ size₀ up' size' (pieces + r)
       midway_next = go (lt_or_ge t v)

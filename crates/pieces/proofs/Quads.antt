@@ -52,8 +52,8 @@ module _ (n : ℕ) (few : n < 4294967296) where
     Sound st = (x y : ℕ) → x < n → y < n → top n st x ≡ top n st y → Chain quads x y
 
     -- they still are after a join of two vertices that are
-    sound-next : {st st' : State} {v w : ℕ} → v < n → w < n → Next n st st' v w → Chain quads v w → Sound st → Sound st'
-    sound-next {st} {st'} {v} {w} hv hw N j s x y hx hy e = go (N.only x y hx hy e)
+    sound_next : {st st' : State} {v w : ℕ} → v < n → w < n → Next n st st' v w → Chain quads v w → Sound st → Sound st'
+    sound_next {st} {st'} {v} {w} hv hw N j s x y hx hy e = go (N.only x y hx hy e)
       where
         go : Merged (top n st) v w x y → Chain quads x y
         go (same p) = s x y hx hy p
@@ -113,8 +113,8 @@ module _ (n : ℕ) (few : n < 4294967296) where
           go (suc (suc (suc zero))) h e = N3.done ∙ ap (top n s3) e
           go (suc (suc (suc (suc i)))) h e = absurd (omega arith)
 
-      whole-next : (q v : ℕ) → q < suc m → VertexOf quads q v → top n s3 (at quads (4 * q)) ≡ top n s3 v
-      whole-next q v l c = go (lt_or_ge q m)
+      whole_next : (q v : ℕ) → q < suc m → VertexOf quads q v → top n s3 (at quads (4 * q)) ≡ top n s3 v
+      whole_next q v l c = go (lt_or_ge q m)
         where
           go : (q < m) ⊎ (m ≤ q) → top n s3 (at quads (4 * q)) ≡ top n s3 v
           go (inl g) = kept _ _ (below (4 * q) (omega (arith, c.there))) (vertex_lt q v c) (J.whole q v g c)
@@ -127,10 +127,10 @@ module _ (n : ℕ) (few : n < 4294967296) where
       joined_next = record {
         stands = N3.stands;
         sound =
-            sound-next at_first (at_place 3 (omega arith)) N3 (chain 3 (omega arith))
-            (sound-next at_first (at_place 2 (omega arith)) N2 (chain 2 (omega arith))
-            (sound-next at_first (at_place 1 (omega arith)) N1 (chain 1 (omega arith)) J.sound));
-        whole = whole-next;
+            sound_next at_first (at_place 3 (omega arith)) N3 (chain 3 (omega arith))
+            (sound_next at_first (at_place 2 (omega arith)) N2 (chain 2 (omega arith))
+            (sound_next at_first (at_place 1 (omega arith)) N1 (chain 1 (omega arith)) J.sound));
+        whole = whole_next;
         short = λ some.
             join_short n s2 N2.stands _ _ at_first (at_place 3 (omega arith))
             (join_short n s1 N1.stands _ _ at_first (at_place 2 (omega arith))
@@ -149,10 +149,10 @@ module _ (n : ℕ) (few : n < 4294967296) where
 
     -- ---- what the last state says
 
-    chain-inside : {v w : ℕ} → Chain quads v w → v < n → w < n
-    chain-inside none h = h
-    chain-inside (one q a b) h = vertex_lt q _ b
-    chain-inside (more p q) h = chain-inside q (chain-inside p h)
+    chain_inside : {v w : ℕ} → Chain quads v w → v < n → w < n
+    chain_inside none h = h
+    chain_inside (one q a b) h = vertex_lt q _ b
+    chain_inside (more p q) h = chain_inside q (chain_inside p h)
 
     module _ (m : ℕ) (all : length quads ≡ 4 * m) (J : Joined m) where
       -- a chain's ends have one top
@@ -165,7 +165,7 @@ module _ (n : ℕ) (few : n < 4294967296) where
       pub piece_is : (v : ℕ) → v < n → PieceOf quads v (low n (top n (after n quads m)) v)
       piece_is v h = record {
         together = J.sound v _ h (low_lt n (top n (after n quads m)) v h) (sym (low_root n (top n (after n quads m)) v h));
-        lowest = λ w c. low_le n (top n (after n quads m)) v w (chain-inside c h) (sym (complete c));
+        lowest = λ w c. low_le n (top n (after n quads m)) v w (chain_inside c h) (sym (complete c));
       }
 
     -- ---- as the code finds it

@@ -51,18 +51,18 @@ module _ {n : ℕ} {up size depth root : ℕ → ℕ} (F : Trees n up size depth
     where
       go : (c : Bool) → moved n root v x ≡ c → cond c (low n root x) (up x) ≡ x → top_at n root v x ≡ x
       go true q e = rw (lt-ltb _ _ (moved_low x q)) e
-      go false q e = at-root (lt_or_ge (low n root x) v)
+      go false q e = at_root (lt_or_ge (low n root x) v)
         where
-          is-root : root x ≡ x
-          is-root = (F.stay x l e).0
+          is_root : root x ≡ x
+          is_root = (F.stay x l e).0
 
           either : (a : Bool) {b : Bool} → b ≡ true → (a || b) ≡ true
           either true h = refl
           either false h = h
 
-          at-root : (low n root x < v) ⊎ (v ≤ low n root x) → top_at n root v x ≡ x
-          at-root (inl g) = absurd (true≢false (sym (low_moved x g (either (ltb x v) (eq-eqb x (root x) (sym is-root)))) ∙ q))
-          at-root (inr g) = rw (le-ltb (low n root x) v g) is-root
+          at_root : (low n root x < v) ⊎ (v ≤ low n root x) → top_at n root v x ≡ x
+          at_root (inl g) = absurd (true≢false (sym (low_moved x g (either (ltb x v) (eq-eqb x (root x) (sym is_root)))) ∙ q))
+          at_root (inr g) = rw (le-ltb (low n root x) v g) is_root
 
   -- and one that can go on stays in its piece
   pub goes : (x : ℕ) → x < n → (up_at n up root v x ≡ x → ⊥) → (up_at n up root v x < n) × (top_at n root v (up_at n up root v x) ≡ top_at n root v x)
@@ -169,24 +169,24 @@ module _ {n : ℕ} {up size depth root : ℕ → ℕ} (F : Trees n up size depth
     pub old_top : top_at n root v v ≡ t
     old_top = rw (le-ltb (low n root v) v (omega arith))
 
-    same-piece : (u : ℕ) → u < n → low n root u ≡ v → root u ≡ t
-    same-piece u hu e = low_eq n root u v hu hv (e ∙ sym h)
+    same_piece : (u : ℕ) → u < n → low n root u ≡ v → root u ≡ t
+    same_piece u hu e = low_eq n root u v hu hv (e ∙ sym h)
 
-    root-t : root t ≡ t
-    root-t = (F.stay t (F.inside v hv) (F.tops v hv)).0
+    root_t : root t ≡ t
+    root_t = (F.stay t (F.inside v hv) (F.tops v hv)).0
 
-    low-t : low n root t ≡ v
-    low-t = low_same n root t v root-t ∙ h
+    low_t : low n root t ≡ v
+    low_t = low_same n root t v root_t ∙ h
 
     -- the size of the old top is still there
     pub size_there : size_at n size root v t ≡ size t
-    size_there = rw (low-t, le-ltb v v (omega arith), root-t, eq-eqb t t refl)
+    size_there = rw (low_t, le-ltb v v (omega arith), root_t, eq-eqb t t refl)
 
     pub lowest_up : (u : ℕ) → u < n → cond (eqb u v) v (cond (eqb u t) v (now u)) ≡ next u
     lowest_up u hu = go (eqb u v) (eqb u t) refl refl
       where
-        at-t : next t ≡ v
-        at-t = rw (low-t, lt-ltb v (v + 1) (omega arith), eq-eqb t (root t) (sym root-t)) (pick (ltb t (v + 1)))
+        at_t : next t ≡ v
+        at_t = rw (low_t, lt-ltb v (v + 1) (omega arith), eq-eqb t (root t) (sym root_t)) (pick (ltb t (v + 1)))
           where
             pick : (b : Bool) → cond (b || true) v (up t) ≡ v
             pick true = refl
@@ -197,29 +197,29 @@ module _ {n : ℕ} {up size depth root : ℕ → ℕ} (F : Trees n up size depth
         rest true q nu nt =
             let e : low n root u ≡ v = eqb-true _ _ q in
             let le : v ≤ u = omega (arith, low_le n root u u hu refl) in
-            rw (e, le-ltb v v (omega arith), lt-ltb v (v + 1) (omega arith), ltb_next u v nu, le-ltb u v le, ne_eqb u (root u) (λ z. nt (z ∙ same-piece u hu e)))
+            rw (e, le-ltb v v (omega arith), lt-ltb v (v + 1) (omega arith), ltb_next u v nu, le-ltb u v le, ne_eqb u (root u) (λ z. nt (z ∙ same_piece u hu e)))
 
         go : (c d : Bool) → eqb u v ≡ c → eqb u t ≡ d → cond c v (cond d v (now u)) ≡ next u
         go true d p q = rw (eqb-true u v p) (sym (next_self ∙ h))
-        go false true p q = rw (eqb-true u t q) (sym at-t)
+        go false true p q = rw (eqb-true u t q) (sym at_t)
         go false false p q = rest (eqb (low n root u) v) refl (eqb-false u v p) (eqb-false u t q)
 
     -- the size moves from the old top to v
     pub lowest_size : (u : ℕ) → u < n → cond (eqb u v) (size t) (cond (eqb u t) 0 (size_at n size root v u)) ≡ size_at n size root (v + 1) u
     lowest_size u hu = go (eqb u v) (eqb u t) refl refl
       where
-        top-next : (x : ℕ) → low n root x ≡ v → top_at n root (v + 1) x ≡ v
-        top-next x e = rw (e, lt-ltb v (v + 1) (omega arith))
+        top_next : (x : ℕ) → low n root x ≡ v → top_at n root (v + 1) x ≡ v
+        top_next x e = rw (e, lt-ltb v (v + 1) (omega arith))
 
         rest : (c : Bool) → eqb (low n root u) v ≡ c → (u ≡ v → ⊥) → (u ≡ t → ⊥) → size_at n size root v u ≡ size_at n size root (v + 1) u
         rest false q nu nt = other_size u (eqb-false _ _ q)
         rest true q nu nt =
             let e : low n root u ≡ v = eqb-true _ _ q in
-            rw (top-next u e, e, le-ltb v v (omega arith), ne_eqb u v nu, ne_eqb u (root u) (λ z. nt (z ∙ same-piece u hu e)))
+            rw (top_next u e, e, le-ltb v v (omega arith), ne_eqb u v nu, ne_eqb u (root u) (λ z. nt (z ∙ same_piece u hu e)))
 
         go : (c d : Bool) → eqb u v ≡ c → eqb u t ≡ d → cond c (size t) (cond d 0 (size_at n size root v u)) ≡ size_at n size root (v + 1) u
-        go true d p q = rw (eqb-true u v p, top-next v h, eq-eqb v v refl)
-        go false true p q = rw (eqb-true u t q, top-next t low-t, ne_eqb t v (λ z. eqb-false u v p (eqb-true u t q ∙ z)))
+        go true d p q = rw (eqb-true u v p, top_next v h, eq-eqb v v refl)
+        go false true p q = rw (eqb-true u t q, top_next t low_t, ne_eqb t v (λ z. eqb-false u v p (eqb-true u t q ∙ z)))
         go false false p q = rest (eqb (low n root u) v) refl (eqb-false u v p) (eqb-false u t q)
 
 -- ---- at the beginning, and at the end

@@ -16,7 +16,7 @@ use Rattle.place.specs.declared.Crossing.TheVariants.{At}
 use Rattle.place.specs.Crossing.{edge_answer, EdgeAnswered}
 use Rattle.place.specs.Place.{fraction_at}
 use Rattle.place.specs.Steps.{Fractional}
-use Rattle.place.proofs.Answers.{edge-answers-fraction}
+use Rattle.place.proofs.Answers.{edge_answers_fraction}
 use Rattle.place.proofs.Fixed.{said_edge_injective}
 
 -- row 3 passes the threshold
@@ -37,6 +37,6 @@ module _ (cut : Cut) (corners : List ℕ) (e : ℕ) (asked : Fractional cut corn
       (said
       ∙ ap (λ (c : ℕ). edge_answer (corner_sample corners c) (corner_sample corners u) cut.t) is-lower
       ∙ ap (λ (c : ℕ). edge_answer (corner_sample corners (lower e)) (corner_sample corners c) cut.t) is-upper
-      ∙ edge-answers-fraction (corner_sample corners (lower e)) (corner_sample corners (upper e)) cut.t
+      ∙ edge_answers_fraction (corner_sample corners (lower e)) (corner_sample corners (upper e)) cut.t
       (passed_threshold cut asked.threshold)
       asked.crossed)

@@ -24,7 +24,7 @@ use Rattle.place.specs.declared.Crossing.TheVariants.{At}
 use Rattle.place.specs.Crossing.{gap, float, fraction, EdgeAnswered}
 use Rattle.place.specs.Place.{plus_zero, one, local, fraction_at, sum_on, mean_on, place_of}
 use Rattle.place.specs.Unit.{InUnit, Inside}
-use Rattle.place.proofs.Answers.{refusedBy, edge-answers}
+use Rattle.place.proofs.Answers.{refused_by, edge_answers}
 use Rattle.place.proofs.Counts.{count_below, count_le, count_small}
 
 -- ---- what is within 1 is in the unit
@@ -77,13 +77,13 @@ fraction_within cut p q P Q h =
 pub fraction_in_unit : (p q t : ℕ) (f : Float) → p < 65536 → q < 65536 → EdgeAnswered p q t (At f) → InUnit f
 fraction_in_unit p q t f P Q said =
     in_unit f
-    (go (no_threshold cut) (apart cut p q) (fraction_within cut p q P Q) (said ∙ edge-answers p q t))
+    (go (no_threshold cut) (apart cut p q) (fraction_within cut p q P Q) (said ∙ edge_answers p q t))
   where
     cut : Cut
     cut = cut_of t 0
 
     go : (a d : Bool) → (d ≡ true → Within 1 (fraction (cut_of t 0) p q))
-        → accepted (f ∷ []) ≡ cond a (refusedBy 3 t) (cond d (accepted (fraction (cut_of t 0) p q ∷ [])) (accepted []))
+        → accepted (f ∷ []) ≡ cond a (refused_by 3 t) (cond d (accepted (fraction (cut_of t 0) p q ∷ [])) (accepted []))
         → Within 1 f
     go true d w e = let z : ◌≡◌ {A = ℕ} 0 1 = cc in absurd (omega arith)
     go false true w e = let is : fraction (cut_of t 0) p q ≡ f = cc in subst (Within 1) is (w refl)

@@ -146,8 +146,8 @@ module _ (n : Size) (s : List ℕ) (cut : Cut) (k : ℕ) where
       more f = ap length (below_next f j) ∙ length-append (below f j) (f j)
 
   module _ (l : Limits n) (hk : k + 1 < n.nz) where
-    most-v : (j : ℕ) → j < n.ny → layer_first loops_of n s cut k + length (rows_masks loops_of n s cut k j) ≤ 66325500
-    most-v j hj = omega (arith, rows_first j, vertices_le n s cut (row_cube n.nx n.ny j k) (in_block (n.nx - 1) (n.ny - 1) (n.nz - 1) (omega (arith, l.y_low)) (omega arith)), most_vertices loops_of n s cut (cube_laws joined) l)
+    most_v : (j : ℕ) → j < n.ny → layer_first loops_of n s cut k + length (rows_masks loops_of n s cut k j) ≤ 66325500
+    most_v j hj = omega (arith, rows_first j, vertices_le n s cut (row_cube n.nx n.ny j k) (in_block (n.nx - 1) (n.ny - 1) (n.nz - 1) (omega (arith, l.y_low)) (omega arith)), most_vertices loops_of n s cut (cube_laws joined) l)
       where
         in_block : (x y z : ℕ) → j ≤ y → k < z → x * (j + y * k) ≤ x * (y * z)
         in_block x y z a b = mul-le-mul_left x (omega (arith, mul-le-mul_left y (next b)))
@@ -158,7 +158,7 @@ module _ (n : Size) (s : List ℕ) (cut : Cut) (k : ℕ) where
     -- so they are few
     pub marked_few : {j : ℕ} {m : Marks} → j < n.ny → RowsMarked loops_of n s cut k 0 0 j m → RowFew m
     marked_few {j} {m} hj r = record {
-      few_v = omega (arith, r.v_is, most-v j hj);
+      few_v = omega (arith, r.v_is, most_v j hj);
       few_x = omega (arith, r.x_is, rows_le X j hj (omega arith), all_quads_lem n s cut, most_quads loops_of n s cut l);
       few_y = omega (arith, r.y_is, rows_le Y j hj (omega arith), all_quads_lem n s cut, most_quads loops_of n s cut l);
       few_z = omega (arith, r.z_is, rows_le Z j hj (omega arith), all_quads_lem n s cut, most_quads loops_of n s cut l);
@@ -166,6 +166,6 @@ module _ (n : Size) (s : List ℕ) (cut : Cut) (k : ℕ) where
 
     pub marked_all_few : {j : ℕ} {m : Marks} → j < n.ny → RowsMarked loops_of n s cut k 0 0 j m → Few m
     marked_all_few {j} {m} hj r = (
-      omega (arith, r.v_is, most-v j hj),
+      omega (arith, r.v_is, most_v j hj),
       omega (arith, r.x_is, r.y_is, r.z_is, rows_le X j hj (omega arith), rows_le Y j hj (omega arith), rows_le Z j hj (omega arith), all_quads_lem n s cut, most_quads loops_of n s cut l),
     )

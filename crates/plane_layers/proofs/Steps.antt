@@ -76,12 +76,12 @@ module _ {layer : Layer} {work plane a b : List ℕ} (r : LayerReady layer work 
           marked_few layer.size some layer.cut layer.k r.limits r.inside (omega arith) (marked some some_shown),
         )
 
-    row-moves : {s : List ℕ} → Shown layer.size layer.k work plane s → {m m' : Marks} → RowCounted loops_of lo hi row a b m m' → RowMoved loops_of layer.size s layer.cut j layer.k m m'
-    row-moves h {m} {m'} c = row_moved (shown_ready r g h) j hj layer.first (shown_windows r j nx ex hj h w long is) (subst (λ (x : Row). RowCounted loops_of lo hi x a b m m') er c)
+    row_moves : {s : List ℕ} → Shown layer.size layer.k work plane s → {m m' : Marks} → RowCounted loops_of lo hi row a b m m' → RowMoved loops_of layer.size s layer.cut j layer.k m m'
+    row_moves h {m} {m'} c = row_moved (shown_ready r g h) j hj layer.first (shown_windows r j nx ex hj h w long is) (subst (λ (x : Row). RowCounted loops_of lo hi x a b m m') er c)
 
     pub counted_next : {s : List ℕ} → Shown layer.size layer.k work plane s → {m m' : Marks} → RowsMarked loops_of layer.size s layer.cut layer.k 0 0 j m → RowCounted loops_of lo hi row a b m m'
         → RowsMarked loops_of layer.size s layer.cut layer.k 0 0 (j + 1) m'
-    counted_next {s} h marked c = marked_more layer.size s layer.cut layer.k marked (row-moves h c)
+    counted_next {s} h marked c = marked_more layer.size s layer.cut layer.k marked (row_moves h c)
 
     -- ---- it is written
 
@@ -97,6 +97,6 @@ module _ {layer : Layer} {work plane a b : List ℕ} (r : LayerReady layer work 
       words_behind = stored_words_behind h.written.stored;
       offsets_behind = stored_offsets_behind h.written.stored;
       quads_behind = more_behind h.more;
-      moved = λ s sh. row-moves sh (step_counts loops_of lo hi row a b under m ws ws' o o' q q' tab tab' m' h);
+      moved = λ s sh. row_moves sh (step_counts loops_of lo hi row a b under m ws ws' o o' q q' tab tab' m' h);
       more = λ s sh number ready. row_more (shown_ready r g sh) ready number (shown_windows r j nx ex hj sh w long is) row er h;
     }

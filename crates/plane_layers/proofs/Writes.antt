@@ -159,8 +159,8 @@ module _ {layer : Layer} {t : Marks} {plane work₀ w₀ : List ℕ} {o₀ : Lis
 
   -- how much a block's row has, by what was counted
   module _ {s : List ℕ} (h : Shown layer.size layer.k work₀ plane s) where
-    v-room : m.v + length (run_masks loops_of n s layer.cut (row_cube n.nx n.ny j layer.k) (n.nx - 1)) ≤ t.v
-    v-room = omega (arith, (st.marked s h).v_is, (counted s h).v_is, length-below (λ (i : ℕ). run_masks loops_of n s layer.cut (row_cube n.nx n.ny i layer.k) (n.nx - 1)) rows j (omega arith))
+    v_room : m.v + length (run_masks loops_of n s layer.cut (row_cube n.nx n.ny j layer.k) (n.nx - 1)) ≤ t.v
+    v_room = omega (arith, (st.marked s h).v_is, (counted s h).v_is, length-below (λ (i : ℕ). run_masks loops_of n s layer.cut (row_cube n.nx n.ny i layer.k) (n.nx - 1)) rows j (omega arith))
 
     x_room : length (rows_x loops_of n s layer.cut layer.k j) + length (row_quads loops_of n s layer.cut X layer.k j) ≤ t.x
     x_room = omega (arith, (counted s h).x_is, length-below (row_quads loops_of n s layer.cut X layer.k) rows j (omega arith))
@@ -195,11 +195,11 @@ module _ {layer : Layer} {t : Marks} {plane work₀ w₀ : List ℕ} {o₀ : Lis
       abbrev under' : List ℕ
       under' = put_mid h (h + p - h) under fetched
 
-      fetched-long : length fetched ≡ p
-      fetched-long = ap length ef ∙ part_long work at p in_work
+      fetched_long : length fetched ≡ p
+      fetched_long = ap length ef ∙ part_long work at p in_work
 
       fits : length fetched ≡ h + p - h
-      fits = omega (arith, fetched-long)
+      fits = omega (arith, fetched_long)
 
       pub under_long : length under' ≡ 1024
       under_long = put_length h (h + p) under fetched (omega arith) (omega (arith, in_half, st.under_long)) fits ∙ st.under_long
@@ -238,9 +238,9 @@ module _ {layer : Layer} {t : Marks} {plane work₀ w₀ : List ℕ} {o₀ : Lis
         block = some;
         shown = shown_same layer work₀ work st.kept.work_long st.front shown₀;
         room = record {
-          words = omega (arith, v-room shown₀, room.words, st.kept.words_long);
-          offsets = omega (arith, v-room shown₀, room.offsets, st.kept.offsets_long);
-          few = omega (arith, v-room shown₀, r.few, marked_all_few n some layer.cut layer.k r.limits r.inside (less hj) (counted some shown₀));
+          words = omega (arith, v_room shown₀, room.words, st.kept.words_long);
+          offsets = omega (arith, v_room shown₀, room.offsets, st.kept.offsets_long);
+          few = omega (arith, v_room shown₀, r.few, marked_all_few n some layer.cut layer.k r.limits r.inside (less hj) (counted some shown₀));
           quads_x = omega (arith, (st.marked some shown₀).x_is, x_room shown₀, room.quads, st.kept.quads_long);
           quads_y = omega (arith, (st.marked some shown₀).y_is, y_room shown₀, room.quads, st.kept.quads_long);
           quads_z = omega (arith, (st.marked some shown₀).z_is, z_room shown₀, room.quads, st.kept.quads_long);
@@ -257,19 +257,19 @@ module _ {layer : Layer} {t : Marks} {plane work₀ w₀ : List ℕ} {o₀ : Lis
         abbrev work' : List ℕ
         work' = put_mid at (at + p - at) work own
 
-        own-long : length own ≡ p
-        own-long = ap length eo ∙ part_long tab' h p (omega (arith, in_half, taken.tab_long))
+        own_long : length own ≡ p
+        own_long = ap length eo ∙ part_long tab' h p (omega (arith, in_half, taken.tab_long))
 
-        own-fits : length own ≡ at + p - at
-        own-fits = omega (arith, own-long)
+        own_fits : length own ≡ at + p - at
+        own_fits = omega (arith, own_long)
 
-        before-kept : (x : ℕ) → x < at → get_or work' x 0 ≡ get_or work x 0
-        before-kept x l = put_before at (at + p) work own (omega arith) in_work own-fits x l
+        before_kept : (x : ℕ) → x < at → get_or work' x 0 ≡ get_or work x 0
+        before_kept x l = put_before at (at + p) work own (omega arith) in_work own_fits x l
 
         -- a block's marks
         module _ {s : List ℕ} (sh : Shown layer.size layer.k work₀ plane s) where
-          next-marked : RowsMarked loops_of n s layer.cut layer.k t.x (t.x + t.y) (j + 1) m'
-          next-marked = marked_more n s layer.cut layer.k (st.marked s sh) (taken.moved s (shown_same layer work₀ work st.kept.work_long st.front sh))
+          next_marked : RowsMarked loops_of n s layer.cut layer.k t.x (t.x + t.y) (j + 1) m'
+          next_marked = marked_more n s layer.cut layer.k (st.marked s sh) (taken.moved s (shown_same layer work₀ work st.kept.work_long st.front sh))
 
           module _ (known : Known loops_of n s layer.cut layer.k layer.first work₀) where
             number : layer.first + m.v ≡ length (vertices_before loops_of n s layer.cut (row_cube n.nx n.ny j layer.k))
@@ -295,7 +295,7 @@ module _ {layer : Layer} {t : Marks} {plane work₀ w₀ : List ℕ} {o₀ : Lis
                 same x l =
                     get_or-drop (table_at n j) work' x 0
                     ∙ ap (λ (i : ℕ). get_or work' (i + x) 0) (sym ea)
-                    ∙ put_in at (at + p) work own (omega arith) in_work own-fits x (omega arith)
+                    ∙ put_in at (at + p) work own (omega arith) in_work own_fits x (omega arith)
                     ∙ ap (λ (l : List ℕ). get_or l x 0) eo
                     ∙ part_at tab' h p x (omega arith)
                     ∙ ap (λ (i : ℕ). get_or tab' (i + x) 0) eh
@@ -309,7 +309,7 @@ module _ {layer : Layer} {t : Marks} {plane work₀ w₀ : List ℕ} {o₀ : Lis
                 le_of a = omega arith
 
                 same : i < j → (x : ℕ) → x < 2 * (layer.size.nx - 1) → get_or (drop (table_at n i) work') x 0 ≡ get_or (drop (table_at n i) work) x 0
-                same a x b = get_or-drop (table_at n i) work' x 0 ∙ before-kept (table_at n i + x) (omega (arith, table_later n j i a)) ∙ sym (get_or-drop (table_at n i) work x 0)
+                same a x b = get_or-drop (table_at n i) work' x 0 ∙ before_kept (table_at n i + x) (omega (arith, table_later n j i a)) ∙ sym (get_or-drop (table_at n i) work x 0)
 
                 go : (i ≡ j) ⊎ (i < j) → RowTable loops_of n s layer.cut i layer.k (drop (table_at n i) work')
                 go (inl e) = subst (λ (y : ℕ). RowTable loops_of n s layer.cut y layer.k (drop (table_at n y) work')) (sym e) noted_here
@@ -318,8 +318,8 @@ module _ {layer : Layer} {t : Marks} {plane work₀ w₀ : List ℕ} {o₀ : Lis
             behind : j ≡ j + 1 - 1
             behind = omega arith
 
-            next-done : RowsDone loops_of layer s t.x (t.x + t.y) w₀ o₀ q₀ under' tab' work' w' o' q' (j + 1)
-            next-done = record {
+            next_done : RowsDone loops_of layer s t.x (t.x + t.y) w₀ o₀ q₀ under' tab' work' w' o' q' (j + 1)
+            next_done = record {
               written = written_more n s layer.cut layer.k (st.marked s sh) (x_room sh) (omega (arith, y_room sh)) (st.done s sh known).written more;
               below_before = λ a lk. subst (λ (i : ℕ). RowTable loops_of n s layer.cut i (layer.k - 1) (half (j + 1 + 1) under')) behind (subst (RowTable loops_of n s layer.cut j (layer.k - 1)) (turn j under') (tables.below lk));
               before = λ a. subst (λ (i : ℕ). RowTable loops_of n s layer.cut i layer.k (half (j + 1 + 1) tab')) behind (subst (RowTable loops_of n s layer.cut j layer.k) (turn j tab') more.noted);
@@ -338,27 +338,27 @@ module _ {layer : Layer} {t : Marks} {plane work₀ w₀ : List ℕ} {o₀ : Lis
             words_long = lw ∙ st.kept.words_long;
             offsets_long = lo ∙ st.kept.offsets_long;
             quads_long = lq ∙ st.kept.quads_long;
-            work_long = put_length at (at + p) work own (omega arith) in_work own-fits ∙ st.kept.work_long;
+            work_long = put_length at (at + p) work own (omega arith) in_work own_fits ∙ st.kept.work_long;
             words_behind = λ i l. taken.words_behind i l ∙ st.kept.words_behind i (omega (arith, grown));
             offsets_behind = λ i l. taken.offsets_behind i l ∙ st.kept.offsets_behind i (omega (arith, grown));
             quads_behind = λ i l.
-                taken.quads_behind i (omega (arith, moved-x, moved-z)) (omega (arith, moved-y, moved-z)) l
+                taken.quads_behind i (omega (arith, moved_x, moved_z)) (omega (arith, moved_y, moved_z)) l
                 ∙ st.kept.quads_behind i (omega (arith, further));
-            work_behind = λ i l. put_behind at (at + p) work own (omega arith) in_work own-fits i (omega arith) ∙ st.kept.work_behind i (omega arith);
+            work_behind = λ i l. put_behind at (at + p) work own (omega arith) in_work own_fits i (omega arith) ∙ st.kept.work_behind i (omega arith);
           };
-          front = λ i l. before-kept i (omega arith) ∙ st.front i l;
-          marked = λ s sh. next-marked sh;
-          done = λ s sh known. next-done sh known;
+          front = λ i l. before_kept i (omega arith) ∙ st.front i l;
+          marked = λ s sh. next_marked sh;
+          done = λ s sh known. next_done sh known;
         }
           where
-            moved-x : m'.x ≤ t.x
-            moved-x = omega (arith, (taken.moved some (shown_same layer work₀ work st.kept.work_long st.front shown₀)).x_is, (st.marked some shown₀).x_is, x_room shown₀)
+            moved_x : m'.x ≤ t.x
+            moved_x = omega (arith, (taken.moved some (shown_same layer work₀ work st.kept.work_long st.front shown₀)).x_is, (st.marked some shown₀).x_is, x_room shown₀)
 
-            moved-y : m'.y ≤ t.x + t.y
-            moved-y = omega (arith, (taken.moved some (shown_same layer work₀ work st.kept.work_long st.front shown₀)).y_is, (st.marked some shown₀).y_is, y_room shown₀)
+            moved_y : m'.y ≤ t.x + t.y
+            moved_y = omega (arith, (taken.moved some (shown_same layer work₀ work st.kept.work_long st.front shown₀)).y_is, (st.marked some shown₀).y_is, y_room shown₀)
 
-            moved-z : t.x + t.y ≤ m'.z
-            moved-z = omega (arith, (next-marked shown₀).z_is)
+            moved_z : t.x + t.y ≤ m'.z
+            moved_z = omega (arith, (next_marked shown₀).z_is)
 
             further : m.z ≤ m'.z
             further = omega (arith, (taken.moved some (shown_same layer work₀ work st.kept.work_long st.front shown₀)).z_is)
@@ -388,9 +388,9 @@ state_all {layer} {t} {plane} {work₀} {w₀} {o₀} {q₀} {under} {tab} {work
     offsets_long = st.kept.offsets_long;
     quads_long = st.kept.quads_long;
     work_long = st.kept.work_long;
-    words_behind = λ i l. st.kept.words_behind i (omega (arith, all-v));
-    offsets_behind = λ i l. st.kept.offsets_behind i (omega (arith, all-v));
-    quads_behind = λ i l. st.kept.quads_behind i (omega (arith, all-z));
+    words_behind = λ i l. st.kept.words_behind i (omega (arith, all_v));
+    offsets_behind = λ i l. st.kept.offsets_behind i (omega (arith, all_v));
+    quads_behind = λ i l. st.kept.quads_behind i (omega (arith, all_z));
     work_behind = λ i l. st.kept.work_behind i (omega (arith, last));
   };
   written = λ s h known. subst (λ (i : ℕ). RowsWritten loops_of layer.size s layer.cut layer.k t.x (t.x + t.y) i w₀ w o₀ o q₀ q) e (st.done s h known).written;
@@ -400,14 +400,14 @@ state_all {layer} {t} {plane} {work₀} {w₀} {o₀} {q₀} {under} {tab} {work
     shown : Shown layer.size layer.k work₀ plane (made layer.size layer.k work₀ plane)
     shown = made_shown layer.size layer.k work₀ plane r.inside
 
-    all-v : m.v ≡ t.v
-    all-v = (st.marked _ shown).v_is ∙ ap (λ (i : ℕ). length (rows_masks loops_of layer.size (made layer.size layer.k work₀ plane) layer.cut layer.k i)) e ∙ sym (counted _ shown).v_is
+    all_v : m.v ≡ t.v
+    all_v = (st.marked _ shown).v_is ∙ ap (λ (i : ℕ). length (rows_masks loops_of layer.size (made layer.size layer.k work₀ plane) layer.cut layer.k i)) e ∙ sym (counted _ shown).v_is
 
-    counted-z : t.z ≡ length (rows_z loops_of layer.size (made layer.size layer.k work₀ plane) layer.cut layer.k (layer.size.ny - 1))
-    counted-z = omega (arith, (counted _ shown).z_is)
+    counted_z : t.z ≡ length (rows_z loops_of layer.size (made layer.size layer.k work₀ plane) layer.cut layer.k (layer.size.ny - 1))
+    counted_z = omega (arith, (counted _ shown).z_is)
 
-    all-z : m.z ≡ t.x + t.y + t.z
-    all-z = (st.marked _ shown).z_is ∙ ap (λ (i : ℕ). t.x + t.y + length (rows_z loops_of layer.size (made layer.size layer.k work₀ plane) layer.cut layer.k i)) e ∙ ap (λ (i : ℕ). t.x + t.y + i) (sym (counted-z))
+    all_z : m.z ≡ t.x + t.y + t.z
+    all_z = (st.marked _ shown).z_is ∙ ap (λ (i : ℕ). t.x + t.y + length (rows_z loops_of layer.size (made layer.size layer.k work₀ plane) layer.cut layer.k i)) e ∙ ap (λ (i : ℕ). t.x + t.y + i) (sym (counted_z))
 
     last : table_at layer.size j ≤ 3 * plane_size layer.size
     last = omega (arith, mul-le-mul_left layer.size.nx (less e))

@@ -99,14 +99,14 @@ module _ (nx ny nz : ℕ) (words : List ℕ) (offsets : List Float) (quads : Lis
 
   module _ (a : Accepted) where
     -- the cube of a vertex lies in the block
-    cube-on : (c axis : ℕ) → c < cube_count (size_of nx ny nz) → axis < 3 → (get_or (cube_place n c) axis 0 < cubes_on n axis) × (cubes_on n axis ≤ 255)
-    cube-on c zero h l = ((index_box (nx - 1) (ny - 1) (nz - 1) c h).0, omega (arith, a.limits.x_high))
-    cube-on c (suc zero) h l = ((index_box (nx - 1) (ny - 1) (nz - 1) c h).1, omega (arith, a.limits.y_high))
-    cube-on c (suc (suc zero)) h l = ((index_box (nx - 1) (ny - 1) (nz - 1) c h).2, omega (arith, a.limits.z_high))
-    cube-on c (suc (suc (suc b))) h l = absurd (omega (arith, l))
+    cube_on : (c axis : ℕ) → c < cube_count (size_of nx ny nz) → axis < 3 → (get_or (cube_place n c) axis 0 < cubes_on n axis) × (cubes_on n axis ≤ 255)
+    cube_on c zero h l = ((index_box (nx - 1) (ny - 1) (nz - 1) c h).0, omega (arith, a.limits.x_high))
+    cube_on c (suc zero) h l = ((index_box (nx - 1) (ny - 1) (nz - 1) c h).1, omega (arith, a.limits.y_high))
+    cube_on c (suc (suc zero)) h l = ((index_box (nx - 1) (ny - 1) (nz - 1) c h).2, omega (arith, a.limits.z_high))
+    cube_on c (suc (suc (suc b))) h l = absurd (omega (arith, l))
 
-    offset-on : (v axis : ℕ) → v < length words / 2 → axis < 3 → from_zero_to_one (get_or offsets (3 * v + axis) nan) ≡ true
-    offset-on v axis h l = let all = and_both _ _ (a.inside v h) in let two = and_both _ _ all.0 in go axis l (two.0, two.1, all.1)
+    offset_on : (v axis : ℕ) → v < length words / 2 → axis < 3 → from_zero_to_one (get_or offsets (3 * v + axis) nan) ≡ true
+    offset_on v axis h l = let all = and_both _ _ (a.inside v h) in let two = and_both _ _ all.0 in go axis l (two.0, two.1, all.1)
       where
         go : (axis : ℕ) → axis < 3
             → (from_zero_to_one (get_or offsets (3 * v) nan) ≡ true) × (from_zero_to_one (get_or offsets (3 * v + 1) nan) ≡ true) × (from_zero_to_one (get_or offsets (3 * v + 2) nan) ≡ true)
@@ -119,14 +119,14 @@ module _ (nx ny nz : ℕ) (words : List ℕ) (offsets : List Float) (quads : Lis
     -- each coordinate is a number, from 0 to the far side of the box
     pub all_numbers : AllNumbers (size_of nx ny nz) words offsets s (length words / 2)
     all_numbers v axis h l =
-        let c = cube-on (get_or words (2 * v) 0) axis (ltb-true _ _ (a.cubes v h)) l in
+        let c = cube_on (get_or words (2 * v) 0) axis (ltb-true _ _ (a.cubes v h)) l in
         coordinate_number (get_or (cube_place n (get_or words (2 * v) 0)) axis 0) (cubes_on n axis) (get_or offsets (3 * v + axis) nan) (get_or (spacings s) axis nan) c.0 c.1
-        (offset-on v axis h l) (a.good axis l)
+        (offset_on v axis h l) (a.good axis l)
 
     pub all_inside : (v axis : ℕ) → v < length words / 2 → axis < 3
         → T (le plus_zero (place_on (size_of nx ny nz) words offsets s v axis))
         × T (le (place_on (size_of nx ny nz) words offsets s v axis) (mul binary64 (float (cubes_on (size_of nx ny nz) axis)) (get_or (spacings s) axis nan)))
     all_inside v axis h l =
-        let c = cube-on (get_or words (2 * v) 0) axis (ltb-true _ _ (a.cubes v h)) l in
+        let c = cube_on (get_or words (2 * v) 0) axis (ltb-true _ _ (a.cubes v h)) l in
         coordinate_inside (get_or (cube_place n (get_or words (2 * v) 0)) axis 0) (cubes_on n axis) (get_or offsets (3 * v + axis) nan) (get_or (spacings s) axis nan) c.0 c.1
-        (offset-on v axis h l) (a.good axis l)
+        (offset_on v axis h l) (a.good axis l)

@@ -92,18 +92,18 @@ digits_first : (ws : List ℕ) (e : ℕ) → length ws ≤ 4 → holders e ws �
 unfolding lowest
 digits_first [] e h o = absurd (omega arith)
 digits_first (a ∷ []) e h o = rw (or_digits 0 0 e, none_holds e) (sym (one_of (holds a e) o))
-digits_first (a ∷ b ∷ []) e h o = rw (or_digits b 0 e, or_digits 0 0 e, none_holds e) (or-zero (holds b e) ∙ sym (two_of_lem (holds a e) (holds b e) o))
+digits_first (a ∷ b ∷ []) e h o = rw (or_digits b 0 e, or_digits 0 0 e, none_holds e) (or_zero (holds b e) ∙ sym (two_of_lem (holds a e) (holds b e) o))
   where
-    or-zero : (t : Bool) → bit_or (bit t) 0 + 2 * bit_or 0 0 ≡ bit t
-    or-zero true = refl
-    or-zero false = refl
-digits_first (a ∷ b ∷ c ∷ []) e h o = rw (or_digits b 0 e, or_digits c 0 e, none_holds e) (or-zero (holds b e) (holds c e) ∙ sym (three_of_lem (holds a e) (holds b e) (holds c e) o))
+    or_zero : (t : Bool) → bit_or (bit t) 0 + 2 * bit_or 0 0 ≡ bit t
+    or_zero true = refl
+    or_zero false = refl
+digits_first (a ∷ b ∷ c ∷ []) e h o = rw (or_digits b 0 e, or_digits c 0 e, none_holds e) (or_zero (holds b e) (holds c e) ∙ sym (three_of_lem (holds a e) (holds b e) (holds c e) o))
   where
-    or-zero : (t u : Bool) → bit_or (bit t) 0 + 2 * bit_or (bit u) 0 ≡ bit t + 2 * bit u
-    or-zero true true = refl
-    or-zero true false = refl
-    or-zero false true = refl
-    or-zero false false = refl
+    or_zero : (t u : Bool) → bit_or (bit t) 0 + 2 * bit_or (bit u) 0 ≡ bit t + 2 * bit u
+    or_zero true true = refl
+    or_zero true false = refl
+    or_zero false true = refl
+    or_zero false false = refl
 digits_first (a ∷ b ∷ c ∷ d ∷ []) e h o = rw (or_digits b d e, or_digits c d e) (sym (four_of (holds a e) (holds b e) (holds c e) (holds d e) o))
 digits_first (a ∷ b ∷ c ∷ d ∷ f ∷ ws) e h o = absurd (omega arith)
 

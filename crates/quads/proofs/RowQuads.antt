@@ -156,8 +156,8 @@ module _ {D : Decider} {loops_of : Cut → List ℕ → List ℕ} (laws : CubeLa
     digit : (i : ℕ) → i < 64 → d / 2 ^ i % 2 ≡ bit (crossed (64 * w + i))
     digit i h = word_bit (edges_word n s cut along k a b j w planes row hw) i h
 
-    edge-is : (i : ℕ) → i < 64 → picked d (λ (i : ℕ). quad_of (get_or a (5 * j + w) 0 / 2 ^ i % 2) (64 * w + i)) i ≡ lists (64 * w + i)
-    edge-is i h = go (crossed (64 * w + i)) refl
+    edge_is : (i : ℕ) → i < 64 → picked d (λ (i : ℕ). quad_of (get_or a (5 * j + w) 0 / 2 ^ i % 2) (64 * w + i)) i ≡ lists (64 * w + i)
+    edge_is i h = go (crossed (64 * w + i)) refl
       where
         go : (c : Bool) → crossed (64 * w + i) ≡ c → picked d (λ (i : ℕ). quad_of (get_or a (5 * j + w) 0 / 2 ^ i % 2) (64 * w + i)) i ≡ lists (64 * w + i)
         go false e = picked_unset d (λ (i : ℕ). quad_of (get_or a (5 * j + w) 0 / 2 ^ i % 2) (64 * w + i)) i (digit i h ∙ ap bit e) ∙ sym (quads_none loops_of n s cut (along_axis along) (64 * w + i) j k e)
@@ -167,7 +167,7 @@ module _ {D : Decider} {loops_of : Cut → List ℕ → List ℕ} (laws : CubeLa
             ∙ quad_is (64 * w + i) _ e (sign_bit planes.lower j w (omega (arith, row.1)) i (omega arith) h (omega (arith, edge_in along a b n.nx j w i h set)))
 
     word_is : word_by (edge_of along) (back_of along) (order_sign along) n0 n1 n2 n3 d (get_or a (5 * j + w) 0) (64 * w) ≡ below (λ (i : ℕ). lists (64 * w + i)) 64
-    word_is = below_same _ _ 64 edge-is
+    word_is = below_same _ _ 64 edge_is
 
   pub row_is : row_by along a b n.nx j n0 n1 n2 n3 ≡ row_quads loops_of n s cut (along_axis along) k j
   row_is =

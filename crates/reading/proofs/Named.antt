@@ -217,8 +217,8 @@ module _ (bytes : List ℕ) (x : Refusal) where
   -- behind line 1, once rows 1, 9 and 3 pass, the first wrong line
   module _ (axes : axis_row (size_read bytes).nx (size_read bytes).ny (size_read bytes).nz ≡ Passes) (large : large_row (size_read bytes).nx (size_read bytes).ny (size_read bytes).nz ≡ Passes)
       (cut : threshold_row (cut_read bytes) ≡ Passes) where
-    to-lines : LineIs bytes width 1 none → input_verdict bytes ≡ lines_row bytes width height
-    to-lines h =
+    to_lines : LineIs bytes width 1 none → input_verdict bytes ≡ lines_row bytes width height
+    to_lines h =
         lines_decide bytes head (cut_read bytes) (check_of 1 none Passes h refl)
         (order_passes (axis_row head.nx head.ny head.nz) _ axes ∙ order_last _ ∙ large) cut
 
@@ -228,13 +228,13 @@ module _ (bytes : List ℕ) (x : Refusal) where
     pub row_decides : (j : ℕ) (f : Fault) → j < (size_read bytes).ny * (size_read bytes).nz → RightBefore bytes (size_read bytes).nx (j + 2)
         → LineIs bytes (size_read bytes).nx (j + 2) f → fault_row (j + 2) f ≡ Refuses x → input_verdict bytes ≡ Refuses x
     row_decides j f l right h e =
-        to-lines (right 1 (omega arith) (omega arith))
+        to_lines (right 1 (omega arith) (omega arith))
         ∙ row_refuses bytes width height x (record { place = j; there = l; before = rows_before j right; refuses = row_line bytes width j ∙ check_of (j + 2) f (Refuses x) h e })
 
     pub surplus_decides : RightBefore bytes (size_read bytes).nx ((size_read bytes).ny * (size_read bytes).nz + 2)
         → (read_at bytes (row_place (size_read bytes).nx ((size_read bytes).ny * (size_read bytes).nz)) ≡ ended → ⊥) → input_verdict bytes ≡ refuses 8 ((size_read bytes).ny * (size_read bytes).nz + 2)
     surplus_decides right h =
-        to-lines (right 1 (omega arith) (omega arith)) ∙ rows_pass bytes width height (rows_before height right) ∙ rw (ne_eqb (read_at bytes (row_place width height)) ended h)
+        to_lines (right 1 (omega arith) (omega arith)) ∙ rows_pass bytes width height (rows_before height right) ∙ rw (ne_eqb (read_at bytes (row_place width height)) ended h)
 
 -- no refusal: all lines are right, and nothing stands behind the last row
 pub lines_right : (bytes : List ℕ) → input_verdict bytes ≡ Passes

@@ -36,14 +36,14 @@ module _ (bytes : List ℕ) (n : Size) (cut : Cut) where
     axes_refuse r e = order_passes (first_line_row bytes) _ first ∙ orders_refuse (axis_row n.nx n.ny n.nz ∷ large_row n.nx n.ny n.nz ∷ []) _ r e
 
     module _ (a : axes ≡ Passes) where
-      behind-axes : in_order (input_rows bytes n cut) ≡ in_order (threshold_row cut ∷ lines_row bytes n.nx (n.ny * n.nz) ∷ [])
-      behind-axes = order_passes (first_line_row bytes) _ first ∙ orders_pass (axis_row n.nx n.ny n.nz ∷ large_row n.nx n.ny n.nz ∷ []) _ a
+      behind_axes : in_order (input_rows bytes n cut) ≡ in_order (threshold_row cut ∷ lines_row bytes n.nx (n.ny * n.nz) ∷ [])
+      behind_axes = order_passes (first_line_row bytes) _ first ∙ orders_pass (axis_row n.nx n.ny n.nz ∷ large_row n.nx n.ny n.nz ∷ []) _ a
 
       pub threshold_refuses : (r : Refusal) → threshold_row cut ≡ Refuses r → in_order (input_rows bytes n cut) ≡ Refuses r
-      threshold_refuses r e = behind-axes ∙ order_refuses (threshold_row cut) _ r e
+      threshold_refuses r e = behind_axes ∙ order_refuses (threshold_row cut) _ r e
 
       pub lines_decide : threshold_row cut ≡ Passes → in_order (input_rows bytes n cut) ≡ lines_row bytes n.nx (n.ny * n.nz)
-      lines_decide t = behind-axes ∙ order_passes (threshold_row cut) _ t ∙ order_last _
+      lines_decide t = behind_axes ∙ order_passes (threshold_row cut) _ t ∙ order_last _
 
 -- ---- which numbers the program gives, and that its values fit
 
@@ -84,9 +84,9 @@ run_refusals bytes =
     first_has InProgram _ (
       of_fault 1 (fault_at bytes 0 16),
       (
-        λ x e. let h = told x (lowest out_of_limits axesRead) (lowest_refusal 1 out_of_limits axesRead x e).1 in (inl h.0, omega (arith, h.1)),
+        λ x e. let h = told x (lowest out_of_limits axes_read) (lowest_refusal 1 out_of_limits axes_read x e).1 in (inl h.0, omega (arith, h.1)),
         (
-          λ x e. let h = told x (lowest (ltb 8) axesRead) (lowest_refusal 9 (ltb 8) axesRead x e).1 in (inr (inr (omega (arith, h.0), omega (arith, h.0))), omega (arith, h.1)),
+          λ x e. let h = told x (lowest (ltb 8) axes_read) (lowest_refusal 9 (ltb 8) axes_read x e).1 in (inr (inr (omega (arith, h.0), omega (arith, h.0))), omega (arith, h.1)),
           (
             λ x e. let h = told x (cut_read bytes).t (holds_where (no_threshold (cut_read bytes)) 3 (cut_read bytes).t x e) in (inr (inl h.0), omega (arith, h.1)),
             (of_lines bytes (size_read bytes).nx ((size_read bytes).ny * (size_read bytes).nz), tt),
@@ -95,8 +95,8 @@ run_refusals bytes =
       ),
     )
   where
-    axesRead : List ℕ
-    axesRead = (size_read bytes).nx ∷ (size_read bytes).ny ∷ (size_read bytes).nz ∷ []
+    axes_read : List ℕ
+    axes_read = (size_read bytes).nx ∷ (size_read bytes).ny ∷ (size_read bytes).nz ∷ []
 
 pub run_numbers : (bytes : List ℕ) (x : Refusal) → input_verdict bytes ≡ Refuses x → (x.number ≡ 1) ⊎ ((x.number ≡ 3) ⊎ ((8 ≤ x.number) × (x.number ≤ 12)))
 run_numbers bytes x e = (run_refusals bytes x e).0

@@ -31,25 +31,25 @@ some_next f n = go (some_or_none f n) (f n) refl
 pub leading_narrow : (f g : ℕ → Bool) (n : ℕ) → leading g (leading f n) ≡ leading (λ (i : ℕ). f i && g i) n
 leading_narrow f g n = go (lt_or_ge (leading g (leading f n)) (leading f n)) (lt_or_ge (leading f n) n)
   where
-    le-m : leading f n ≤ n
-    le-m = leading_le f n
+    le_m : leading f n ≤ n
+    le_m = leading_le f n
 
-    le-g : leading g (leading f n) ≤ leading f n
-    le-g = leading_le g (leading f n)
+    le_g : leading g (leading f n) ≤ leading f n
+    le_g = leading_le g (leading f n)
 
     both : HoldsTo (λ (i : ℕ). f i && g i) (leading g (leading f n))
-    both i l = rw (leading_holds f n i (omega (arith, le-g)), leading_holds g (leading f n) i l)
+    both i l = rw (leading_holds f n i (omega (arith, le_g)), leading_holds g (leading f n) i l)
 
     go : (leading g (leading f n) < leading f n) ⊎ (leading f n ≤ leading g (leading f n)) → (leading f n < n) ⊎ (n ≤ leading f n)
         → leading g (leading f n) ≡ leading (λ (i : ℕ). f i && g i) n
     go (inl a) r =
-        sym (leading_at (λ (i : ℕ). f i && g i) n (leading g (leading f n)) (omega (arith, le-m)) both
+        sym (leading_at (λ (i : ℕ). f i && g i) n (leading g (leading f n)) (omega (arith, le_m)) both
         (rw (leading_holds f n (leading g (leading f n)) a, leading_stops g (leading f n) a)))
     go (inr b) (inl l) =
-        let e : leading g (leading f n) ≡ leading f n = omega (arith, le-g) in
+        let e : leading g (leading f n) ≡ leading f n = omega (arith, le_g) in
         e ∙ sym (leading_at (λ (i : ℕ). f i && g i) n (leading f n) l (λ i h. both i (omega (arith, e))) (rw (leading_stops f n l)))
     go (inr b) (inr r) =
-        let e : leading g (leading f n) ≡ n = omega (arith, le-g, le-m) in
+        let e : leading g (leading f n) ≡ n = omega (arith, le_g, le_m) in
         e ∙ sym (leading_all (λ (i : ℕ). f i && g i) n (λ i h. both i (omega (arith, e))))
 
 module _ (key : ℕ → ℕ) where

@@ -136,11 +136,11 @@ module _ (key : ℕ → ℕ) (b : ℕ) where
   pass_ends limit v e a = sym (leading_all (fresh_in key b) limit (λ i l. a i (omega arith) (rw e l)))
 
   module _ (v end : ℕ) (h : v ≤ end) (o : (i : ℕ) → v ≤ i → i < end → Outside i) where
-    far-end : v + (end - v) ≡ end
-    far-end = omega arith
+    far_end : v + (end - v) ≡ end
+    far_end = omega arith
 
     pub far_table : (table : List ℕ) → Table key b v table → Table key b end table
-    far_table table t = subst (λ (x : ℕ). Table key b x table) far-end (far_passed table v (end - v) (λ i g l. o i g (rw far-end at l)) t)
+    far_table table t = subst (λ (x : ℕ). Table key b x table) far_end (far_passed table v (end - v) (λ i g l. o i g (rw far_end at l)) t)
 
     pub far_joined : NewFrom 0 v → NewFrom 0 end
     far_joined a = new_joined v end a (λ i g l. fresh_outside i (o i g l))

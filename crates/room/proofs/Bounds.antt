@@ -130,10 +130,10 @@ weaker false q c f = omega arith
 -- "and quads are at most E": the inner edges are some of the block's
 pub quads_bound : (loops_of : Cut → List ℕ → List ℕ) (n : Size) (s : List ℕ) (cut : Cut) → length (quads loops_of n s cut) ≤ crossed_count n s cut
 unfolding crossed_count
-quads_bound loops_of n s cut = omega (arith, quad_count_lem loops_of n s cut, along-le X, along-le Y, along-le Z)
+quads_bound loops_of n s cut = omega (arith, quad_count_lem loops_of n s cut, along_le X, along_le Y, along_le Z)
   where
-    along-le : (a : Axis) → count (crossed_inner n s cut a) (sample_count n) ≤ crossed_along n s cut a
-    along-le a =
+    along_le : (a : Axis) → count (crossed_inner n s cut a) (sample_count n) ≤ crossed_along n s cut a
+    along_le a =
         count_le (crossed_inner n s cut a) (crossed_edge n s cut a) (sample_count n)
         (λ p lp. weaker (inner n a (p % n.nx) (p / n.nx % n.ny) (p / n.nx / n.ny)) (stays n a (p % n.nx) (p / n.nx % n.ny) (p / n.nx / n.ny)) _
         (λ h. stays_test n a _ _ _ (inner_stays n a _ _ _ (inner_facts n a (p % n.nx) (p / n.nx % n.ny) (p / n.nx / n.ny) h))))

@@ -56,10 +56,10 @@ module _ (n : Size) (s : List ℕ) (cut : Cut) (few : n.nx ≤ 256) where
 
   -- two rows of samples by their words: in how many places their signs differ
   module _ (j k y z : ℕ) (u v : ℕ → ℕ) where
-    rows-differ : ((w : ℕ) → w < 4 → Word (u w) (λ i. row_sign n s cut j k (64 * w + i)) 64)
+    rows_differ : ((w : ℕ) → w < 4 → Word (u w) (λ i. row_sign n s cut j k (64 * w + i)) 64)
         → ((w : ℕ) → w < 4 → Word (v w) (λ i. row_sign n s cut y z (64 * w + i)) 64)
         → total (λ (w : ℕ). ones (bit_xor (u w) (v w))) 4 ≡ total (λ (x : ℕ). bit (differ (metal n s cut x j k) (metal n s cut x y z))) n.nx
-    rows-differ hu hv =
+    rows_differ hu hv =
         total_same _ _ 4 (λ w l. word_ones (word_xor (hu w l) (hv w l)))
         ∙ sym (total_mul (λ (x : ℕ). bit_xor (row_sign n s cut j k x) (row_sign n s cut y z x)) 64 4)
         ∙ total_stop (λ (x : ℕ). bit_xor (row_sign n s cut j k x) (row_sign n s cut y z x)) n.nx 256 few (λ x h. ap₂ bit_xor (row_past j k x h) (row_past y z x h))
@@ -67,28 +67,28 @@ module _ (n : Size) (s : List ℕ) (cut : Cut) (few : n.nx ≤ 256) where
 
   module _ (k : ℕ) {b : List ℕ} (p : Plane n s cut k b) where
     -- along x
-    limit-at : (w : ℕ) → w < 4 → get_or (limits_of n.nx) w 0 ≡ limit_of (n.nx - 1) w
-    limit-at zero h = refl
-    limit-at (suc zero) h = refl
-    limit-at (suc (suc zero)) h = refl
-    limit-at (suc (suc (suc zero))) h = refl
-    limit-at (suc (suc (suc (suc w)))) h = absurd (omega arith)
+    limit_at : (w : ℕ) → w < 4 → get_or (limits_of n.nx) w 0 ≡ limit_of (n.nx - 1) w
+    limit_at zero h = refl
+    limit_at (suc zero) h = refl
+    limit_at (suc (suc zero)) h = refl
+    limit_at (suc (suc (suc zero))) h = refl
+    limit_at (suc (suc (suc (suc w)))) h = absurd (omega arith)
 
-    x-row : (j : ℕ) → j < n.ny → total (λ (w : ℕ). ones (word_x b (limits_of n.nx) j w)) 4 ≡ from_row n s cut X k j
-    x-row j hj =
-        total_same _ _ 4 (λ w l. ap (λ (m : ℕ). ones (bit_and (along_x b (5 * j + w)) m)) (limit-at w l) ∙ word_ones (along_x_word p j w hj l))
+    x_row : (j : ℕ) → j < n.ny → total (λ (w : ℕ). ones (word_x b (limits_of n.nx) j w)) 4 ≡ from_row n s cut X k j
+    x_row j hj =
+        total_same _ _ 4 (λ w l. ap (λ (m : ℕ). ones (bit_and (along_x b (5 * j + w)) m)) (limit_at w l) ∙ word_ones (along_x_word p j w hj l))
         ∙ sym (total_mul (λ (x : ℕ). bit (ltb x (n.nx - 1) && crossed_from n s cut X x j k)) 64 4)
         ∙ total_stop (λ (x : ℕ). bit (ltb x (n.nx - 1) && crossed_from n s cut X x j k)) n.nx 256 few (λ x h. rw (le-ltb x (n.nx - 1) (omega arith)))
         ∙ total_same _ _ n.nx (λ x l. ap (λ (t : Bool). bit (t && crossed_from n s cut X x j k)) (below_last x n.nx))
 
     -- along y: none from the last row
-    y-row : (j : ℕ) → j < n.ny → total (λ (w : ℕ). ones (word_y b n.ny j w)) 4 ≡ from_row n s cut Y k j
-    y-row j hj = go (lt_or_ge (j + 1) n.ny)
+    y_row : (j : ℕ) → j < n.ny → total (λ (w : ℕ). ones (word_y b n.ny j w)) 4 ≡ from_row n s cut Y k j
+    y_row j hj = go (lt_or_ge (j + 1) n.ny)
       where
         go : (j + 1 < n.ny) ⊎ (n.ny ≤ j + 1) → total (λ (w : ℕ). ones (word_y b n.ny j w)) 4 ≡ from_row n s cut Y k j
         go (inl l) =
             total_same _ _ 4 (λ w _. ap ones (y_there b n.ny j w l))
-            ∙ rows-differ j k (j + 1) k (λ w. get_or b (5 * j + w) 0) (λ w. get_or b (5 * j + w + 5) 0) (λ w h. word_at p j w hj (omega arith)) (λ w h. next_word p j w l (omega arith))
+            ∙ rows_differ j k (j + 1) k (λ w. get_or b (5 * j + w) 0) (λ w. get_or b (5 * j + w + 5) 0) (λ w h. word_at p j w hj (omega arith)) (λ w h. next_word p j w l (omega arith))
             ∙ total_same _ _ n.nx (λ x m. sym (edge_there n s cut Y x j k l))
         go (inr g) =
             total_same _ _ 4 (λ w _. ap ones (y_last b n.ny j w g) ∙ no_ones)
@@ -99,7 +99,7 @@ module _ (n : Size) (s : List ℕ) (cut : Cut) (few : n.nx ≤ 256) where
   z_row : (k : ℕ) {a b : List ℕ} → Plane n s cut k a → Plane n s cut (k + 1) b → k + 1 < n.nz → (j : ℕ) → j < n.ny
       → total (λ (w : ℕ). ones (word_z a b j w)) 4 ≡ from_row n s cut Z k j
   z_row k {a} {b} p q hk j hj =
-      rows-differ j k j (k + 1) (λ w. get_or a (5 * j + w) 0) (λ w. get_or b (5 * j + w) 0) (λ w h. word_at p j w hj (omega arith)) (λ w h. word_at q j w hj (omega arith))
+      rows_differ j k j (k + 1) (λ w. get_or a (5 * j + w) 0) (λ w. get_or b (5 * j + w) 0) (λ w h. word_at p j w hj (omega arith)) (λ w h. word_at q j w hj (omega arith))
       ∙ total_same _ _ n.nx (λ x m. sym (edge_there n s cut Z x j k hk))
 
   -- a plane under itself has no edge along z
@@ -110,12 +110,12 @@ module _ (n : Size) (s : List ℕ) (cut : Cut) (few : n.nx ≤ 256) where
 
   pub first_plane : (k : ℕ) {a : List ℕ} → Plane n s cut k a → plane_edges a a n.nx n.ny ≡ from_plane n s cut X k + from_plane n s cut Y k
   first_plane k {a} p =
-      total_same _ _ n.ny (λ j l. row_parts a a (limits_of n.nx) n.ny j ∙ omega (arith, x-row k p j l, y-row k p j l, same_row a j))
+      total_same _ _ n.ny (λ j l. row_parts a a (limits_of n.nx) n.ny j ∙ omega (arith, x_row k p j l, y_row k p j l, same_row a j))
       ∙ total_plus (from_row n s cut X k) (from_row n s cut Y k) n.ny
 
   pub next_plane : (k : ℕ) {a b : List ℕ} → Plane n s cut k a → Plane n s cut (k + 1) b → k + 1 < n.nz
       → plane_edges a b n.nx n.ny ≡ from_plane n s cut X (k + 1) + from_plane n s cut Y (k + 1) + from_plane n s cut Z k
   next_plane k {a} {b} p q hk =
-      total_same _ _ n.ny (λ j l. row_parts a b (limits_of n.nx) n.ny j ∙ omega (arith, x-row (k + 1) q j l, y-row (k + 1) q j l, z_row k p q hk j l))
+      total_same _ _ n.ny (λ j l. row_parts a b (limits_of n.nx) n.ny j ∙ omega (arith, x_row (k + 1) q j l, y_row (k + 1) q j l, z_row k p q hk j l))
       ∙ total_plus (λ (j : ℕ). from_row n s cut X (k + 1) j + from_row n s cut Y (k + 1) j) (from_row n s cut Z k) n.ny
       ∙ ap (λ (m : ℕ). m + from_plane n s cut Z k) (total_plus (from_row n s cut X (k + 1)) (from_row n s cut Y (k + 1)) n.ny)

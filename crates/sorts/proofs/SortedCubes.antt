@@ -51,12 +51,12 @@ module _ (i : ℕ) where
     abbrev joins : ℕ → Bool
     joins f = holds (get_or joined f 0) i
 
-    says-joined : (f : ℕ) → Says i (get_or joined f 0) (joins f)
-    says-joined f = record { is = refl }
+    says_joined : (f : ℕ) → Says i (get_or joined f 0) (joins f)
+    says_joined f = record { is = refl }
 
-    says-mostly : Says i (mostly_of e) (mostly (sign i e))
+    says_mostly : Says i (mostly_of e) (mostly (sign i e))
     unfolding mostly_of mostly
-    says-mostly =
+    says_mostly =
         two_four (two_three (says_sign i e 0) (says_sign i e 1) (says_sign i e 2)) (two_three (says_sign i e 3) (says_sign i e 4) (says_sign i e 5))
         (says_and i (says_sign i e 6) (says_sign i e 7))
         (two_three (odd_three (says_sign i e 0) (says_sign i e 1) (says_sign i e 2)) (odd_three (says_sign i e 3) (says_sign i e 4) (says_sign i e 5)) (unlike i e 6 7))
@@ -70,47 +70,47 @@ module _ (i : ℕ) where
     abbrev rarer_words : List ℕ
     rarer_words = rarer_of (alternates_of e) joined (mostly_of e)
 
-    rarer-at : (f : ℕ) → f < 6 → Says i (rarer_at (alternates_of e) joined (mostly_of e) f) (rarer (sign i e) joins f)
-    rarer-at f h = says_xor i (says-joined f) (says_and i (says_face i e f h) says-mostly)
+    rarer_at_lem : (f : ℕ) → f < 6 → Says i (rarer_at (alternates_of e) joined (mostly_of e) f) (rarer (sign i e) joins f)
+    rarer_at_lem f h = says_xor i (says_joined f) (says_and i (says_face i e f h) says_mostly)
 
-    says-rarer : (f : ℕ) → f < 6 → Says i (get_or rarer_words f 0) (rarer (sign i e) joins f)
+    says_rarer : (f : ℕ) → f < 6 → Says i (get_or rarer_words f 0) (rarer (sign i e) joins f)
     unfolding rarer_of
-    says-rarer zero h = rarer-at 0 h
-    says-rarer (suc zero) h = rarer-at 1 h
-    says-rarer (suc (suc zero)) h = rarer-at 2 h
-    says-rarer (suc (suc (suc zero))) h = rarer-at 3 h
-    says-rarer (suc (suc (suc (suc zero)))) h = rarer-at 4 h
-    says-rarer (suc (suc (suc (suc (suc zero))))) h = rarer-at 5 h
-    says-rarer (suc (suc (suc (suc (suc (suc f)))))) h = absurd (omega arith)
+    says_rarer zero h = rarer_at_lem 0 h
+    says_rarer (suc zero) h = rarer_at_lem 1 h
+    says_rarer (suc (suc zero)) h = rarer_at_lem 2 h
+    says_rarer (suc (suc (suc zero))) h = rarer_at_lem 3 h
+    says_rarer (suc (suc (suc (suc zero)))) h = rarer_at_lem 4 h
+    says_rarer (suc (suc (suc (suc (suc zero))))) h = rarer_at_lem 5 h
+    says_rarer (suc (suc (suc (suc (suc (suc f)))))) h = absurd (omega arith)
 
-    says-odd : Says i (odd_of rarer_words) (odd (sign i e) joins)
-    says-odd =
-        says_xor i (says-rarer 0 (omega arith))
-        (says_xor i (says-rarer 1 (omega arith))
-        (says_xor i (says-rarer 2 (omega arith))
-        (says_xor i (says-rarer 3 (omega arith)) (says_xor i (says-rarer 4 (omega arith)) (says-rarer 5 (omega arith))))))
+    says_odd : Says i (odd_of rarer_words) (odd (sign i e) joins)
+    says_odd =
+        says_xor i (says_rarer 0 (omega arith))
+        (says_xor i (says_rarer 1 (omega arith))
+        (says_xor i (says_rarer 2 (omega arith))
+        (says_xor i (says_rarer 3 (omega arith)) (says_xor i (says_rarer 4 (omega arith)) (says_rarer 5 (omega arith))))))
 
     says_some : Says i (some_of rarer_words) (some (sign i e) joins)
     says_some =
-        says_or i (says-rarer 0 (omega arith))
-        (says_or i (says-rarer 1 (omega arith))
-        (says_or i (says-rarer 2 (omega arith))
-        (says_or i (says-rarer 3 (omega arith)) (says_or i (says-rarer 4 (omega arith)) (says-rarer 5 (omega arith))))))
+        says_or i (says_rarer 0 (omega arith))
+        (says_or i (says_rarer 1 (omega arith))
+        (says_or i (says_rarer 2 (omega arith))
+        (says_or i (says_rarer 3 (omega arith)) (says_or i (says_rarer 4 (omega arith)) (says_rarer 5 (omega arith))))))
 
-    says-lone : Says i (lone_of (three_of (alternates_of e)) rarer_words) (lone (sign i e) joins)
-    says-lone = says_and i says_some (says_xor i says-odd says_three)
+    says_lone : Says i (lone_of (three_of (alternates_of e)) rarer_words) (lone (sign i e) joins)
+    says_lone = says_and i says_some (says_xor i says_odd says_three)
 
-    says-one : Says i (one_of e (alternates_of e) joined) (one (sign i e) joins)
+    says_one : Says i (one_of e (alternates_of e) joined) (one (sign i e) joins)
     unfolding one_of one
-    says-one = says_or i (says_plain i e) (says_without i says-lone says_six)
+    says_one = says_or i (says_plain i e) (says_without i says_lone says_six)
 
     says_two : Says i (two_of e (alternates_of e) joined) (two (sign i e) joins)
     unfolding two_of two
-    says_two = says_without i (says_active i e) (says_or i (says_plain i e) (says_or i says-lone (says_or i says_six (says_without i says_three says_some))))
+    says_two = says_without i (says_active i e) (says_or i (says_plain i e) (says_or i says_lone (says_or i says_six (says_without i says_three says_some))))
 
     -- a cube whose bit is set is one with exactly one loop, by its sign pattern and its joined faces
     pub one_bit : holds (one_of e (alternates_of e) joined) i ≡ one (holds (pattern_at e i)) (λ f. holds (get_or joined f 0) i)
-    one_bit = says-one.is ∙ sym (one_same (holds (pattern_at e i)) (sign i e) (pattern_holds i e) joins joins (λ f h. refl))
+    one_bit = says_one.is ∙ sym (one_same (holds (pattern_at e i)) (sign i e) (pattern_holds i e) joins joins (λ f h. refl))
 
     -- one with exactly two
     pub two_bit : holds (two_of e (alternates_of e) joined) i ≡ two (holds (pattern_at e i)) (λ f. holds (get_or joined f 0) i)

@@ -74,7 +74,7 @@ module _ (n : ℕ) where
       trees = settled grown;
     };
     keep = λ x y hx hy e. is x hx ∙ ap (λ (r : ℕ). cond (eqb r c) d r) e ∙ sym (is y hy);
-    done = is v hv ∙ from-v ∙ sym from-w ∙ sym (is w hw);
+    done = is v hv ∙ from_v ∙ sym from_w ∙ sym (is w hw);
     onward = λ x hx. (
       is x hx ∙ sym (ap (λ (r : ℕ). cond (eqb r c) d r) (own x hx)) ∙ sym (is (top st x) (S.trees.inside x hx)),
       (found grown x hx).1 ∙ longer (eqb (top st x) c) (links st x) ∙ ap (λ (k : ℕ). links st x + k) (sym ((found grown (top st x) (S.trees.inside x hx)).1 ∙ rw (own x hx, still x hx))),
@@ -114,11 +114,11 @@ module _ (n : ℕ) where
       longer true k = omega arith
       longer false k = omega arith
 
-      from-v : new v ≡ d
-      from-v = rw (ev, eq-eqb c c refl)
+      from_v : new v ≡ d
+      from_v = rw (ev, eq-eqb c c refl)
 
-      from-w : new w ≡ d
-      from-w = rw (ew, ne_eqb d c (λ (z : d ≡ c). ne (sym z)))
+      from_w : new w ≡ d
+      from_w = rw (ew, ne_eqb d c (λ (z : d ≡ c). ne (sym z)))
 
       merged : (x y : ℕ) (p q : Bool) → eqb (top st x) c ≡ p → eqb (top st y) c ≡ q → cond p d (top st x) ≡ cond q d (top st y) → Merged (top st) v w x y
       merged x y true true ep eq e = same (eqb-true _ _ ep ∙ sym (eqb-true _ _ eq))
@@ -203,24 +203,24 @@ hung_top : {n : ℕ} {up size : List ℕ} {a b : ℕ} → Standing n up size →
     → (top_of (at up') n a ≡ cond (not (eqb a b) && goes_under size a b) b a) × (links_of (at up') n a ≡ bit (not (eqb a b) && goes_under size a b))
 hung_top {n} {up} {size} {a} {b} S t up' size' u = go (eqb a b) (goes_under size a b) refl refl
   where
-    stored-up : (x y : Bool) → eqb a b ≡ x → goes_under size a b ≡ y → up' ≡ (cond x (stored up size 0) (cond y (hung a b (stored up size 0)) (hung b a (stored up size 0)))).up
-    stored-up x y p q = ap (λ (st : State). st.up) (u 0) ∙ ap₂ (λ (c d : Bool). (cond c (stored up size 0) (cond d (hung a b (stored up size 0)) (hung b a (stored up size 0)))).up) p q
+    stored_up : (x y : Bool) → eqb a b ≡ x → goes_under size a b ≡ y → up' ≡ (cond x (stored up size 0) (cond y (hung a b (stored up size 0)) (hung b a (stored up size 0)))).up
+    stored_up x y p q = ap (λ (st : State). st.up) (u 0) ∙ ap₂ (λ (c d : Bool). (cond c (stored up size 0) (cond d (hung a b (stored up size 0)) (hung b a (stored up size 0)))).up) p q
 
     -- a stays a top
     as_it_was : at up' a ≡ a → (top_of (at up') n a ≡ a) × (links_of (at up') n a ≡ 0)
     as_it_was e = at_top (at up') n a e
 
     go : (x y : Bool) → eqb a b ≡ x → goes_under size a b ≡ y → (top_of (at up') n a ≡ cond (not x && y) b a) × (links_of (at up') n a ≡ bit (not x && y))
-    go true y p q = as_it_was (ap (λ (l : List ℕ). at l a) (stored-up true y p q) ∙ t.first_top)
+    go true y p q = as_it_was (ap (λ (l : List ℕ). at l a) (stored_up true y p q) ∙ t.first_top)
     go false false p q =
-        as_it_was (ap (λ (l : List ℕ). at l a) (stored-up false false p q) ∙ (λ i. set_as up b a (rw S.up_length t.second_lt) i a) ∙ rw (p) t.first_top)
+        as_it_was (ap (λ (l : List ℕ). at l a) (stored_up false false p q) ∙ (λ i. set_as up b a (rw S.up_length t.second_lt) i a) ∙ rw (p) t.first_top)
     go false true p q = one_link (at up') n a b t.first_lt (λ e. eqb-false a b p (sym e)) here there
       where
         here : at up' a ≡ b
-        here = ap (λ (l : List ℕ). at l a) (stored-up false true p q) ∙ (λ i. set_as up a b (rw S.up_length t.first_lt) i a) ∙ rw (eq-eqb a a refl)
+        here = ap (λ (l : List ℕ). at l a) (stored_up false true p q) ∙ (λ i. set_as up a b (rw S.up_length t.first_lt) i a) ∙ rw (eq-eqb a a refl)
 
         there : at up' b ≡ b
-        there = ap (λ (l : List ℕ). at l b) (stored-up false true p q) ∙ (λ i. set_as up a b (rw S.up_length t.first_lt) i b) ∙ rw (ne_eqb b a (λ e. eqb-false a b p (sym e))) t.second_top
+        there = ap (λ (l : List ℕ). at l b) (stored_up false true p q) ∙ (λ i. set_as up a b (rw S.up_length t.first_lt) i b) ∙ rw (ne_eqb b a (λ e. eqb-false a b p (sym e))) t.second_top
 
 -- A vertex whose way is known, by k links to a, is joined with w, whose way is known by l links to b: their tops are united, and c says whether a was hung.
 module _ (up size up' size' : List ℕ) (w a k longest b l longest' : ℕ) (c : Bool) (hw : w < length up) (S : Standing (length up) up size)

@@ -25,9 +25,9 @@ mask_next : (f : ℕ → Bool) (p c : ℕ) → p ≡ mask_of f c → f c ≡ tru
 unfolding mask_of
 mask_next f p c e t h = rw (add-one, t, shift_one c 32 h, e, one-mul)
 
-mask-kept : (f : ℕ → Bool) (p c : ℕ) → p ≡ mask_of f c → f c ≡ false → p ≡ mask_of f (c + 1)
+mask_kept : (f : ℕ → Bool) (p c : ℕ) → p ≡ mask_of f c → f c ≡ false → p ≡ mask_of f (c + 1)
 unfolding mask_of
-mask-kept f p c e t = rw (add-one, t, e, zero-mul, add-zero)
+mask_kept f p c e t = rw (add-one, t, e, zero-mul, add-zero)
 
 pub loop-c-init : goal.loop-c-init
 loop-c-init c = (search rules, mask_start _)
@@ -51,7 +51,7 @@ loop-c-preserved c =
         | then-cut-corners w ↦
             w.p-is
             ∙ mask_next f c.loop-c.p c.loop-c.c c.loop-c.invariant.1 (le-leb t sample (omega arith)) (omega arith)
-        | else-cut-corners w ↦ w.p-is ∙ mask-kept f c.loop-c.p c.loop-c.c c.loop-c.invariant.1 (lt-leb t sample (omega arith))
+        | else-cut-corners w ↦ w.p-is ∙ mask_kept f c.loop-c.p c.loop-c.c c.loop-c.invariant.1 (lt-leb t sample (omega arith))
       ],
     )
 

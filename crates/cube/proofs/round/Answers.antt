@@ -11,14 +11,14 @@ use Rattle.cube_rule.specs.Loops.{grow, join}
 use Rattle.cube.proofs.round.Goals as goal
 
 -- the next link
-grow-step : (x k : ℕ) (ls : List ℕ) → k < length ls → grow (join x (get_or ls k 0)) (drop (k + 1) ls) ≡ grow x (drop k ls)
+grow_step : (x k : ℕ) (ls : List ℕ) → k < length ls → grow (join x (get_or ls k 0)) (drop (k + 1) ls) ≡ grow x (drop k ls)
 unfolding grow
-grow-step x k ls h = ap (λ (n : ℕ). grow (join x (get_or ls k 0)) (drop n ls)) (add-one k) ∙ sym (ap (λ (l : List ℕ). grow x l) (drop-cons ls k 0 h))
+grow_step x k ls h = ap (λ (n : ℕ). grow (join x (get_or ls k 0)) (drop n ls)) (add-one k) ∙ sym (ap (λ (l : List ℕ). grow x l) (drop-cons ls k 0 h))
 
 -- no link is left
-grow-all : (x k : ℕ) (ls : List ℕ) → length ls ≤ k → grow x (drop k ls) ≡ x
+grow_all : (x k : ℕ) (ls : List ℕ) → length ls ≤ k → grow x (drop k ls) ≡ x
 unfolding grow
-grow-all x k ls h = ap (λ (l : List ℕ). grow x l) (drop_of_length-le ls h)
+grow_all x k ls h = ap (λ (l : List ℕ). grow x l) (drop_of_length-le ls h)
 
 pub loop-k-preserved : goal.loop-k-preserved
 loop-k-preserved c =
@@ -28,7 +28,7 @@ loop-k-preserved c =
     let h : k < length ls = omega arith in (
       omega arith,
       ap (λ (x : ℕ). grow x (drop (k + 1) ls)) c.join_link-x.ensures
-          ∙ grow-step c.loop-k.x k ls h
+          ∙ grow_step c.loop-k.x k ls h
           ∙ c.loop-k.invariant.1,
     )
 
@@ -36,4 +36,4 @@ pub returns : goal.returns
 returns c =
     let ls = c.args.links in
     let n : length ls ≡ 12 = c.well_formed.0.1.0.1 in
-    sym (grow-all c.loop-k.x c.loop-k.k ls (omega arith)) ∙ c.loop-k.invariant.1
+    sym (grow_all c.loop-k.x c.loop-k.k ls (omega arith)) ∙ c.loop-k.invariant.1

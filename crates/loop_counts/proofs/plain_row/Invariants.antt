@@ -10,11 +10,11 @@ use Rattle.loop_counts.specs.PlainRow.{plain_word, active_to}
 use Rattle.loop_counts.proofs.plain_row.Given as goal
 
 -- the active cubes of word w are plain
-abbrev pub plainAt : List ℕ → List ℕ → ℕ → ℕ → ℕ → Bool
-plainAt a b nx j w = plain_word (eight_of a b (5 * j + w)) (active_in a b nx j w)
+abbrev pub plain_at : List ℕ → List ℕ → ℕ → ℕ → ℕ → Bool
+plain_at a b nx j w = plain_word (eight_of a b (5 * j + w)) (active_in a b nx j w)
 
 abbrev pub invariant-loop-w : goal.invariant-loop-w
-invariant-loop-w l = (l.w ≤ words_in_row l.row.nx) × (true ≡ every (plainAt l.a l.b l.row.nx l.row.j) l.w) × (l.m ≡ active_to l.a l.b l.row.nx l.row.j l.w) × (l.m ≤ 64 * l.w)
+invariant-loop-w l = (l.w ≤ words_in_row l.row.nx) × (true ≡ every (plain_at l.a l.b l.row.nx l.row.j) l.w) × (l.m ≡ active_to l.a l.b l.row.nx l.row.j l.w) × (l.m ≤ 64 * l.w)
 
 abbrev pub decreases-loop-w : goal.decreases-loop-w
 decreases-loop-w l = 4 - l.w
