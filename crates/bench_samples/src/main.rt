@@ -198,7 +198,7 @@ fn table(rt: &impl Print) -> io::Result<()> {
     ask_cube(rt, [300, 50, 50, 300, 50, 300, 300, 50], 100)
 }
 
-// The decider at A.C = B.D − 1, B.D and B.D + 1, with the positive pair on either diagonal, and at the extremes.
+// The decider at A·C = B·D − 1, B·D and B·D + 1, with the positive pair on either diagonal, and at the extremes.
 fn ties(rt: &impl Print) -> io::Result<()> {
     ask_cube(rt, [109, 90, 90, 111, 0, 0, 0, 0], 100)?;
     ask_cube(rt, [110, 90, 90, 110, 0, 0, 0, 0], 100)?;

@@ -5,7 +5,7 @@ ghost use Rattle.std.specs.Prelude.{◌≡◌, not, [], ◌∷◌, ◌+◌, ◌*
 ghost use Rattle.std.specs.Float.Ieee.{is_nan};
 ghost use Rattle.laws.specs.Below.{below};
 ghost use Rattle.reading.specs.Text.{hex_of, LF};
-ghost use Rattle.reading.specs.Steps.{glyph as glyphOf};
+ghost use Rattle.reading.specs.Steps.{glyph as glyph_of};
 ghost use Rattle.reading.specs.Input.{samples_read};
 ghost use Rattle.closed.specs.Closed.{finding_of};
 ghost use Rattle.block.specs.Grey.{SixteenBit};
@@ -23,7 +23,7 @@ pub const ROOM: usize = 112917;
 
 fn glyph(d: u8) -> u8
     requires { d < 16 }
-    ensures { result ≡ glyphOf d }
+    ensures { result ≡ glyph_of d }
 {
     if d < 10 {
         return 48 + d;

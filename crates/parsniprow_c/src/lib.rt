@@ -1,5 +1,7 @@
 // The functions of the library for C, over numbers and slices: each writes its answer to lent places. parsniprow_export exports them, under
 // the same names and with the same contracts; include/parsniprow.h declares and explains them as C calls them.
+#![tactic(auto)]
+
 ghost use Rattle.std.specs.Prelude.{◌≡◌, [], ◌∷◌};
 ghost use Rattle.by_planes.specs.Answer.{said_start, said_taken};
 ghost use Rattle.parsniprow_c.specs.Told.{tell_over, CeilingsTold, ReadingTold, EdgeTold, CubeTold, CrossedTold, CountsTold, RowTold, MeshTold, ReadingsCountsTold, ReadingsMeshTold, StartTold, PlaneTold, EndTold, state_after, growth_after, ClosedTold, ClosedWithTold, JudgeTold, PiecesTold, PlyTold};

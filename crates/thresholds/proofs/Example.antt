@@ -28,7 +28,7 @@ pub the_answers : answers_of 3 3 3 samples seven 0 ≡ 0 ∷ 8 ∷ 6 ∷ 3 ∷ 0
 unfolding below filled decided in_order lowest_row lowest vertices vertices_before vertices_of quads quads_before quad_at vertex_number corners_of loops_by joined pattern_of crossed_mask loops_from loop_from grow mask_of count_trailing_zeros
 the_answers = refl
 
--- one noise figure for all thresholds: the cube of a tie at t = 100 has two vertices with 1, and at t = 50, where A-as-C is 20,000 more than B-as-D, it still has one
+-- one noise figure for all thresholds: the cube of a tie at t = 100 has two vertices with 1, and at t = 50, where A·C is 20,000 more than B·D, it still has one
 abbrev tied : List ℕ
 tied = 200 ∷ 0 ∷ 0 ∷ 200 ∷ 0 ∷ 0 ∷ 0 ∷ 0 ∷ []
 

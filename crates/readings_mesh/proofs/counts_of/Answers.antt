@@ -1,4 +1,4 @@
--- `counts_of_lem` meets its contract: a refusal of rows 2, 3 and 19 to 21, or the counts of the block so obtained.
+-- `counts_of` meets its contract: a refusal of rows 2, 3 and 19 to 21, or the counts of the block so obtained.
 -- Assumes nothing.
 use mathlib.Core.Path.{◌≡◌, sym, ◌∙◌}
 use Rattle.block.specs.declared.Checked.TheVariants.{Passes}
