@@ -1,5 +1,5 @@
 -- Windows of readings: what is filled and lent is the readings' grey values, and what holds of those holds of it. Assumes nothing.
-use Prim.Native.Nat.{ℕ, ◌+◌, ◌*◌, ◌-◌, ◌≤◌, ◌<◌}
+use Prim.Native.Nat.{ℕ, ◌*◌, ◌-◌, ◌≤◌, ◌<◌}
 use mathlib.Core.Path.{◌≡◌, sym, ap, ◌∙◌, subst}
 use mathlib.Core.List.{List}
 use native.Mathlib.Nat.{sub-zero}
@@ -10,16 +10,11 @@ use lib.Ieee.{Float, nan, binary32, le, of_int}
 use lib.ListN.{length, get_or, take, drop}
 use lib.Seq.{take_at}
 use Rattle.laws.specs.Below.{over}
-use Rattle.laws.specs.Bits.{bit}
 use Rattle.block.specs.declared.Cut.{Cut}
 use Rattle.cube_rule.specs.Decider.{joined, loops_of}
 use Rattle.cube_rule.proofs.Laws.{cube_laws}
 use Rattle.readings.specs.Reading.{greys_of, Sound}
-use Rattle.readings.proofs.Readings.{reading_sign, greys_length, greys_at, greys_part}
-use Rattle.signs.specs.Steps.{SignBytes, plane_from, five_words}
-use Rattle.signs.proofs.RowSigns.{row_short, row_stored}
-use Rattle.laws.proofs.Over.{each}
-use lib.Seq.{sets}
+use Rattle.readings.proofs.Readings.{reading_sign, greys_length, greys_at}
 use Rattle.rows.specs.Rows.{row_masks, RowReady}
 use Rattle.rows.proofs.WordSteps.{row_count_le}
 use Rattle.loop_counts.specs.declared.RowLoops.TheVariants.{Plain}
@@ -28,8 +23,10 @@ use Rattle.loop_counts.proofs.PlainRows.{plain_says}
 use Rattle.reading_rows.specs.Windows.{Window}
 
 -- the sign of a reading is that of its grey value
-pub sign_is : (xs : List Float) → Sound xs → (i t b : ℕ) → i < length xs → t ≤ 65535 → b ≡ bit (le (of_int binary32 (pos t)) (get_or xs i nan)) → b ≡ bit (leb t (get_or (greys_of xs) i 0))
-sign_is xs sound i t b h l e = e ∙ ap bit (sym (reading_sign (get_or xs i nan) t l (sound i h)) ∙ ap (leb t) (sym (greys_at xs i h)))
+pub sign_is : (xs : List Float) → Sound xs → (i t : ℕ) → i < length (greys_of xs) → t ≤ 65535 → leb t (get_or (greys_of xs) i 0) ≡ le (of_int binary32 (pos t)) (get_or xs i nan)
+sign_is xs sound i t h l =
+    let inside : i < length xs = omega (arith, greys_length xs) in
+    ap (leb t) (greys_at xs i inside) ∙ reading_sign (get_or xs i nan) t l (sound i inside)
 
 -- a window that was filled
 pub window_filled : (xs : List Float) (b w : List ℕ) → w ≡ over (greys_of xs) b → length w ≡ 512 → Window xs w
@@ -43,32 +40,9 @@ window_filled xs b w e l = record {
 pub window_lent : {xs : List Float} {w : List ℕ} (n : ℕ) → Window xs w → n ≡ length xs → take (n - 0) (drop 0 w) ≡ greys_of xs
 window_lent {xs} {w} n f e = ap (λ (m : ℕ). take m w) (sub-zero n ∙ e) ∙ f.front
 
--- the signs of a row's readings as those of its grey values
-pub bytes_as : (xs : List Float) (t : ℕ) (bytes : List ℕ) → SignBytes (greys_of xs) t (length xs) bytes → SignBytes (greys_of xs) t (length (greys_of xs)) bytes
-bytes_as xs t bytes h = subst (λ (n : ℕ). SignBytes (greys_of xs) t n bytes) (sym (greys_length xs)) h
-
 -- what is so of both windows as they are lent
 pub windows_as : (P : List ℕ → List ℕ → Type 0) {lo lo' hi hi' : List ℕ} → lo ≡ lo' → hi ≡ hi' → P lo' hi' → P lo hi
 windows_as P {lo} {lo'} {hi} {hi'} e f h = subst (λ (l : List ℕ). P l hi) (sym e) (subst (λ (l : List ℕ). P lo' l) (sym f) h)
-
--- the row j of plane k, as it is lent
-module _ (xs : List Float) (cut : Cut) (nx ny j k : ℕ) (inside : nx * (j + ny * k) + nx ≤ length xs) where
-  abbrev p : ℕ
-  p = nx * (j + ny * k)
-
-  abbrev row : List Float
-  row = take (p + nx - p) (drop p xs)
-
-  inside_greys : nx * (j + ny * k) + nx ≤ length (greys_of xs)
-  inside_greys = omega (arith, inside, greys_length xs)
-
-  pub reading_short : nx ≤ 256 → length row ≤ 256
-  reading_short h = omega (arith, greys_length row, ap length (greys_part xs p (p + nx - p)), row_short (greys_of xs) cut nx ny j k inside_greys h)
-
-  pub reading_stored : (plane₀ plane plane' : List ℕ) → plane ≡ over (each (plane_from (greys_of xs) cut.t nx ny k) (5 * j)) plane₀ → plane' ≡ sets plane (5 * j) (five_words (greys_of row) cut)
-      → 5 * j + 5 ≤ length plane₀ → plane' ≡ over (each (plane_from (greys_of xs) cut.t nx ny k) (5 * (j + 1))) plane₀
-  reading_stored plane₀ plane plane' e f h =
-      row_stored (greys_of xs) cut nx ny j k inside_greys plane₀ plane plane' e (f ∙ ap (λ (r : List ℕ). sets plane (5 * j) (five_words r cut)) (greys_part xs p (p + nx - p))) h
 
 -- the readings of a window
 module _ (low high : List Float) {cut : Cut} {a b : List ℕ} {nx j : ℕ} (ready : RowReady (greys_of low) (greys_of high) cut a b nx j) where

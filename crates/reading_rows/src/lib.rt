@@ -22,38 +22,22 @@ use block::{Cut, Size};
 use layers::Marks;
 use loop_counts::RowLoops;
 use rows::Row;
+use signs::Samples;
 
-// 1 for a reading that is at least the threshold, else 0.
-fn sign(x: f32, t: f32) -> u8
-    ensures value { result ≡ bit (le t x) }
-    ensures upper_bound { result ≤ 1 }
-{
-    if t <= x { 1 } else { 0 }
+// Readings of which none is at fault, as a block of samples.
+#[derive(Clone, Copy)]
+struct Readings<'a> {
+    all: &'a [f32],
+    ghost sound: { Sound all.now },
 }
 
-// The signs of a row's readings, a byte each, 0 past its end: a loop that is compiled to comparisons of several readings at once.
-fn sign_bytes(row: &[f32], t: u16) -> [u8; 256]
-    requires { (length row.now ≤ 256) × Sound row.now }
-    ensures { SignBytes (greys_of row.now) t (length row.now) result }
-{
-    let n = row.len();
-    let least = t as f32;
-    let mut m = [0u8; 256];
-    let mut i: usize = 0;
-    while i < n {
-        m[i] = sign(row[i], least);
-        i += 1;
+impl<'a> Samples for Readings<'a> {
+    ghost greys = { λ r. greys_of r.all.now };
+
+    // The readings are compared as they are. (No grey value is made: so a loop over this is compiled to comparisons of several readings at once.)
+    fn sign(self, i: usize, t: u16) -> u8 {
+        if t as f32 <= self.all[i] { 1 } else { 0 }
     }
-    m
-}
-
-// The five words of a row of readings, as row j of a plane.
-fn row_signs(row: &[f32], cut: Cut, plane: &mut [u64], j: usize)
-    requires { (length row.now ≤ 256) × Sound row.now × (5 * j + 5 ≤ length plane.old) }
-    ensures { plane.new ≡ sets plane.old (5 * j) (five_words (greys_of row.now) cut) }
-{
-    let bytes = sign_bytes(row, cut.t);
-    signs::put_signs(&bytes, plane, j);
 }
 
 // The words of plane k of a block of readings, five to a row, at the front of a buffer for the largest plane.
@@ -61,14 +45,7 @@ pub fn plane_signs(size: Size, readings: &[f32], cut: Cut, k: usize, plane: &mut
     requires { Limits size × (length readings.now ≡ sample_count size) × (k < size.nz) × (length plane.old ≡ 1280) × Sound readings.now }
     ensures { plane.new ≡ over (plane_words size (greys_of readings.now) cut k) plane.old }
 {
-    let nx = size.nx();
-    let ny = size.ny();
-    let mut j: usize = 0;
-    while j < ny {
-        let p = nx * (j + ny * k);
-        row_signs(&readings[p..p + nx], cut, plane, j);
-        j += 1;
-    }
+    signs::plane_signs(size, Readings { all: readings }, cut, k, plane);
 }
 
 // The grey values of a window's readings.

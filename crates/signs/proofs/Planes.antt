@@ -2,8 +2,7 @@
 -- Assumes nothing.
 use mathlib.Core.Path.{◌≡◌, ap, ◌∙◌}
 use mathlib.Core.List.{List}
-use Prim.Native.Nat.{ℕ, ◌+◌, ◌*◌, ◌/◌, ◌%◌, ◌^◌, ◌≤◌, ◌<◌}
-use native.Mathlib.Nat.{mul-le-mul}
+use Prim.Native.Nat.{ℕ, ◌+◌, ◌*◌, ◌/◌, ◌%◌, ◌^◌, ◌<◌}
 use native.Mathlib.Omega.{arith}
 use lib.ListN.{length, get_or}
 use Rattle.laws.specs.Below.{over}
@@ -12,24 +11,13 @@ use Rattle.laws.proofs.Over.{each, each_length, over_length, over_at}
 use Rattle.laws.proofs.Words.{Word, word_bit}
 use Rattle.block.specs.declared.Cut.{Cut}
 use Rattle.block.specs.declared.Size.{Size}
-use Rattle.block.specs.Numbering.{sample_count}
 use Rattle.block.specs.Size.{Limits}
 use Rattle.mesh_rule.specs.Grid.{metal}
 use Rattle.signs.specs.Signs.{row_sign, row_word, plane_words, Plane}
 use Rattle.signs.specs.Steps.{row_from, plane_from}
-use Rattle.signs.proofs.Rows.{row_bit, row_in, row_room}
+use Rattle.signs.proofs.Rows.{row_bit, row_in}
 
 -- ---- making them
-
--- the rows before plane k are few, and a row of the plane is inside the samples
-pub rows_small : (n : Size) (ny k : ℕ) → ny ≡ n.ny → Limits n → k < n.nz → ny * k ≤ 65536
-rows_small n ny k ey l hk = product ny k (omega (arith, l.y_high)) (omega (arith, l.z_high))
-  where
-    product : (a b : ℕ) → a ≤ 256 → b ≤ 256 → a * b ≤ 65536
-    product a b p q = mul-le-mul p q
-
-pub rows_room : (n : Size) (nx ny k : ℕ) → nx ≡ n.nx → ny ≡ n.ny → k < n.nz → (j : ℕ) → j < ny → nx * (j + ny * k) + nx ≤ sample_count n
-rows_room n nx ny k ex ey hk j hj = rw (ex, ey) (row_room n.nx n.ny n.nz j k (omega arith) hk)
 
 pub plane_made : (n : Size) (s : List ℕ) (cut : Cut) (k nx ny q : ℕ) → nx ≡ n.nx → ny ≡ n.ny → q ≡ 5 * ny
     → each (plane_from s cut.t nx ny k) q ≡ plane_words n s cut k

@@ -1,18 +1,16 @@
 -- The words of a plane row by row: five words of a row of samples, stored behind those of the rows before.
 -- Assumes nothing.
-use mathlib.Core.Path.{◌≡◌, sym, ap, ap₂, ◌∙◌}
+use mathlib.Core.Path.{◌≡◌, ap, ap₂, ◌∙◌}
 use mathlib.Core.List.{List, [], ◌∷◌}
-use Prim.Native.Nat.{ℕ, suc, ◌+◌, ◌-◌, ◌*◌, ◌/◌, ◌%◌, ◌≤◌, ◌<◌}
+use Prim.Native.Nat.{ℕ, suc, ◌+◌, ◌*◌, ◌/◌, ◌%◌, ◌≤◌, ◌<◌}
 use native.Mathlib.Nat.{add-zero}
 use native.Mathlib.Omega.{arith}
-use lib.ListN.{length, get_or, set, take, drop}
+use lib.ListN.{length, set}
 use lib.Seq.{sets}
 use Rattle.laws.specs.Below.{over}
 use Rattle.laws.proofs.Over.{each, over_put}
 use Rattle.block.specs.declared.Cut.{Cut}
-use Rattle.signs.specs.Steps.{row_from, plane_from, five_words}
-use Rattle.signs.specs.Windows.{Part}
-use Rattle.signs.proofs.Windows.{part_of, same_row}
+use Rattle.signs.specs.Steps.{row_from, plane_from, words_from}
 
 -- five places more of a buffer whose front is written
 five_more : (f : ℕ → ℕ) (b l : List ℕ) (q v0 v1 v2 v3 v4 : ℕ) → l ≡ over (each f q) b → v0 ≡ f q → v1 ≡ f (q + 1) → v2 ≡ f (q + 2) → v3 ≡ f (q + 3) → v4 ≡ f (q + 4) → q + 5 ≤ length b
@@ -39,36 +37,18 @@ five_more f b l q v0 v1 v2 v3 v4 e e0 e1 e2 e3 e4 h =
     all : (q : ℕ) → q + 4 + 1 ≡ q + 5
     all q = omega arith
 
--- the row j of plane k, as it is lent
-module _ (s : List ℕ) (cut : Cut) (nx ny j k : ℕ) (inside : nx * (j + ny * k) + nx ≤ length s) where
-  abbrev p : ℕ
-  p = nx * (j + ny * k)
-
-  abbrev row : List ℕ
-  row = take (p + nx - p) (drop p s)
-
-  part : Part s p nx row
-  part = part_of s p (p + nx) nx (omega arith) inside
-
-  pub row_short : nx ≤ 256 → length row ≤ 256
-  row_short h = omega (arith, part.long)
-
-  word_is : (w : ℕ) → w < 5 → row_from row cut.t 0 (length row) w ≡ plane_from s cut.t nx ny k (5 * j + w)
-  word_is w h =
-      ap (λ (m : ℕ). row_from row cut.t 0 m w) part.long
-      ∙ sym (same_row s row cut p 0 nx w (λ x l. part.at (x + 0) (omega arith) ∙ ap (λ (q : ℕ). get_or s q 0) (place p x)))
-      ∙ ap₂ (λ (y v : ℕ). row_from s cut.t (nx * (y + ny * k)) nx v) quotient rest
+-- the row j of plane k, behind those before
+module _ (s : List ℕ) (cut : Cut) (nx ny j k : ℕ) where
+  word_is : (w : ℕ) → w < 5 → row_from s cut.t (nx * (j + ny * k)) nx w ≡ plane_from s cut.t nx ny k (5 * j + w)
+  word_is w h = ap₂ (λ (y v : ℕ). row_from s cut.t (nx * (y + ny * k)) nx v) quotient rest
     where
-      place : (a x : ℕ) → a + (x + 0) ≡ x + a
-      place a x = omega arith
-
       quotient : j ≡ (5 * j + w) / 5
       quotient = omega arith
 
       rest : w ≡ (5 * j + w) % 5
       rest = omega arith
 
-  pub row_stored : (plane₀ plane plane' : List ℕ) → plane ≡ over (each (plane_from s cut.t nx ny k) (5 * j)) plane₀ → plane' ≡ sets plane (5 * j) (five_words row cut) → 5 * j + 5 ≤ length plane₀
+  pub row_stored : (plane₀ plane plane' : List ℕ) → plane ≡ over (each (plane_from s cut.t nx ny k) (5 * j)) plane₀ → plane' ≡ sets plane (5 * j) (words_from s cut.t (nx * (j + ny * k)) nx) → 5 * j + 5 ≤ length plane₀
       → plane' ≡ over (each (plane_from s cut.t nx ny k) (5 * (j + 1))) plane₀
   row_stored plane₀ plane plane' e e' h =
       e'

@@ -34,9 +34,6 @@ abbrev pub spread_at : List ℕ → ℕ → ℕ → ℕ → ℕ
 spread_at bytes w k m = cond (ltb (m % 8) k) (get_or bytes (64 * w + (8 * (m % 8) + m / 8)) 0) 0
 
 -- eight bytes, as they are lent
-pub part_long : (bytes : List ℕ) (p : ℕ) → p + 8 ≤ length bytes → length (take (p + 8 - p) (drop p bytes)) ≡ 8
-part_long bytes p h = (part_of bytes p (p + 8) 8 (omega arith) h).long
-
 pub part_word : (bytes : List ℕ) (p : ℕ) → p + 8 ≤ length bytes → eight_bytes (take (p + 8 - p) (drop p bytes)) 0 ≡ eight_bytes bytes p
 part_word bytes p h = omega (arith, at 0 (omega arith), ap (λ (i : ℕ). get_or bytes i 0) (add-zero p), at 1 (omega arith), at 2 (omega arith), at 3 (omega arith), at 4 (omega arith), at 5 (omega arith), at 6 (omega arith), at 7 (omega arith))
   where

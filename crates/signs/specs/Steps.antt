@@ -5,13 +5,13 @@ use Rattle.laws.specs.Bits.{bit}
 use Rattle.laws.specs.Pack.{pack}
 use Rattle.block.specs.declared.Cut.{Cut}
 
--- the sign of sample x of a row, if it is one of the first n, else 0
-abbrev pub sign_byte : List ℕ → ℕ → ℕ → ℕ → ℕ
-sign_byte row t n x = bit (ltb x n && leb t (get_or row x 0))
+-- the sign of sample x of a row of nx samples whose first has the index base, and 0 past the row
+abbrev pub sign_byte : List ℕ → ℕ → ℕ → ℕ → ℕ → ℕ
+sign_byte s t base nx x = bit (ltb x nx && leb t (get_or s (x + base) 0))
 
--- the signs of the first n samples of a row, a byte each, and 0 past them
-abbrev pub SignBytes : List ℕ → ℕ → ℕ → List ℕ → Type 0
-SignBytes row t n bytes = (x : ℕ) → get_or bytes x 0 ≡ sign_byte row t n x
+-- the signs of a row, a byte each, and 0 past it
+abbrev pub SignBytes : List ℕ → ℕ → ℕ → ℕ → List ℕ → Type 0
+SignBytes s t base nx bytes = (x : ℕ) → get_or bytes x 0 ≡ sign_byte s t base nx x
 
 -- bytes of 0 or 1
 abbrev pub BitBytes : List ℕ → Type 0
@@ -30,12 +30,15 @@ words_of bytes =
 
 -- word w of a row of nx samples whose first has the index base
 unfoldable pub row_from : List ℕ → ℕ → ℕ → ℕ → ℕ → ℕ
-row_from s t base nx w = pack (λ (i : ℕ). bit (ltb (64 * w + i) nx && leb t (get_or s (64 * w + i + base) 0))) 64
+row_from s t base nx w = pack (λ (i : ℕ). sign_byte s t base nx (64 * w + i)) 64
+
+-- the five words of such a row
+abbrev pub words_from : List ℕ → ℕ → ℕ → ℕ → List ℕ
+words_from s t base nx = row_from s t base nx 0 ∷ row_from s t base nx 1 ∷ row_from s t base nx 2 ∷ row_from s t base nx 3 ∷ row_from s t base nx 4 ∷ []
 
 -- the five words of a row of samples
 abbrev pub five_words : List ℕ → Cut → List ℕ
-five_words row cut =
-    row_from row cut.t 0 (length row) 0 ∷ row_from row cut.t 0 (length row) 1 ∷ row_from row cut.t 0 (length row) 2 ∷ row_from row cut.t 0 (length row) 3 ∷ row_from row cut.t 0 (length row) 4 ∷ []
+five_words row cut = words_from row cut.t 0 (length row)
 
 -- word q of plane k, five to a row
 abbrev pub plane_from : List ℕ → ℕ → ℕ → ℕ → ℕ → ℕ → ℕ

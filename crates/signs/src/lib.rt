@@ -1,7 +1,7 @@
 // The signs of a plane of samples as words of 64 bits, five words to a row.
 #![tactic(auto)]
 
-ghost use Rattle.std.specs.Prelude.{◌≡◌, [], ◌∷◌, ℕ, ◌+◌, ◌*◌, ◌/◌, ◌%◌, ◌^◌, ◌<◌, ◌≤◌, leb, length, get_or};
+ghost use Rattle.std.specs.Prelude.{◌≡◌, List, [], ◌∷◌, ℕ, ◌+◌, ◌*◌, ◌/◌, ◌%◌, ◌^◌, ◌<◌, ◌≤◌, leb, length, get_or};
 ghost use Rattle.std.proofs.lemmas.List.Edits.{sets};
 ghost use Rattle.laws.specs.Below.{over};
 ghost use Rattle.laws.specs.Bits.{bit};
@@ -9,31 +9,56 @@ ghost use Rattle.laws.specs.Pack.{pack};
 ghost use Rattle.block.specs.Numbering.{sample_count};
 ghost use Rattle.block.specs.Size.{Limits};
 ghost use Rattle.signs.specs.Signs.{plane_words};
-ghost use Rattle.signs.specs.Steps.{SignBytes, BitBytes, eight_bytes, words_of, five_words};
+ghost use Rattle.signs.specs.Steps.{SignBytes, BitBytes, eight_bytes, words_of, words_from, five_words};
 
 use block::{Cut, Size};
 
-// The words of plane k, five to a row, at the front of a buffer for the largest plane.
-pub fn plane_signs(size: Size, samples: &[u16], cut: Cut, k: usize, plane: &mut [u64])
-    requires { Limits size × (length samples.now ≡ sample_count size) × (k < size.nz) × (length plane.old ≡ 1280) }
-    ensures { plane.new ≡ over (plane_words size samples.now cut k) plane.old }
-{
-    let nx = size.nx();
-    let ny = size.ny();
-    let mut j: usize = 0;
-    while j < ny {
-        let p = nx * (j + ny * k);
-        row_signs(&samples[p..p + nx], cut, plane, j);
-        j += 1;
+// A block of samples, by whose grey values its signs are told.
+pub trait Samples: Copy {
+    ghost greys: { Self → List ℕ };
+
+    // 1 for a positive sample, else 0.
+    fn sign(self, i: usize, t: u16) -> u8
+        requires { i < length (greys self) }
+        ensures value { result ≡ bit (leb t (get_or (greys self) i 0)) }
+        ensures upper_bound { result ≤ 1 };
+}
+
+impl<'a> Samples for &'a [u16] {
+    ghost greys = { λ s. s.now };
+
+    fn sign(self, i: usize, t: u16) -> u8 {
+        if t <= self[i] { 1 } else { 0 }
     }
 }
 
-// The five words of a row of samples, as row j of a plane. The fifth is 0, since no sample stands past the fourth.
+// The words of plane k, five to a row, at the front of a buffer for the largest plane.
+pub fn plane_signs<B: Samples>(size: Size, samples: B, cut: Cut, k: usize, plane: &mut [u64])
+    requires { Limits size × (length (B.greys samples) ≡ sample_count size) × (k < size.nz) × (length plane.old ≡ 1280) }
+    ensures { plane.new ≡ over (plane_words size (B.greys samples) cut k) plane.old }
+{
+    let nx = size.nx();
+    let ny = size.ny();
+    for j in 0..ny {
+        row_of(samples, nx * (j + ny * k), nx, cut, plane, j);
+    }
+}
+
+// The five words of a row of samples, as row j of a plane.
 pub fn row_signs(row: &[u16], cut: Cut, plane: &mut [u64], j: usize)
     requires { (length row.now ≤ 256) × (5 * j + 5 ≤ length plane.old) }
     ensures { plane.new ≡ sets plane.old (5 * j) (five_words row.now cut) }
 {
-    let bytes = row_bytes(row, cut.t);
+    row_of(row, 0, row.len(), cut, plane, j);
+}
+
+// The five words of the row of nx samples from the index p on, as row j of a plane. The fifth is 0, since no sample stands past the fourth.
+#[tactic(auto, using(crate::proofs::Rows::words_from_lem))]
+fn row_of<B: Samples>(samples: B, p: usize, nx: usize, cut: Cut, plane: &mut [u64], j: usize)
+    requires { (nx ≤ 256) × (p ≤ 16777216) × (p + nx ≤ length (B.greys samples)) × (5 * j + 5 ≤ length plane.old) }
+    ensures { plane.new ≡ sets plane.old (5 * j) (words_from (B.greys samples) cut.t p nx) }
+{
+    let bytes = row_bytes(samples, p, nx, cut.t);
     put_signs(&bytes, plane, j);
 }
 
@@ -42,60 +67,24 @@ pub fn put_signs(bytes: &[u8], plane: &mut [u64], j: usize)
     requires { (length bytes.now ≡ 256) × BitBytes bytes.now × (5 * j + 5 ≤ length plane.old) }
     ensures { plane.new ≡ sets plane.old (5 * j) (words_of bytes.now) }
 {
-    let a = gathered(bytes, 0);
-    let b = gathered(bytes, 1);
-    let c = gathered(bytes, 2);
-    let d = gathered(bytes, 3);
-    put_five(plane, 5 * j, a, b, c, d, 0);
+    let q = 5 * j;
+    plane[q] = gathered(bytes, 0);
+    plane[q + 1] = gathered(bytes, 1);
+    plane[q + 2] = gathered(bytes, 2);
+    plane[q + 3] = gathered(bytes, 3);
+    plane[q + 4] = 0;
 }
 
-// Stores five words.
-fn put_five(plane: &mut [u64], q: usize, a: u64, b: u64, c: u64, d: u64, e: u64)
-    requires { q + 5 ≤ length plane.old }
-    ensures { plane.new ≡ sets plane.old q (a ∷ b ∷ c ∷ d ∷ e ∷ []) }
+// The signs of the nx samples from the index p on, a byte each, 0 past them: a loop that is compiled to comparisons of eight samples at once.
+fn row_bytes<B: Samples>(samples: B, p: usize, nx: usize, t: u16) -> [u8; 256]
+    requires { (nx ≤ 256) × (p ≤ 16777216) × (p + nx ≤ length (B.greys samples)) }
+    ensures { SignBytes (B.greys samples) t p nx result }
 {
-    plane[q] = a;
-    plane[q + 1] = b;
-    plane[q + 2] = c;
-    plane[q + 3] = d;
-    plane[q + 4] = e;
-}
-
-// 1 for a positive sample, else 0.
-fn sign(p: u16, t: u16) -> u8
-    ensures value { result ≡ bit (leb t p) }
-    ensures upper_bound { result ≤ 1 }
-{
-    if t <= p { 1 } else { 0 }
-}
-
-// The signs of a row's samples, a byte each, 0 past its end: a loop that is compiled to comparisons of eight samples at once.
-fn row_bytes(row: &[u16], t: u16) -> [u8; 256]
-    requires { length row.now ≤ 256 }
-    ensures { SignBytes row.now t (length row.now) result }
-{
-    let n = row.len();
     let mut m = [0u8; 256];
-    let mut i: usize = 0;
-    while i < n {
-        m[i] = sign(row[i], t);
-        i += 1;
+    for i in 0..nx {
+        m[i] = samples.sign(i + p, t);
     }
     m
-}
-
-// Eight bytes as one word, the first lowest.
-fn eight_bytes(a: u8, b: u8, c: u8, d: u8, e: u8, f: u8, g: u8, h: u8) -> u64
-    ensures { result ≡ a + 256 * b + 65536 * c + 16777216 * d + 4294967296 * e + 1099511627776 * f + 281474976710656 * g + 72057594037927936 * h }
-{
-    (a as u64)
-        + 256 * (b as u64)
-        + 65536 * (c as u64)
-        + 16777216 * (d as u64)
-        + 4294967296 * (e as u64)
-        + 1099511627776 * (f as u64)
-        + 281474976710656 * (g as u64)
-        + 72057594037927936 * (h as u64)
 }
 
 // A part of eight bytes as one word: a function of its own, so that it is compiled to one load.
@@ -103,13 +92,14 @@ fn eight_of(part: &[u8]) -> u64
     requires { length part.now ≡ 8 }
     ensures { result ≡ eight_bytes part.now 0 }
 {
-    eight_bytes(
+    u64::from_le_bytes([
         part[0], part[1], part[2], part[3], part[4], part[5], part[6], part[7],
-    )
+    ])
 }
 
 // A word of eight rows of eight bits, with rows and columns exchanged. The steps swap bits that are 7, 14 and 28 places apart: single bits, then
 // squares of four bits, then squares of sixteen. Where all bits are alike there is nothing to do, and in a scan most words are so.
+#[tactic(auto, using(crate::proofs::Swaps::exchanged_word))]
 fn transposed(y: u64) -> u64
     ensures { result ≡ pack (λ (i : ℕ). y / 2 ^ (8 * (i % 8) + i / 8) % 2) 64 }
 {
@@ -133,11 +123,9 @@ fn gathered(bytes: &[u8], w: usize) -> u64
     ensures { result ≡ pack (λ (i : ℕ). get_or bytes.now (64 * w + i) 0) 64 }
 {
     let mut y: u64 = 0;
-    let mut k: usize = 0;
-    while k < 8 {
+    for k in 0..8 {
         let p = 64 * w + 8 * k;
         y |= eight_of(&bytes[p..p + 8]) << k;
-        k += 1;
     }
     transposed(y)
 }

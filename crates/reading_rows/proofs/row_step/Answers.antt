@@ -1,6 +1,5 @@
 -- `row_step` meets its contract: a row without an active cube writes nothing, and of any other the windows are made and written by.
 -- Assumes nothing.
-use Prim.Native.Nat.{◌-◌}
 use mathlib.Core.Path.{sym, ◌∙◌}
 use Rattle.cube_rule.specs.Decider.{joined}
 use Rattle.cube_rule.proofs.Laws.{cube_laws}
