@@ -7,6 +7,7 @@ ghost use Rattle.planes.specs.Planes.{further_of, further_at, eight_of, active_o
 ghost use Rattle.std.specs.Int.Count.{ones};
 
 // The signs of the eight corners of 64 cubes, from the word q of the plane a below and of the plane b above.
+#[tactic(auto, unfolding(crate::specs::Planes::eight_of))]
 pub fn eight(a: &[u64], b: &[u64], q: usize) -> [u64; 8]
     requires { (q + 6 < length a.now) × (q + 6 < length b.now) }
     ensures { result ≡ eight_of a.now b.now q }
@@ -19,6 +20,7 @@ pub fn eight(a: &[u64], b: &[u64], q: usize) -> [u64; 8]
 }
 
 // Bit i is set if the eight signs of cube i are not all alike.
+#[tactic(auto, unfolding(crate::specs::Planes::active_of))]
 pub fn active(e: [u64; 8]) -> u64
     ensures { result ≡ active_of e }
 {
@@ -28,6 +30,7 @@ pub fn active(e: [u64; 8]) -> u64
 }
 
 // The sign pattern of cube i: bit c is bit i of word c.
+#[tactic(auto, unfolding(crate::specs::Planes::pattern_at, laws::specs::Pack::pack))]
 pub fn pattern_at(e: [u64; 8], i: usize) -> u32
     requires { i < 64 }
     ensures value { result ≡ pattern_at e i }
@@ -55,13 +58,11 @@ pub fn limit(n: usize, w: usize) -> u64
     if n <= a {
         return 0;
     }
-    if n - a < 64 {
-        return u64::MAX >> (64 - (n - a));
-    }
-    u64::MAX
+    u64::MAX >> (64 - (n - a).min(64))
 }
 
 // The places i of word w with 64 w + i neither first nor last of nx.
+#[tactic(auto, using(crate::proofs::Masks::inner_first, crate::proofs::Masks::inner_other))]
 pub fn inner(nx: usize, w: usize) -> u64
     requires { (0 < nx) × (w < 4) }
     ensures { result ≡ inner_of nx w }
@@ -106,6 +107,7 @@ pub fn ones_of(w: u64) -> usize
 }
 
 // A row's word one sample further on: the next word's lowest bit comes in on top.
+#[tactic(auto, unfolding(crate::specs::Planes::further_of))]
 fn further(lo: u64, hi: u64) -> u64
     ensures { result ≡ further_of lo hi }
 {
