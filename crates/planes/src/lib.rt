@@ -49,7 +49,7 @@ fn two_bits(a: u64, b: u64, i: usize) -> u64
     (a >> i) % 2 + 2 * ((b >> i) % 2)
 }
 
-// The places i of word w with 64 w + i below n.
+// The places i of word w with 64 w + i below n. (A full word has a case of its own: by `min` and one shift, rows without an active cube take longer.)
 pub fn limit(n: usize, w: usize) -> u64
     requires { w < 4 }
     ensures { result ≡ limit_of n w }
@@ -58,7 +58,10 @@ pub fn limit(n: usize, w: usize) -> u64
     if n <= a {
         return 0;
     }
-    u64::MAX >> (64 - (n - a).min(64))
+    if n - a < 64 {
+        return u64::MAX >> (64 - (n - a));
+    }
+    u64::MAX
 }
 
 // The places i of word w with 64 w + i neither first nor last of nx.

@@ -2,13 +2,15 @@
 use Prim.Native.Nat.{ℕ, zero, suc, ◌+◌, ◌*◌, ◌-◌, ◌/◌, ◌%◌, ◌^◌, ◌≤◌, ◌<◌}
 use mathlib.Core.Path.{◌≡◌, refl, ap, sym, ◌∙◌}
 use mathlib.Core.Logic.{⊎_elim}
-use mathlib.Core.Bool.{Bool, true, false, ◌&&◌}
+use mathlib.Core.Bool.{Bool, true, false, ◌&&◌, and_assoc}
 use mathlib.Core.List.{List, []}
-use native.Mathlib.Nat.{eq-or-lt_of_le, zero-div, zero-add}
+use native.Mathlib.Nat.{eq-or-lt_of_le, zero-div, zero-add, add-zero}
 use native.Mathlib.Numerals.{add-one}
 use native.Mathlib.Omega.{arith}
 use borrow.Author.Tests.{eqb-true}
 use lib.Dec.{eqb}
+use Rattle.std.specs.List.{list_all, range_with_len}
+use Rattle.std.proofs.lemmas.Grind.{common_steps}
 use Rattle.laws.specs.Below.{below}
 use Rattle.laws.proofs.Tests.{and_both}
 use Rattle.laws.proofs.Visit.{below_skip, below_none}
@@ -50,6 +52,19 @@ module _ (f : ℕ → Bool) where
       no : (p : Bool) → (p && false) ≡ false
       no true = refl
       no false = refl
+
+  -- as it is found, from the number a on
+  every_from : (a n : ℕ) → every f a && list_all f (range_with_len a n) ≡ every f (a + n)
+  unfolding every
+  every_from a zero = rw add-zero (grind (arith, common_steps))
+  every_from a (suc n) =
+      let next : every f a && f a ≡ every f (a + 1) = rw add-one refl in
+      let place : a + 1 + n ≡ a + suc n = omega arith in
+      sym (and_assoc (every f a) (f a) _) ∙ ap (λ (p : Bool). p && list_all f (range_with_len (a + 1) n)) next ∙ every_from (a + 1) n ∙ ap (every f) place
+
+  pub every_found : (n : ℕ) → list_all f (range_with_len 0 n) ≡ every f n
+  unfolding every
+  every_found n = every_from 0 n ∙ ap (every f) (zero-add n)
 
   -- it holds of each
   pub every_at : (n m : ℕ) → every f n ≡ true → m < n → f m ≡ true

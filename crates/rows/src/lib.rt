@@ -21,6 +21,7 @@ pub struct Row {
 }
 
 // The samples at the corners of the cube x of a row, from the row's windows.
+#[tactic(auto, unfolding(signs::specs::Windows::window_corners))]
 pub fn corners(lo: &[u16], hi: &[u16], nx: usize, x: usize) -> [u16; 8]
     requires { (x + 1 + nx < length lo.now) × (x + 1 + nx < length hi.now) }
     ensures { result ≡ window_corners nx lo.now hi.now x }
@@ -43,14 +44,8 @@ pub fn quiet(row: Row, a: &[u64], b: &[u64]) -> bool
     ensures { result ≡ quiet_row a.now b.now row.nx row.j }
 {
     let cubes = row.nx - 1;
-    let mut w: usize = 0;
-    while 64 * w < cubes {
+    (0..(cubes + 63) / 64).all(|w| {
         let e = planes::eight(a, b, 5 * row.j + w);
-        let act = planes::active(e) & planes::limit(cubes, w);
-        if act != 0 {
-            return false;
-        }
-        w += 1;
-    }
-    true
+        planes::active(e) & planes::limit(cubes, w) == 0
+    })
 }
