@@ -1,3 +1,2 @@
-pub mod SixWords
 pub mod PlainCubes
 pub mod Fixed

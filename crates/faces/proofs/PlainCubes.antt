@@ -5,14 +5,13 @@ use mathlib.Core.Bool.{Bool, true, false, not, ◌&&◌, ◌||◌}
 use mathlib.Core.List.{List}
 use Prim.Native.Nat.{ℕ, zero, suc, ◌*◌, ◌+◌, ◌<◌}
 use native.Mathlib.Omega.{arith}
-use lib.Bits.{bit_or}
 use lib.ListN.{get_or}
 use Rattle.laws.specs.Bits.{differ, holds}
 use Rattle.cube_rule.specs.Faces.{ring_corner}
 use Rattle.cube_rule.specs.Plain.{alternate_on, doubtful_on, uneven, plain}
 use Rattle.cube_rule.proofs.Alike.{plain_same}
 use Rattle.cube_rule.proofs.Tables.{ring_corner_lt}
-use Rattle.planes.specs.Planes.{active_of, pattern_at}
+use Rattle.planes.specs.Planes.{pattern_at}
 use Rattle.faces.specs.Faces.{without_of, alternate_at, alternates_of, uneven_of, doubtful_of, plain_among, plain_of}
 use Rattle.planes.proofs.BitSays.{Says, says_or, says_xor}
 use Rattle.planes.proofs.ActiveCubes.{sign, unlike, says_active, pattern_holds}
@@ -26,12 +25,6 @@ says_without i {a} {b} {x} {y} p q = record { is = (says_xor i (says_or i p q) q
     less true false = refl
     less false true = refl
     less false false = refl
-
--- the word of the plain cubes, from those that it is made of
-pub plain_from : (e d : List ℕ) {m u r : ℕ} → m ≡ active_of e → u ≡ without_of m (uneven_of e)
-    → r ≡ without_of m (bit_or (doubtful_of d 0) (bit_or (doubtful_of d 1) (bit_or (doubtful_of d 2) u))) → r ≡ plain_among e d
-unfolding plain_among
-plain_from e d em eu er = er ∙ rw (eu, em)
 
 -- 64 cubes at once
 module _ (i : ℕ) (e : List ℕ) where

@@ -5,17 +5,11 @@ ghost use Rattle.std.specs.Prelude.{◌≡◌};
 ghost use Rattle.faces.specs.Faces.{without_of, alternate_of, alternates_of, plain_among, plain_of};
 
 // The words of the doubtful faces x=0, x=1, y=0, y=1, z=0, z=1: bit i is set if the signs round that face of cube i alternate.
+#[tactic(auto, unfolding(crate::specs::Faces::alternates_of))]
 pub fn alternates(e: [u64; 8]) -> [u64; 6]
     ensures { result ≡ alternates_of e }
 {
-    let c0 = e[0];
-    let c1 = e[1];
-    let c2 = e[2];
-    let c3 = e[3];
-    let c4 = e[4];
-    let c5 = e[5];
-    let c6 = e[6];
-    let c7 = e[7];
+    let [c0, c1, c2, c3, c4, c5, c6, c7] = e;
     [
         alternate(c0, c2, c6, c4),
         alternate(c1, c3, c7, c5),
@@ -34,6 +28,7 @@ pub fn plain(e: [u64; 8]) -> u64
 }
 
 // The plain cubes, by the words of the doubtful faces.
+#[tactic(auto, unfolding(crate::specs::Faces::plain_among))]
 pub fn plain_among(e: [u64; 8], doubtful: [u64; 6]) -> u64
     ensures { result ≡ plain_among e doubtful }
 {

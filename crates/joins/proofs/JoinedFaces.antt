@@ -3,14 +3,14 @@
 -- Assumes nothing.
 use Prim.Native.Nat.{ℕ, zero, suc, ◌+◌, ◌-◌, ◌*◌, ◌%◌, ◌^◌, ◌≤◌, ◌<◌}
 use mathlib.Core.Path.{◌≡◌, refl, ap, ap₂, sym, ◌∙◌}
-use mathlib.Core.Bool.{Bool, true, false, cond, ◌&&◌}
+use mathlib.Core.Bool.{Bool, true, false, ◌&&◌}
 use mathlib.Core.List.{List, [], ◌∷◌}
 use native.Mathlib.Omega.{arith}
 use lib.Bits.{bit_and, bit_or}
 use lib.Count.{count_trailing_zeros}
 use lib.Dec.{eqb}
-use borrow.Author.Tests.{eq-eqb, ne_eqb}
-use lib.ListN.{length, get_or}
+use lib.ListN.{length, get_or, drop}
+use lib.Seq.{get_or-drop}
 use Rattle.laws.specs.Bits.{bit, holds}
 use Rattle.laws.specs.Pack.{pack}
 use Rattle.laws.proofs.Bits.{bit_le, holds_mask}
@@ -30,11 +30,11 @@ use Rattle.cube_rule.proofs.Laws.{cube_laws, cube_one, cube_two}
 use Rattle.sorts.specs.declared.Sorts.{Sorts}
 use Rattle.faces.specs.Faces.{alternates_of, plain_of}
 use Rattle.planes.specs.Planes.{pattern_at}
-use Rattle.sorts.specs.Sorting.{one_of, two_of, sorts_of}
+use Rattle.sorts.specs.Sorting.{one_of, two_of}
 use Rattle.signs.specs.Windows.{window_corners}
 use Rattle.faces.proofs.PlainCubes.{plain_bit, face_bit}
 use Rattle.sorts.proofs.SortedCubes.{one_bit, two_bit}
-use Rattle.joins.specs.Joined.{joined_at, joined_words, SidesIn, within_of, sorted_of, singles_of, Single, Sorted}
+use Rattle.joins.specs.Joined.{joined_at, joined_words, SidesIn, within_of, sorted_of, Single, Sorted}
 use Rattle.rows.specs.Rows.{WordReady}
 use Rattle.rows.proofs.Visits.{bits_of, visit_start, visit_set, visit_in}
 
@@ -77,25 +77,29 @@ bits_where_lem : (d : ℕ) (g : ℕ → Bool) (x : ℕ) → x < 64 → holds (pa
 bits_where_lem d g x h = ap (λ (w : ℕ). holds w x) (pack_mask (λ x. holds d x && g x) 64) ∙ holds_mask (λ x. holds d x && g x) 64 x h
 
 -- the places of its corners
-on : (p k x : ℕ) → p + k + x ≡ p + x + k
-on p k x = omega arith
+module _ (p x : ℕ) where
+  on : (k : ℕ) → p + k + x ≡ p + x + k
+  on k = omega arith
 
-on_both : (p nx x : ℕ) → p + 1 + nx + x ≡ p + x + 1 + nx
-on_both p nx x = omega arith
+  on_two : (k l : ℕ) → p + k + (x + l) ≡ p + x + k + l
+  on_two k l = omega arith
 
-on_both' : (p nx x : ℕ) → p + nx + 1 + x ≡ p + x + 1 + nx
-on_both' p nx x = omega arith
+  on_one : (k : ℕ) → p + (x + k) ≡ p + x + k
+  on_one k = omega arith
 
 module _ (lo hi : List ℕ) (nx p : ℕ) (cut : Cut) (d : List ℕ) (x : ℕ) (h : x < 64) where
+  on_far : p + nx + (x + 1) ≡ p + x + 1 + nx
+  on_far = omega arith
+
   -- how the face f is decided
   said : (f : ℕ) → f < 6 → holds (get_or (joined_words lo hi nx p cut d) f 0) x ≡ (holds (get_or d f 0) x && decisions joined cut (window_corners nx lo hi (p + x)) f)
   unfolding joined_words window_corners
-  said zero l = bits_where_lem (get_or d 0 0) (joined_at cut lo p hi p nx) x h ∙ rw (on p nx x)
-  said (suc zero) l = bits_where_lem (get_or d 1 0) (joined_at cut lo (p + 1) hi (p + 1) nx) x h ∙ rw (on p 1 x, on_both p nx x)
-  said (suc (suc zero)) l = bits_where_lem (get_or d 2 0) (joined_at cut lo p hi p 1) x h ∙ rw (on p 1 x)
-  said (suc (suc (suc zero))) l = bits_where_lem (get_or d 3 0) (joined_at cut lo (p + nx) hi (p + nx) 1) x h ∙ rw (on p nx x, on_both' p nx x)
-  said (suc (suc (suc (suc zero)))) l = bits_where_lem (get_or d 4 0) (joined_at cut lo p lo (p + nx) 1) x h ∙ rw (on p nx x, on p 1 x, on_both' p nx x)
-  said (suc (suc (suc (suc (suc zero))))) l = bits_where_lem (get_or d 5 0) (joined_at cut hi p hi (p + nx) 1) x h ∙ rw (on p nx x, on p 1 x, on_both' p nx x)
+  said zero l = bits_where_lem (get_or d 0 0) (joined_at cut (drop p lo) (drop p hi) nx) x h ∙ simp (get_or-drop, on_one p x nx)
+  said (suc zero) l = bits_where_lem (get_or d 1 0) (joined_at cut (drop (p + 1) lo) (drop (p + 1) hi) nx) x h ∙ simp (get_or-drop, on p x 1, on_two p x 1 nx)
+  said (suc (suc zero)) l = bits_where_lem (get_or d 2 0) (joined_at cut (drop p lo) (drop p hi) 1) x h ∙ simp (get_or-drop, on_one p x 1)
+  said (suc (suc (suc zero))) l = bits_where_lem (get_or d 3 0) (joined_at cut (drop (p + nx) lo) (drop (p + nx) hi) 1) x h ∙ simp (get_or-drop, on p x nx, on_far)
+  said (suc (suc (suc (suc zero)))) l = bits_where_lem (get_or d 4 0) (joined_at cut (drop p lo) (drop (p + nx) lo) 1) x h ∙ simp (get_or-drop, on p x nx, on_one p x 1, on_far)
+  said (suc (suc (suc (suc (suc zero))))) l = bits_where_lem (get_or d 5 0) (joined_at cut (drop p hi) (drop (p + nx) hi) 1) x h ∙ simp (get_or-drop, on p x nx, on_one p x 1, on_far)
   said (suc (suc (suc (suc (suc (suc f)))))) l = absurd (omega arith)
 
 within_at : (six : List ℕ) (act f : ℕ) → f < 6 → get_or (within_of six act) f 0 ≡ bit_and (get_or six f 0) act
@@ -166,22 +170,8 @@ module _ {lo hi : List ℕ} {cut : Cut} {nx p : ℕ} {e : List ℕ} {act : ℕ} 
         cube_two joined cut cs (sym (two_same (holds (pattern_at e x)) (holds (pattern_of cut cs)) corners (λ f. holds (get_or words f 0) x) (joined_on (holds (pattern_of cut cs)) (decisions joined cut cs)) faces) ∙ sym (two_bit x e words) ∙ t)
 
   -- by the decided faces
-  pub sorted_is : {six joins : List ℕ} {r : Sorts} → six ≡ alternates_of e → joins ≡ joined_words lo hi nx p cut (within_of six act) → r ≡ sorts_of e six joins
-      → r ≡ sorted_of lo hi nx p cut e act
-  sorted_is {six} {joins} {r} es ej er = er ∙ ap (sorts_of e six) ej ∙ ap (λ (d : List ℕ). sorts_of e d (joined_words lo hi nx p cut (within_of d act))) es
-
   pub sorted_faces : {r : Sorts} → r ≡ sorted_of lo hi nx p cut e act → Sorted loops_of lo hi cut nx p act r
   sorted_faces {r} all = record {
     one = λ x h set t. told_one x h set (ap (λ (q : Sorts). holds q.one x) (sym all) ∙ t);
     two = λ x h set t. told_two x h set (ap (λ (q : Sorts). holds q.two x) (sym all) ∙ t);
   }
-
--- the word of the cubes with one loop: of the plain ones, and of the sorted ones
-module _ (lo hi : List ℕ) (cut : Cut) (nx p : ℕ) (e : List ℕ) (act : ℕ) {word : ℕ} (is : word ≡ plain_of e) where
-  pub singles_plain : bit_and act word ≡ act → word ≡ singles_of lo hi nx p cut e act
-  singles_plain t = is ∙ sym (ap (λ (b : Bool). cond b (plain_of e) (sorted_of lo hi nx p cut e act).one) (eq-eqb (bit_and act (plain_of e)) act (ap (bit_and act) (sym is) ∙ t)))
-
-  pub singles_sorted : (bit_and act word ≡ act → ⊥) → (r : Sorts) → r ≡ sorted_of lo hi nx p cut e act → r.one ≡ singles_of lo hi nx p cut e act
-  singles_sorted f r s =
-      ap (λ (q : Sorts). q.one) s
-      ∙ sym (ap (λ (b : Bool). cond b (plain_of e) (sorted_of lo hi nx p cut e act).one) (ne_eqb (bit_and act (plain_of e)) act (λ q. f (ap (bit_and act) is ∙ q))))

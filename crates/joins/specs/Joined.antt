@@ -1,7 +1,7 @@
 -- The doubtful faces of a row's cubes, 64 at once: whose positive corners are joined, and what that tells of the cubes' loops. `lo` and `hi` are the
 -- row's windows, `nx` is the length of a row of samples, `p` the place of the word's first cube in the row.
 -- Assumes nothing.
-use Rattle.std.specs.Prelude.{ℕ, ◌+◌, ◌<◌, ◌≡◌, Bool, true, cond, ◌&&◌, eqb, List, [], ◌∷◌, length, get_or}
+use Rattle.std.specs.Prelude.{ℕ, ◌+◌, ◌<◌, ◌≡◌, Bool, true, cond, ◌&&◌, eqb, List, [], ◌∷◌, length, get_or, drop}
 use Rattle.faces.specs.Faces.{alternates_of, plain_of}
 use Rattle.sorts.specs.Sorting.{sorts_of}
 use Rattle.std.specs.Int.Bits.{bit_and}
@@ -14,27 +14,27 @@ use Rattle.sorts.specs.declared.Sorts.{Sorts}
 use Rattle.signs.specs.Windows.{window_corners}
 use Rattle.rows.specs.Rows.{loops_at}
 
--- ---- the faces on one side of the word's cubes: those of cube x have the samples i + x and a step further in `near`, and k + x and a step further in `far`
+-- ---- the faces on one side of the word's cubes: those of cube x have the samples x and a step further in `near`, and the same two in `far`
 
 -- the positive corners of the face of cube x are joined
-abbrev pub joined_at : Cut → List ℕ → ℕ → List ℕ → ℕ → ℕ → ℕ → Bool
-joined_at cut near i far k step x = joined cut (get_or near (i + x) 0) (get_or near (i + step + x) 0) (get_or far (k + step + x) 0) (get_or far (k + x) 0)
+abbrev pub joined_at : Cut → List ℕ → List ℕ → ℕ → ℕ → Bool
+joined_at cut near far step x = joined cut (get_or near x 0) (get_or near (x + step) 0) (get_or far (x + step) 0) (get_or far x 0)
 
 -- bit x is set if it is in `doubtful` and they are joined
-abbrev pub joined_word : Cut → ℕ → List ℕ → ℕ → List ℕ → ℕ → ℕ → ℕ
-joined_word cut doubtful near i far k step = pack (λ (x : ℕ). bit (holds doubtful x && joined_at cut near i far k step x)) 64
+abbrev pub joined_word : Cut → ℕ → List ℕ → List ℕ → ℕ → ℕ
+joined_word cut doubtful near far step = pack (λ (x : ℕ). bit (holds doubtful x && joined_at cut near far step x)) 64
 
 -- the faces whose bits are set lie in the windows
-abbrev pub FacesIn : ℕ → List ℕ → ℕ → List ℕ → ℕ → ℕ → Type 0
-FacesIn doubtful near i far k step = (x : ℕ) → x < 64 → holds doubtful x ≡ true → (i + step + x < length near) × (k + step + x < length far)
+abbrev pub FacesIn : ℕ → List ℕ → List ℕ → ℕ → Type 0
+FacesIn doubtful near far step = (x : ℕ) → x < 64 → holds doubtful x ≡ true → (x + step < length near) × (x + step < length far)
 
 -- ---- all six sides, x=0, x=1, y=0, y=1, z=0, z=1
 
 unfoldable pub joined_words : List ℕ → List ℕ → ℕ → ℕ → Cut → List ℕ → List ℕ
 joined_words lo hi nx p cut doubtful =
-    joined_word cut (get_or doubtful 0 0) lo p hi p nx ∷ joined_word cut (get_or doubtful 1 0) lo (p + 1) hi (p + 1) nx
-    ∷ joined_word cut (get_or doubtful 2 0) lo p hi p 1 ∷ joined_word cut (get_or doubtful 3 0) lo (p + nx) hi (p + nx) 1
-    ∷ joined_word cut (get_or doubtful 4 0) lo p lo (p + nx) 1 ∷ joined_word cut (get_or doubtful 5 0) hi p hi (p + nx) 1 ∷ []
+    joined_word cut (get_or doubtful 0 0) (drop p lo) (drop p hi) nx ∷ joined_word cut (get_or doubtful 1 0) (drop (p + 1) lo) (drop (p + 1) hi) nx
+    ∷ joined_word cut (get_or doubtful 2 0) (drop p lo) (drop p hi) 1 ∷ joined_word cut (get_or doubtful 3 0) (drop (p + nx) lo) (drop (p + nx) hi) 1
+    ∷ joined_word cut (get_or doubtful 4 0) (drop p lo) (drop (p + nx) lo) 1 ∷ joined_word cut (get_or doubtful 5 0) (drop p hi) (drop (p + nx) hi) 1 ∷ []
 
 -- cubes of the word lie in the windows, and so do those with a face whose bit is set
 pub record SidesIn (lo hi : List ℕ) (nx p : ℕ) (doubtful : List ℕ) : Type 0 where

@@ -2,7 +2,7 @@
 // two found; only the others are linked. Where all active cubes of a row are plain, the signs alone say how many loops it has.
 #![tactic(auto)]
 
-ghost use Rattle.std.specs.Prelude.{◌≡◌, ◌+◌, ◌*◌, ◌<◌, ◌≤◌, length};
+ghost use Rattle.std.specs.Prelude.{◌≡◌, ◌<◌, ◌≤◌, length};
 ghost use Rattle.cube_rule.specs.Decider.{loops_of};
 ghost use Rattle.rows.specs.Rows.{word_loops, WordReady, row_masks, RowReady};
 ghost use Rattle.loop_counts.specs.PlainRow.{plain_word, plain_row};

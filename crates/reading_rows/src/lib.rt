@@ -2,16 +2,12 @@
 // compared as readings, and only a row that has to be looked at is made into windows of grey values.
 #![tactic(auto)]
 
-ghost use Rattle.std.specs.Prelude.{◌≡◌, ◌+◌, ◌*◌, ◌<◌, ◌≤◌, length};
-ghost use Rattle.std.specs.Float.Ieee.{le};
-ghost use Rattle.std.proofs.lemmas.List.Edits.{sets};
+ghost use Rattle.std.specs.Prelude.{◌≡◌, ◌<◌, ◌≤◌, length};
 ghost use Rattle.laws.specs.Below.{over};
-ghost use Rattle.laws.specs.Bits.{bit};
 ghost use Rattle.block.specs.Numbering.{sample_count};
 ghost use Rattle.block.specs.Size.{Limits};
 ghost use Rattle.cube_rule.specs.Decider.{loops_of};
 ghost use Rattle.signs.specs.Signs.{plane_words};
-ghost use Rattle.signs.specs.Steps.{SignBytes, five_words};
 ghost use Rattle.readings.specs.Reading.{greys_of, Sound};
 ghost use Rattle.rows.specs.Rows.{RowReady};
 ghost use Rattle.vertices.specs.Layers.{RowRoom};

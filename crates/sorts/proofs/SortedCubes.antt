@@ -1,41 +1,20 @@
 -- What the words say of the cubes with exactly one loop and of those with exactly two.
 -- Assumes nothing.
-use mathlib.Core.Path.{◌≡◌, refl, sym, ap₂, ◌∙◌}
+use mathlib.Core.Path.{◌≡◌, refl, sym, ◌∙◌}
 use mathlib.Core.Bool.{Bool}
 use mathlib.Core.List.{List}
 use Prim.Native.Nat.{ℕ, zero, suc, ◌<◌}
 use native.Mathlib.Omega.{arith}
-use lib.Bits.{bit_and, bit_xor}
 use lib.ListN.{get_or}
 use Rattle.laws.specs.Bits.{holds}
 use Rattle.cube_rule.specs.Sorts.{odd_in_three, two_in_three, two_in_four, mostly, three, six, rarer, odd, some, lone, one, two}
 use Rattle.cube_rule.proofs.Alike.{one_same, two_same}
-use Rattle.sorts.specs.declared.Sorts.{Sorts}
-use Rattle.planes.specs.Planes.{active_of, pattern_at}
-use Rattle.faces.specs.Faces.{alternates_of, plain_among}
-use Rattle.sorts.specs.Sorting.{odd_in_three_of, two_in_three_of, two_in_four_of, mostly_of, three_of, six_from, six_of, rarer_at, rarer_of, odd_of, some_of, lone_of, one_from, two_from, one_of, two_of, sorts_of}
+use Rattle.planes.specs.Planes.{pattern_at}
+use Rattle.faces.specs.Faces.{alternates_of}
+use Rattle.sorts.specs.Sorting.{odd_in_three_of, two_in_three_of, two_in_four_of, mostly_of, three_of, six_of, rarer_at, rarer_of, odd_of, some_of, lone_of, one_of, two_of}
 use Rattle.planes.proofs.BitSays.{Says, says_and, says_or, says_xor}
 use Rattle.faces.proofs.PlainCubes.{says_without, says_face, says_doubtful, says_plain}
 use Rattle.planes.proofs.ActiveCubes.{sign, says_sign, unlike, says_active, pattern_holds}
-
--- ---- the words, from those that they are made of
-
-pub mostly_from : (e : List ℕ) {a b p q u r : ℕ} → a ≡ two_in_three_of (get_or e 0 0) (get_or e 1 0) (get_or e 2 0) → b ≡ two_in_three_of (get_or e 3 0) (get_or e 4 0) (get_or e 5 0)
-    → p ≡ odd_in_three_of (get_or e 0 0) (get_or e 1 0) (get_or e 2 0) → q ≡ odd_in_three_of (get_or e 3 0) (get_or e 4 0) (get_or e 5 0)
-    → u ≡ two_in_three_of p q (bit_xor (get_or e 6 0) (get_or e 7 0)) → r ≡ two_in_four_of a b (bit_and (get_or e 6 0) (get_or e 7 0)) u → r ≡ mostly_of e
-unfolding mostly_of
-mostly_from e ea eb ep eq eu er = er ∙ rw (eu, eq, ep, eb, ea)
-
-pub sorts_from : (e d j : List ℕ) {mixed plain most three some lone : ℕ} {rarer : List ℕ} (r : Sorts) → mixed ≡ active_of e → plain ≡ plain_among e d → three ≡ three_of d
-    → most ≡ mostly_of e → rarer ≡ rarer_of d j most → some ≡ some_of rarer → lone ≡ lone_of three rarer
-    → r.one ≡ one_from plain lone (six_from d three) → r.two ≡ two_from mixed plain lone (six_from d three) three some → r ≡ sorts_of e d j
-unfolding one_of two_of
-sorts_from e d j r em ep et eo er es el e1 e2 = ap₂ (λ (x y : ℕ). made x y) (e1 ∙ rw (el, er, eo, et, ep)) (e2 ∙ rw (el, es, er, eo, et, ep, em))
-  where
-    made : ℕ → ℕ → Sorts
-    made x y = record { one = x; two = y }
-
--- ---- what they say
 
 module _ (i : ℕ) where
   odd_three : {a b c : ℕ} {x y z : Bool} → Says i a x → Says i b y → Says i c z → Says i (odd_in_three_of a b c) (odd_in_three x y z)

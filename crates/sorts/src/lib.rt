@@ -3,7 +3,7 @@
 #![tactic(auto)]
 
 ghost use Rattle.std.specs.Prelude.{◌≡◌};
-ghost use Rattle.sorts.specs.Sorting.{odd_in_three_of, two_in_three_of, two_in_four_of, mostly_of, three_of, rarer_of, odd_of, some_of, lone_of, one_from, two_from, sorts_of};
+ghost use Rattle.sorts.specs.Sorting.{odd_in_three_of, two_in_three_of, two_in_four_of, mostly_of, three_of, rarer_of, odd_of, some_of, lone_of, sorts_of};
 
 // The cubes with exactly one loop, and those with exactly two.
 #[derive(Clone, Copy)]
@@ -13,6 +13,7 @@ pub struct Sorts {
 }
 
 // Bit i of each word is set if cube i is such a cube, by the words of its doubtful faces and of those with joined positive corners.
+#[tactic(auto, unfolding(crate::specs::Sorting::one_of, crate::specs::Sorting::two_of))]
 pub fn sorts_of(e: [u64; 8], doubtful: [u64; 6], joined: [u64; 6]) -> Sorts
     ensures { result ≡ sorts_of e doubtful joined }
 {
@@ -23,7 +24,10 @@ pub fn sorts_of(e: [u64; 8], doubtful: [u64; 6], joined: [u64; 6]) -> Sorts
     let rarer = rarer(doubtful, joined, mostly(e));
     let some = some(rarer);
     let lone = lone(three, rarer);
-    sort_words(mixed, plain, three, six, some, lone)
+    Sorts {
+        one: plain | faces::without(lone, six),
+        two: faces::without(mixed, plain | (lone | (six | faces::without(three, some)))),
+    }
 }
 
 // An odd number of three bits is set.
@@ -48,6 +52,7 @@ fn two_in_four(a: u64, b: u64, c: u64, d: u64) -> u64
 }
 
 // At least four corners are positive: in twos, those among corners 0 to 2, among 3 to 5, among 6 and 7, and among what these leave over.
+#[tactic(auto, unfolding(crate::specs::Sorting::mostly_of))]
 fn mostly(e: [u64; 8]) -> u64
     ensures { result ≡ mostly_of e }
 {
@@ -66,17 +71,11 @@ fn three(doubtful: [u64; 6]) -> u64
 }
 
 // The doubtful faces on which the corners of the rarer sign are joined; bit i of `most` is set if most corners of cube i are positive.
+#[tactic(auto, unfolding(crate::specs::Sorting::rarer_of))]
 fn rarer(doubtful: [u64; 6], joined: [u64; 6], most: u64) -> [u64; 6]
     ensures { result ≡ rarer_of doubtful joined most }
 {
-    [
-        joined[0] ^ (doubtful[0] & most),
-        joined[1] ^ (doubtful[1] & most),
-        joined[2] ^ (doubtful[2] & most),
-        joined[3] ^ (doubtful[3] & most),
-        joined[4] ^ (doubtful[4] & most),
-        joined[5] ^ (doubtful[5] & most),
-    ]
+    std::array::from_fn(|f| joined[f] ^ (doubtful[f] & most))
 }
 
 // They are an odd number.
@@ -98,14 +97,4 @@ fn lone(three: u64, rarer: [u64; 6]) -> u64
     ensures { result ≡ lone_of three rarer }
 {
     some(rarer) & (odd(rarer) ^ three)
-}
-
-// The cubes with exactly one loop, and those with exactly two, from the words above.
-fn sort_words(mixed: u64, plain: u64, three: u64, six: u64, some: u64, lone: u64) -> Sorts
-    ensures { (result.one ≡ one_from plain lone six) × (result.two ≡ two_from mixed plain lone six three some) }
-{
-    Sorts {
-        one: plain | faces::without(lone, six),
-        two: faces::without(mixed, plain | (lone | (six | faces::without(three, some)))),
-    }
 }

@@ -11,7 +11,7 @@ use Rattle.rows.proofs.Visits.{bits_of}
 use Rattle.joins.proofs.joined_on.Given as goal
 
 abbrev pub invariant-loop-w : goal.invariant-loop-w
-invariant-loop-w l = Left (bits_of l.doubtful) 64 l.n l.w × (l.v ≡ pack (bits_where l.doubtful (joined_at l.cut l.near l.i l.far l.k l.step)) l.n)
+invariant-loop-w l = record { left : Left (bits_of l.doubtful) 64 l.n l.w; made : l.v ≡ pack (bits_where l.doubtful (joined_at l.cut l.near l.far l.step)) l.n }
 
 abbrev pub decreases-loop-w : goal.decreases-loop-w
 decreases-loop-w l = 64 - l.n
