@@ -224,10 +224,10 @@ fn loop_from(links: [u32; 12], m: u32) -> u32
     requires { (0 < m) × (ones m ≤ 5 → m ≡ loop_from links (lowest_edge m)) }
     ensures { result ≡ loop_from links (lowest_edge m) }
 {
-    if u32::count_ones(m) <= SINGLE {
+    if m.count_ones() <= SINGLE {
         return m;
     }
-    let e = u32::trailing_zeros(m);
+    let e = m.trailing_zeros();
     let x = round(links, 1u32 << e);
     let y = round(links, x);
     if y == x {
