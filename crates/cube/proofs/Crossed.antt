@@ -5,9 +5,8 @@ use Prim.Native.Nat.{ℕ, ◌*◌, ◌/◌, ◌%◌, ◌^◌, ◌<◌}
 use lib.Bits.{bit_and, bit_or, bit_xor}
 use lib.Dec.{T, eqb, eqb→eq}
 use Rattle.laws.specs.Bits.{mask_of}
-use Rattle.laws.proofs.Bits.{mask_lt}
 use Rattle.laws.proofs.Tests.{below, below_at}
-use Rattle.cube_rule.specs.Edges.{crossed, crossed_mask}
+use Rattle.cube_rule.specs.Edges.{crossed_mask}
 
 -- The steps of the code. The pattern is compared with itself 1, 2 and 4 corners on. Of each comparison the bits of the lower corners are kept, and
 -- moved together.
@@ -27,8 +26,3 @@ computed = tt
 
 pub worked_is : (p : ℕ) → p < 256 → worked p ≡ crossed_mask p
 worked_is p h = eqb→eq _ _ (below_at 256 (λ p. eqb (worked p) (crossed_mask p)) computed p h)
-
--- twelve edges
-pub crossed_lt : (p : ℕ) → crossed_mask p < 4096
-unfolding crossed_mask
-crossed_lt p = mask_lt (crossed p) 12

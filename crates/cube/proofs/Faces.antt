@@ -3,12 +3,14 @@
 -- Assumes nothing.
 use mathlib.Core.Path.{◌≡◌, refl, sym, ap, ap₂, ◌∙◌}
 use mathlib.Core.Bool.{Bool, true, false, not, cond, beq}
-use mathlib.Core.List.{List, ◌∷◌}
-use Prim.Native.Nat.{ℕ, ◌<◌}
+use mathlib.Core.List.{List, [], ◌∷◌}
+use Prim.Native.Nat.{ℕ, zero, suc, ◌+◌, ◌*◌, ◌<◌}
+use native.Mathlib.Numerals.{add-one}
+use native.Mathlib.Omega.{arith}
 use native.Mathlib.Nat.{zero-mul}
 use lib.Dec.{T, eqb, eqb→eq, lit<}
 use lib.Bits.{bit_and, bit_xor}
-use borrow.Author.Tests.{eq-eqb, ne_eqb}
+use lib.ListN.{get_or, set}
 use Rattle.laws.specs.Bits.{differ, holds}
 use Rattle.laws.proofs.Tests.{both, left, right, same_eq, below, below_at}
 use Rattle.block.specs.declared.Cut.{Cut}
@@ -24,9 +26,27 @@ use Rattle.cube.specs.declared.Face.{Face}
 use Rattle.cube.specs.declared.Links.{Links}
 use Rattle.cube.specs.Faces.{cut_face}
 
--- the masks of the face f
+-- the corners and the masks of the face f
 abbrev pub face_of : ℕ → Face
-face_of f = record { ring = placed f 15; corner = placed f 9; next = placed f 3 }
+face_of f = record {
+  around = ring_corner f 0 ∷ ring_corner f 1 ∷ ring_corner f 2 ∷ ring_corner f 3 ∷ [];
+  ring = placed f 15;
+  corner = placed f 9;
+  next = placed f 3;
+}
+
+-- the table of all six
+abbrev pub all_faces : List Face
+all_faces = face_of 0 ∷ face_of 1 ∷ face_of 2 ∷ face_of 3 ∷ face_of 4 ∷ face_of 5 ∷ []
+
+face_at : (d : Face) (f : ℕ) → f < 6 → get_or all_faces f d ≡ face_of f
+face_at d zero h = refl
+face_at d (suc zero) h = refl
+face_at d (suc (suc zero)) h = refl
+face_at d (suc (suc (suc zero))) h = refl
+face_at d (suc (suc (suc (suc zero)))) h = refl
+face_at d (suc (suc (suc (suc (suc zero))))) h = refl
+face_at d (suc (suc (suc (suc (suc (suc f)))))) h = absurd (omega arith)
 
 -- the crossed edges of the face f at the sign pattern p, as a set of its own edges
 abbrev crossed_on : ℕ → ℕ → ℕ
@@ -93,6 +113,13 @@ abbrev found_on : Cut → List ℕ → ℕ → ℕ → Links
 found_on cut corners m f =
     cut_face (face_of f) (bit_and m (placed f 15)) (differ (positive cut (corner_sample corners (ring_corner f 0))) (decisions joined cut corners f))
 
+-- the links of the first f faces by the rule, in twelve places
+unfoldable pub links_to : Cut → List ℕ → ℕ → List ℕ
+links_to cut corners zero = 0 ∷ 0 ∷ 0 ∷ 0 ∷ 0 ∷ 0 ∷ 0 ∷ 0 ∷ 0 ∷ 0 ∷ 0 ∷ 0 ∷ []
+links_to cut corners (suc f) =
+    set (set (links_to cut corners f) (2 * f) (face_link first_link (pattern_of cut corners) f (decisions joined cut corners f)))
+    (2 * f + 1) (face_link second_link (pattern_of cut corners) f (decisions joined cut corners f))
+
 module _ (cut : Cut) (corners : List ℕ) (m : ℕ) (m-is : m ≡ crossed_mask (pattern_of cut corners)) where
   -- is what the rule says of it
   links_on_lem : (f : ℕ) → f < 6
@@ -113,21 +140,13 @@ module _ (cut : Cut) (corners : List ℕ) (m : ℕ) (m-is : m ≡ crossed_mask (
         told (bit_xor (placed f 15) (placed f 9)) (bit_xor (placed f 15) (placed f 3)) 0 ∙ second_cut f f_lt n x edges (eqb x 15) first,
       )
 
-  -- so the two links l of a face and those of the faces after it are the rule's
-  pub links_next : (f : ℕ) → f < 6 → (l : Links) → l ≡ found_on cut corners m f → {rest links : List ℕ} → rest ≡ links
-      → l.first ∷ l.second ∷ rest
-      ≡ face_link first_link (pattern_of cut corners) f (decisions joined cut corners f)
-      ∷ face_link second_link (pattern_of cut corners) f (decisions joined cut corners f) ∷ links
-  links_next f f_lt l l-is q =
-      ap₂ (λ (x : ℕ) (xs : List ℕ). x ∷ xs) (ap (λ (l : Links). l.first) l-is ∙ (links_on_lem f f_lt).0)
-      (ap₂ (λ (x : ℕ) (xs : List ℕ). x ∷ xs) (ap (λ (l : Links). l.second) l-is ∙ (links_on_lem f f_lt).1) q)
-
--- a face with two crossed edges or none
-pub cut_two : (face : Face) (m : ℕ) (e : Bool) → (m ≡ face.ring → ⊥) → ◌≡◌ {A = Links} (record { first = m; second = 0 }) (cut_face face m e)
-cut_two face m e h = rw (ne_eqb m face.ring h)
-
--- a face with four
-pub cut_four : (face : Face) (m x : ℕ) (e : Bool) → m ≡ face.ring → x ≡ cond e face.corner face.next
-    → ◌≡◌ {A = Links} (record { first = x; second = bit_xor face.ring x }) (cut_face face m e)
-cut_four face m x true h q = rw (eq-eqb m face.ring h, q)
-cut_four face m x false h q = rw (eq-eqb m face.ring h, q)
+  -- so one face more, with the links l as the code finds them by its table of faces
+  pub links_more : {f : ℕ} {links : List ℕ} (faces : List Face) → faces ≡ all_faces → (d : Face) → f < 6 → links ≡ links_to cut corners f
+      → (l : Links) → l ≡ (let face = get_or faces f d in
+          let sample : (i : ℕ) → ℕ = λ i. corner_sample corners (get_or face.around i 0) in
+          cut_face face (bit_and m face.ring) (differ (positive cut (sample 0)) (joined cut (sample 0) (sample 1) (sample 2) (sample 3))))
+      → set (set links (2 * f) l.first) (2 * f + 1) l.second ≡ links_to cut corners (f + 1)
+  unfolding links_to
+  links_more {f} faces t d f_lt e l l-is =
+      let found : l ≡ found_on cut corners m f = rw (t, face_at d f f_lt) at l-is in
+      rw (add-one f, e, found, (links_on_lem f f_lt).0, (links_on_lem f f_lt).1)

@@ -23,9 +23,11 @@ pub struct Loops {
     pub masks: [u32; 4],
 }
 
-// A face by its edges, as masks of the cube's: all four, the two that meet at its first corner, and the two that meet at the next.
+// A face: the corners around it, and its edges as masks of the cube's: all four, the two that meet at its first corner, and the two that meet at the
+// next.
 #[derive(Clone, Copy)]
 struct Face {
+    around: [usize; 4],
     ring: u32,
     corner: u32,
     next: u32,
@@ -38,42 +40,45 @@ struct Links {
     second: u32,
 }
 
-// The faces x=0, x=1, y=0, y=1, z=0, z=1.
-const X0: Face = Face {
-    ring: 0x550,
-    corner: 0x110,
-    next: 0x410,
-};
-
-const X1: Face = Face {
-    ring: 0xAA0,
-    corner: 0x220,
-    next: 0x820,
-};
-
-const Y0: Face = Face {
-    ring: 0x305,
-    corner: 0x101,
-    next: 0x201,
-};
-
-const Y1: Face = Face {
-    ring: 0xC0A,
-    corner: 0x402,
-    next: 0x802,
-};
-
-const Z0: Face = Face {
-    ring: 0x033,
-    corner: 0x011,
-    next: 0x021,
-};
-
-const Z1: Face = Face {
-    ring: 0x0CC,
-    corner: 0x044,
-    next: 0x084,
-};
+// The faces x=0, x=1, y=0, y=1, z=0, z=1. (The compiler takes the loop over them apart, so that each is decided by its own constants.)
+const FACES: [Face; 6] = [
+    Face {
+        around: [0, 2, 6, 4],
+        ring: 0x550,
+        corner: 0x110,
+        next: 0x410,
+    },
+    Face {
+        around: [1, 3, 7, 5],
+        ring: 0xAA0,
+        corner: 0x220,
+        next: 0x820,
+    },
+    Face {
+        around: [0, 1, 5, 4],
+        ring: 0x305,
+        corner: 0x101,
+        next: 0x201,
+    },
+    Face {
+        around: [2, 3, 7, 6],
+        ring: 0xC0A,
+        corner: 0x402,
+        next: 0x802,
+    },
+    Face {
+        around: [0, 1, 3, 2],
+        ring: 0x033,
+        corner: 0x011,
+        next: 0x021,
+    },
+    Face {
+        around: [4, 5, 7, 6],
+        ring: 0x0CC,
+        corner: 0x044,
+        next: 0x084,
+    },
+];
 
 // The sign pattern of a cube: bit c is set if corner c is positive.
 fn pattern(corners: [u16; 8], cut: Cut) -> u32
@@ -81,8 +86,8 @@ fn pattern(corners: [u16; 8], cut: Cut) -> u32
     ensures upper_bound { result < 256 }
 {
     let mut p: u32 = 0;
-    for c in 0..8 {
-        if cut.t <= corners[c] {
+    for (c, sample) in corners.iter().enumerate() {
+        if cut.t <= *sample {
             p += 1u32 << c;
         }
     }
@@ -175,7 +180,7 @@ fn face_links(face: Face, crossed: u32, cut: Cut, p: u16, q: u16, r: u16, s: u16
         face.next
     };
     Links {
-        first: first,
+        first,
         second: face.ring ^ first,
     }
 }
@@ -185,28 +190,16 @@ fn links_of(corners: [u16; 8], cut: Cut, crossed: u32) -> [u32; 12]
     requires { crossed ≡ crossed_mask (pattern_of cut corners) }
     ensures { result ≡ links_of (pattern_of cut corners) (decisions joined cut corners) }
 {
-    let x0 = face_links(
-        X0, crossed, cut, corners[0], corners[2], corners[6], corners[4],
-    );
-    let x1 = face_links(
-        X1, crossed, cut, corners[1], corners[3], corners[7], corners[5],
-    );
-    let y0 = face_links(
-        Y0, crossed, cut, corners[0], corners[1], corners[5], corners[4],
-    );
-    let y1 = face_links(
-        Y1, crossed, cut, corners[2], corners[3], corners[7], corners[6],
-    );
-    let z0 = face_links(
-        Z0, crossed, cut, corners[0], corners[1], corners[3], corners[2],
-    );
-    let z1 = face_links(
-        Z1, crossed, cut, corners[4], corners[5], corners[7], corners[6],
-    );
-    [
-        x0.first, x0.second, x1.first, x1.second, y0.first, y0.second, y1.first, y1.second,
-        z0.first, z0.second, z1.first, z1.second,
-    ]
+    let mut links = [0; 12];
+    for (f, face) in FACES.iter().enumerate() {
+        let [p, q, r, s] = face.around;
+        let l = face_links(
+            *face, crossed, cut, corners[p], corners[q], corners[r], corners[s],
+        );
+        links[2 * f] = l.first;
+        links[2 * f + 1] = l.second;
+    }
+    links
 }
 
 // A set of edges, with the other end of a link that has an edge in it.
@@ -220,11 +213,7 @@ fn join_link(m: u32, link: u32) -> u32
 fn round(links: [u32; 12], m: u32) -> u32
     ensures { result ≡ grow m links }
 {
-    let mut x = m;
-    for k in 0..12 {
-        x = join_link(x, links[k]);
-    }
-    x
+    links.iter().fold(m, |x, link| join_link(x, *link))
 }
 
 // Up to this many edges of whole loops are one loop: two loops have six.
@@ -235,10 +224,10 @@ fn loop_from(links: [u32; 12], m: u32) -> u32
     requires { (0 < m) × (ones m ≤ 5 → m ≡ loop_from links (lowest_edge m)) }
     ensures { result ≡ loop_from links (lowest_edge m) }
 {
-    if u32::count_ones(m) <= SINGLE {
+    if m.count_ones() <= SINGLE {
         return m;
     }
-    let e = u32::trailing_zeros(m);
+    let e = m.trailing_zeros();
     let x = round(links, 1u32 << e);
     let y = round(links, x);
     if y == x {
@@ -257,15 +246,16 @@ pub fn loops_of(crossed: u32, corners: [u16; 8], cut: Cut) -> Loops
     let links = links_of(corners, cut, crossed);
     let mut left = crossed;
     let mut masks: [u32; 4] = [0; 4];
-    let mut n: usize = 0;
-    while n < 4 && left != 0 {
+    for n in 0..4 {
+        if left == 0 {
+            return Loops {
+                count: n as u32,
+                masks,
+            };
+        }
         let l = loop_from(links, left);
         masks[n] = l;
-        left = left ^ l;
-        n += 1;
+        left ^= l;
     }
-    Loops {
-        count: n as u32,
-        masks: masks,
-    }
+    Loops { count: 4, masks }
 }

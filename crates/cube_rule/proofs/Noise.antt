@@ -39,7 +39,7 @@ no_noise t p q r s = ap₂ (cond (leb t p)) (plain (d q *ℤ d s) (d p *ℤ d r)
 
 -- ---- a doubtful face by its two products: bd, that of the sizes at the negative corners, and ac, that at the positive ones
 
--- A-as-C is B-as-D
+-- A·C is B·D
 abbrev pub Tie : (t p q r s : ℕ) → Type 0
 Tie t p q r s = difference_of (cut_of t 0) p *ℤ difference_of (cut_of t 0) r ≡ difference_of (cut_of t 0) q *ℤ difference_of (cut_of t 0) s
 

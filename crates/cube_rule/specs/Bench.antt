@@ -36,7 +36,7 @@ expected =
 abbrev pub found : List (List ℕ)
 found = map (loops_of hundred) cubes
 
--- Noise figures that just join, and that just part. The face z=0 decides each of these cubes: A-as-C is B-as-D at a tie of 10,000; 37,500 more than B-as-D; and 4,294,705,155 more,
+-- Noise figures that just join, and that just part. The face z=0 decides each of these cubes: A·C is B·D at a tie of 10,000; 37,500 more than B·D; and 4,294,705,155 more,
 -- which no face exceeds. The cubes in the second and fourth line are those before with a negative first corner.
 abbrev pub noisy_found : List (List ℕ)
 noisy_found =

@@ -91,10 +91,7 @@ fn put_four(
     ensures words_after { words.new ≡ sets words.old (2 * v) (pairs c (take n four)) }
     ensures offsets_after { offsets.new ≡ sets offsets.old (3 * v) (triples (take n places)) }
 {
-    let mut i: usize = 0;
-    while i < n {
-        let o = places[i];
-        put_vertex(words, offsets, v + i, c, four[i], o);
-        i += 1;
+    for i in 0..n {
+        put_vertex(words, offsets, v + i, c, four[i], places[i]);
     }
 }

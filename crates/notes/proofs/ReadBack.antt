@@ -6,15 +6,14 @@ use mathlib.Core.Logic.{◌⊎◌, inl, inr}
 use mathlib.Core.Bool.{Bool, true, false, true≢false, cond, not, ◌&&◌, ◌||◌}
 use mathlib.Core.List.{List, [], ◌∷◌}
 use native.Mathlib.Omega.{arith}
-use borrow.Author.Tests.{eq-eqb, ne_eqb, lt-ltb, le-ltb, le-leb, lt-leb}
-use lib.Dec.{ltb, leb, eqb}
+use borrow.Author.Tests.{eq-eqb, ne_eqb, lt-ltb, le-ltb, le-leb}
+use lib.Dec.{ltb, eqb}
 use lib.ListN.{length, get_or, get_or-eq_default}
 use lib.Seq.{sets}
 use Rattle.laws.specs.Below.{below}
 use Rattle.laws.proofs.Below.{length-below, split}
-use Rattle.laws.proofs.Stores.{sets_length}
 use Rattle.laws.proofs.Tests.{lt_or_ge}
-use Rattle.notes.specs.Tables.{which_of, Numbered, word_for, is_first, four_for, RowOf, in_row, noted_vertex, noted_from, RowNoted}
+use Rattle.notes.specs.Tables.{which_of, Numbered, word_for, is_first, four_for, RowOf, in_row, noted_vertex, noted_from}
 use Rattle.notes.proofs.Notes.{OneNoted, one_noted}
 
 and_not : (a : Bool) {b : Bool} → b ≡ false → (a && b) ≡ false
@@ -130,11 +129,6 @@ module _ {f : ℕ → List ℕ} {m c from : ℕ} {part : List ℕ} (row : RowOf 
 
 -- ---- the vertices passed
 
--- the table keeps its length
-pub kept_length : (b : Bool) (at at' : List ℕ) (i : ℕ) (xs : List ℕ) → at' ≡ cond b (sets at i xs) at → length at' ≡ length at
-kept_length true at at' i xs e = sets_length at i at' xs e
-kept_length false at at' i xs e = ap length e
-
 -- the cubes whose first vertex is before v are noted
 pub record Passed (f : ℕ → List ℕ) (m from first v : ℕ) (at : List ℕ) : Type 0 where
   pub in_row_lem : v ≤ from + length (below f m)
@@ -159,8 +153,8 @@ module _ {f : ℕ → List ℕ} {m c from first v : ℕ} {part at : List ℕ} (r
     },
   )
 
-  pub in_part : (d : ℕ) → d ≡ get_or part (2 * v) 0 → 2 * v + 1 < length part → (d < c) ⊎ (c + m ≤ d) → from + length (below f m) ≤ v
-  in_part d e inside out = go (lt_or_ge v (from + length (below f m)))
+  pub in_part : 2 * v + 1 < length part → (get_or part (2 * v) 0 < c) ⊎ (c + m ≤ get_or part (2 * v) 0) → from + length (below f m) ≤ v
+  in_part inside out = go (lt_or_ge v (from + length (below f m)))
     where
       go : (v < from + length (below f m)) ⊎ (from + length (below f m) ≤ v) → from + length (below f m) ≤ v
       go (inr g) = g
@@ -169,16 +163,13 @@ module _ {f : ℕ → List ℕ} {m c from first v : ℕ} {part at : List ℕ} (r
           p : Place f m from v
           p = place_of_lem f m from v low l
 
-          clash : (d < c) ⊎ (c + m ≤ d) → ⊥
-          clash (inl a) = omega (arith, e, number_of row p, p.cube_lt)
-          clash (inr b) = omega (arith, e, number_of row p, p.cube_lt)
-
-  pub not_before : (d : ℕ) → d ≡ get_or part (2 * v) 0 → 2 * v + 1 < length part → d < c → ⊥
-  not_before d e inside h = omega (arith, e, row.later v (in_part d e inside (inl h)) inside)
+          clash : (get_or part (2 * v) 0 < c) ⊎ (c + m ≤ get_or part (2 * v) 0) → ⊥
+          clash (inl a) = omega (arith, number_of row p, p.cube_lt)
+          clash (inr b) = omega (arith, number_of row p, p.cube_lt)
 
   -- one vertex more
-  module _ (d : ℕ) (e : d ≡ get_or part (2 * v) 0) (inside : 2 * v + 1 < length part) (ge : c ≤ d) (lt : d - c < m) (at' : List ℕ) (room : length at ≡ 512) (small : m ≤ 256)
-      (is : at' ≡ cond (is_first part from v) (sets at (2 * (d - c)) ((first + v) ∷ which_of (four_for part v) ∷ [])) at) where
+  module _ (inside : 2 * v + 1 < length part) (ge : c ≤ get_or part (2 * v) 0) (lt : get_or part (2 * v) 0 - c < m) (at' : List ℕ) (room : length at ≡ 512) (small : m ≤ 256)
+      (is : at' ≡ cond (is_first part from v) (sets at (2 * (get_or part (2 * v) 0 - c)) ((first + v) ∷ which_of (four_for part v) ∷ [])) at) where
     short : v < from + length (below f m)
     short = go (lt_or_ge v (from + length (below f m)))
       where
@@ -189,8 +180,8 @@ module _ {f : ℕ → List ℕ} {m c from first v : ℕ} {part at : List ℕ} (r
     p : Place f m from v
     p = place_of_lem f m from v low short
 
-    cube_is : d - c ≡ p.cube
-    cube_is = omega (arith, e, number_of row p)
+    cube_is : get_or part (2 * v) 0 - c ≡ p.cube
+    cube_is = omega (arith, number_of row p)
 
     -- a cube whose first vertex is before v is no later one, and if it is v's own, v is not its first
     earlier : (y : ℕ) → y < m → 0 < length (f y) → from + length (below f y) < v → (y < p.cube) ⊎ (0 < p.nth)
@@ -220,13 +211,13 @@ module _ {f : ℕ → List ℕ} {m c from first v : ℕ} {part at : List ℕ} (r
             same q r = omega arith
 
     unnoted : 0 < p.nth → at' ≡ at
-    unnoted h = is ∙ ap (λ (b : Bool). cond b (sets at (2 * (d - c)) ((first + v) ∷ which_of (four_for part v) ∷ [])) at) (first_false row p h)
+    unnoted h = is ∙ ap (λ (b : Bool). cond b (sets at (2 * (get_or part (2 * v) 0 - c)) ((first + v) ∷ which_of (four_for part v) ∷ [])) at) (first_false row p h)
 
     noted : p.nth ≡ 0 → OneNoted (f p.cube) p.cube (first + v) at at'
     noted h =
         one_noted (f p.cube) p.cube (first + v) at at'
         (is
-        ∙ ap (λ (b : Bool). cond b (sets at (2 * (d - c)) ((first + v) ∷ which_of (four_for part v) ∷ [])) at) (first_true row p h)
+        ∙ ap (λ (b : Bool). cond b (sets at (2 * (get_or part (2 * v) 0 - c)) ((first + v) ∷ which_of (four_for part v) ∷ [])) at) (first_true row p h)
         ∙ ap₂ (λ (z w : ℕ). sets at (2 * z) ((first + v) ∷ w ∷ [])) cube_is (which_is row p h))
         (omega (arith, p.cube_lt))
 
@@ -281,49 +272,31 @@ noted_none m c from first part old = record {
     none = omega arith
 
 module _ {m c from first v : ℕ} {part old at : List ℕ} (s : NotedTo m c from first part old v at) (low : from ≤ v) where
-  -- the end: v is not of the row
-  noted_end : in_row part c m v ≡ false → RowNoted m c from first part old at v
-  noted_end h = record { behind = low; each = s.each; last = h; noted = s.noted }
+  -- one vertex more
+  module _ (inside : 2 * v + 1 < length part) (ge : c ≤ get_or part (2 * v) 0) (lt : get_or part (2 * v) 0 - c < m) (at' : List ℕ)
+      (is : at' ≡ cond (is_first part from v) (sets at (2 * (get_or part (2 * v) 0 - c)) ((first + v) ∷ which_of (four_for part v) ∷ [])) at) where
+    here : in_row part c m v ≡ true
+    here = ap₂ (λ (a b : Bool). a && b) (lt-ltb _ _ inside) (ap₂ (λ (a b : Bool). a && b) (le-leb c (get_or part (2 * v) 0) ge) (lt-ltb (get_or part (2 * v) 0) (c + m) (omega arith)))
 
-  pub noted_all : length part ≤ 2 * v + 1 → RowNoted m c from first part old at v
-  noted_all h = noted_end (ap (λ (b : Bool). b && (leb c (get_or part (2 * v) 0) && ltb (get_or part (2 * v) 0) (c + m))) (le-ltb _ _ h))
+    more : at' ≡ noted_from part from first c (suc (v - from)) old
+    unfolding noted_from
+    more = is ∙ ap₂ (λ (u : ℕ) (w : List ℕ). noted_vertex part from first c u w) place s.noted
+      where
+        place : v ≡ from + (v - from)
+        place = omega arith
 
-  -- of the cube d
-  module _ (d : ℕ) (e : d ≡ get_or part (2 * v) 0) where
-    pub noted_before : d < c → RowNoted m c from first part old at v
-    noted_before h = noted_end (and_not (ltb (2 * v + 1) (length part)) (ap (λ (b : Bool). b && ltb (get_or part (2 * v) 0) (c + m)) (lt-leb c (get_or part (2 * v) 0) (omega (arith, e)))))
+    pub noted_more : NotedTo m c from first part old (v + 1) at'
+    noted_more = record {
+      each = λ u l h. go u l h (lt_or_ge u v);
+      noted = more ∙ ap (λ (n : ℕ). noted_from part from first c n old) next;
+    }
+      where
+        next : suc (v - from) ≡ v + 1 - from
+        next = omega arith
 
-    pub noted_behind : c + m ≤ d → RowNoted m c from first part old at v
-    noted_behind h = noted_end (and_not (ltb (2 * v + 1) (length part)) (and_not (leb c (get_or part (2 * v) 0)) (le-ltb (get_or part (2 * v) 0) (c + m) (omega (arith, e)))))
+        same : {u : ℕ} → u < v + 1 → v ≤ u → v ≡ u
+        same h g = omega arith
 
-    -- one vertex more
-    module _ (inside : 2 * v + 1 < length part) (ge : c ≤ d) (lt : d - c < m) (at' : List ℕ)
-        (is : at' ≡ cond (is_first part from v) (sets at (2 * (d - c)) ((first + v) ∷ which_of (four_for part v) ∷ [])) at) where
-      here : in_row part c m v ≡ true
-      here = ap₂ (λ (a b : Bool). a && b) (lt-ltb _ _ inside) (ap₂ (λ (a b : Bool). a && b) (le-leb c (get_or part (2 * v) 0) (omega (arith, e))) (lt-ltb (get_or part (2 * v) 0) (c + m) (omega (arith, e))))
-
-      more : at' ≡ noted_from part from first c (suc (v - from)) old
-      unfolding noted_from
-      more =
-          is
-          ∙ ap (λ (q : ℕ). cond (is_first part from v) (sets at (2 * (q - c)) ((first + v) ∷ which_of (four_for part v) ∷ [])) at) e
-          ∙ ap₂ (λ (u : ℕ) (w : List ℕ). noted_vertex part from first c u w) place s.noted
-        where
-          place : v ≡ from + (v - from)
-          place = omega arith
-
-      pub noted_more : NotedTo m c from first part old (v + 1) at'
-      noted_more = record {
-        each = λ u l h. go u l h (lt_or_ge u v);
-        noted = more ∙ ap (λ (n : ℕ). noted_from part from first c n old) next;
-      }
-        where
-          next : suc (v - from) ≡ v + 1 - from
-          next = omega arith
-
-          same : {u : ℕ} → u < v + 1 → v ≤ u → v ≡ u
-          same h g = omega arith
-
-          go : (u : ℕ) → from ≤ u → u < v + 1 → (u < v) ⊎ (v ≤ u) → in_row part c m u ≡ true
-          go u l h (inl a) = s.each u l a
-          go u l h (inr g) = subst (λ (z : ℕ). in_row part c m z ≡ true) (same h g) here
+        go : (u : ℕ) → from ≤ u → u < v + 1 → (u < v) ⊎ (v ≤ u) → in_row part c m u ≡ true
+        go u l h (inl a) = s.each u l a
+        go u l h (inr g) = subst (λ (z : ℕ). in_row part c m z ≡ true) (same h g) here

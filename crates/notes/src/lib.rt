@@ -15,6 +15,7 @@ pub fn note(numbers: &mut [u32], x: usize, v: u32, which: u32)
 }
 
 // Which of a cube's four vertices each edge has, by their words: two bits an edge.
+#[tactic(auto, unfolding(crate::specs::Tables::which_of))]
 pub fn which_of(four: [u32; 4]) -> u32
     ensures { result ≡ which_of four }
 {
@@ -35,19 +36,15 @@ pub fn note_row(
     ensures row_read { RowRead m c from first part.now numbers.new result }
     ensures row_noted { RowNoted m c from first part.now numbers.old numbers.new result }
 {
-    let mut v = from;
-    while 2 * v + 1 < part.len() {
-        let d = wide(part[2 * v]);
-        if d < c {
-            return v;
-        }
-        if d - c >= m {
+    let end = part.len() / 2;
+    for v in from..end {
+        let d = part[2 * v] as usize;
+        if d < c || m <= d - c {
             return v;
         }
         note_vertex(part, from, first, v, d - c, numbers);
-        v += 1;
     }
-    v
+    end
 }
 
 // Notes the cube x of the vertex v of a part, if it is the first of its cube; the part's vertex 0 has the number `first`.
@@ -59,11 +56,13 @@ fn note_vertex(part: &[u32], from: usize, first: usize, v: usize, x: usize, numb
         return;
     }
     let d = part[2 * v];
-    let w0 = word_for(part, d, v);
-    let w1 = word_for(part, d, v + 1);
-    let w2 = word_for(part, d, v + 2);
-    let w3 = word_for(part, d, v + 3);
-    note(numbers, x, (first + v) as u32, which_of([w0, w1, w2, w3]));
+    let four = [
+        word_for(part, d, v),
+        word_for(part, d, v + 1),
+        word_for(part, d, v + 2),
+        word_for(part, d, v + 3),
+    ];
+    note(numbers, x, (first + v) as u32, which_of(four));
 }
 
 // Whether the vertex v is the first of its cube, from the vertex `from` on.
@@ -71,10 +70,7 @@ fn is_first(part: &[u32], from: usize, v: usize) -> bool
     requires { (from ≤ v) × (2 * v + 1 < length part.now) }
     ensures { result ≡ is_first part.now from v }
 {
-    if v == from {
-        return true;
-    }
-    part[2 * v - 2] != part[2 * v]
+    v == from || part[2 * v - 2] != part[2 * v]
 }
 
 // The word of the vertex v of a part of the words buffer if it is of the cube d, else 0.
@@ -82,16 +78,9 @@ fn word_for(part: &[u32], d: u32, v: usize) -> u32
     requires { v ≤ 4294967300 }
     ensures { result ≡ word_for part.now d v }
 {
-    if 2 * v + 1 < part.len() {
-        if part[2 * v] == d {
-            return part[2 * v + 1];
-        }
+    if 2 * v + 1 < part.len() && part[2 * v] == d {
+        part[2 * v + 1]
+    } else {
+        0
     }
-    0
-}
-
-fn wide(x: u32) -> usize
-    ensures { result ≡ x }
-{
-    x as usize
 }

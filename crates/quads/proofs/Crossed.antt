@@ -1,9 +1,8 @@
 -- The words of the crossed inner edges: the code's word from word w of row j has bit i set if the edge from sample 64 w + i is inner and
 -- crossed.
 -- Assumes nothing.
-use Rattle.std.proofs.Common.{◌≡◌, ℕ, ◌+◌, ◌-◌, ◌*◌, ◌<◌, ◌≤◌, Bool, true, false, ◌&&◌, ltb, List, sym, refl, ap, ◌∙◌, arith, ltb-true, le-ltb, lt-ltb}
+use Rattle.std.proofs.Common.{◌≡◌, ℕ, ◌+◌, ◌*◌, ◌<◌, ◌≤◌, Bool, true, false, ◌&&◌, ltb, List, sym, refl, ap, ◌∙◌, arith, ltb-true, le-ltb, lt-ltb}
 use mathlib.Core.Bool.{and-true, and-false}
-use lib.Bits.{bit_and}
 use Rattle.laws.specs.Bits.{bit}
 use Rattle.laws.proofs.Bits.{bit_le}
 use Rattle.laws.proofs.Words.{Word, word_same, word_xor, word_bit}
@@ -15,7 +14,6 @@ use Rattle.block.specs.Size.{Limits}
 use Rattle.mesh_rule.specs.Grid.{between, inner, crossed_from}
 use Rattle.mesh_rule.proofs.Inner.{Mid, mid_between}
 use Rattle.signs.specs.Signs.{Plane}
-use Rattle.planes.specs.Planes.{along_x, along_y, along_z, limit_of, inner_of}
 use Rattle.planes.proofs.Edges.{along_y_is, along_z_is, along_x_word}
 use Rattle.planes.proofs.Masks.{word_inner, below_last, not_between}
 use Rattle.signs.proofs.Planes.{word_at, next_word}
@@ -87,19 +85,6 @@ module _ (n : Size) (s : List ℕ) (cut : Cut) (k : ℕ) (a : List ℕ) (l : Lim
   planes_z b high p q = record { limits = l; in_z = high; lower = p; room = q.room; upper = λ e. q }
 
 -- ---- the words
-
-module _ (along : Along) (a b : List ℕ) (nx j w d m : ℕ) where
-  pub edges_x : along ≡ AxisX → d ≡ along_x a (5 * j + w) → m ≡ limit_of (nx - 1) w → bit_and d m ≡ edges_of along a b nx j w
-  unfolding edges_of
-  edges_x e ed em = rw (e, ed, em)
-
-  pub edges_y : along ≡ AxisY → d ≡ along_y a (5 * j + w) → m ≡ inner_of nx w → bit_and d m ≡ edges_of along a b nx j w
-  unfolding edges_of
-  edges_y e ed em = rw (e, ed, em)
-
-  pub edges_z : along ≡ AxisZ → d ≡ along_z a b (5 * j + w) → m ≡ inner_of nx w → bit_and d m ≡ edges_of along a b nx j w
-  unfolding edges_of
-  edges_z e ed em = rw (e, ed, em)
 
 pub edges_word : (n : Size) (s : List ℕ) (cut : Cut) (along : Along) (k : ℕ) (a b : List ℕ) (j w : ℕ)
     → Planes n s cut (along_axis along) k a b → RowIn n along j → w < 4

@@ -1,6 +1,6 @@
 -- Lists written one behind the other into a buffer.
 -- Assumes nothing.
-use Rattle.std.proofs.Common.{◌≡◌, ℕ, ◌+◌, ◌-◌, ◌<◌, ◌≤◌, eqb, List, [], ◌∷◌, length, sym, ap, arith}
+use Rattle.std.proofs.Common.{◌≡◌, ℕ, ◌+◌, ◌<◌, ◌≤◌, List, length, sym, ap, arith}
 use lib.Seq.{sets}
 use lib.Count.{count_trailing_zeros}
 use Rattle.laws.specs.Below.{below}
@@ -8,19 +8,8 @@ use Rattle.laws.proofs.Below.{length-below}
 use Rattle.laws.specs.Put.{Put}
 use Rattle.laws.proofs.Puts.{put_none, put_length, put_further, put_then, put_as}
 use Rattle.laws.proofs.Visit.{Left, below_none, below_one}
-use Rattle.mesh_rule.specs.Mesh.{quad, turned, flat}
 use Rattle.rows.specs.Rows.{picked}
-use Rattle.notes.specs.Tables.{vertex_in}
 use Rattle.rows.proofs.Visits.{bits_of, picked_next, picked_end, picked_room}
-use Rattle.quads.specs.Writing.{quad_by}
-
--- ---- the quad of an edge, by its four numbers
-
-pub edge_wrote : (e back sign : ℕ) (n0 n1 n2 n3 : List ℕ) (up x from : ℕ) (b : List ℕ) {v0 v1 v2 v3 : ℕ} {w : List ℕ}
-    → v0 ≡ vertex_in n0 (x - back) (e + 3) → v1 ≡ vertex_in n1 x (e + 2) → v2 ≡ vertex_in n2 x e → v3 ≡ vertex_in n3 (x - back) (e + 1)
-    → w ≡ sets b from (flat (turned (eqb up sign) (quad v0 v1 v2 v3) ∷ [])) → w ≡ sets b from (quad_by e back sign n0 n1 n2 n3 up x)
-unfolding quad_by
-edge_wrote e back sign n0 n1 n2 n3 up x from b e0 e1 e2 e3 h = rw (← e0, ← e1, ← e2, ← e3) h
 
 -- ---- the quads of 64 edges, one for each set bit
 

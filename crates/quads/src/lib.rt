@@ -53,6 +53,7 @@ struct Edge {
 }
 
 // The crossed inner edges from word w of row j.
+#[tactic(auto, unfolding(crate::specs::Edges::edges_of))]
 fn edges(along: Along, a: &[u64], b: &[u64], nx: usize, j: usize, w: usize) -> u64
     requires { (0 < nx) × (w < 4) × (j < 255) × (length a.now ≡ 1280) × (length b.now ≡ 1280) }
     ensures { result ≡ edges_of along a.now b.now nx j w }
@@ -67,17 +68,15 @@ fn edges(along: Along, a: &[u64], b: &[u64], nx: usize, j: usize, w: usize) -> u
 
 // How many crossed inner edges start from row j of a plane: `a` holds the signs of the plane, `b` those of the plane above where the edges run
 // along z.
+#[tactic(auto, using(laws::proofs::Sums::total_none, laws::proofs::Sums::total_one))]
 pub fn count_row(along: Along, a: &[u64], b: &[u64], nx: usize, j: usize) -> usize
     requires { (0 < nx) × (nx ≤ 256) × (j < 255) × (length a.now ≡ 1280) × (length b.now ≡ 1280) }
     ensures value { result ≡ edge_count along a.now b.now nx j }
     ensures upper_bound { result ≤ 256 }
 {
     let mut m: usize = 0;
-    let mut w: usize = 0;
-    while 64 * w < nx {
-        let d = edges(along, a, b, nx, j, w);
-        m += planes::ones_of(d);
-        w += 1;
+    for w in 0..nx.div_ceil(64) {
+        m += planes::ones_of(edges(along, a, b, nx, j, w));
     }
     m
 }
@@ -100,16 +99,18 @@ fn put_quad(quads: &mut [u32], from: usize, positive: bool, v0: u32, v1: u32, v2
 }
 
 // The number of the vertex of the cube x at the edge e, by the row's table.
+#[tactic(auto, unfolding(notes::specs::Tables::vertex_in))]
 fn number(numbers: &[u32], x: usize, e: u32) -> u32
     requires { (2 * x + 2 ≤ length numbers.now) × (e < 16) }
     ensures { result ≡ vertex_in numbers.now x e }
 {
     let w = numbers[2 * x + 1];
     let which = (w % 65536 >> e) % 2 + 2 * ((w / 65536 >> e) % 2);
-    std::num::wrapping_add_u32(numbers[2 * x], which)
+    numbers[2 * x].wrapping_add(which)
 }
 
 // Writes the quad of an edge by the tables of the four rows of cubes round it.
+#[tactic(auto, unfolding(crate::specs::Writing::quad_by))]
 fn put_edge(
     order: Order,
     edge: Edge,
@@ -149,8 +150,9 @@ fn emit(
     let mut w = run.d;
     let mut i: usize = 0;
     let mut p = from;
+    // (A while: the step is the next set bit, not one more.)
     while w != 0 {
-        let k = u64::trailing_zeros(w) as usize;
+        let k = w.trailing_zeros() as usize;
         let y = i + k;
         let edge = Edge {
             up: (run.up >> y) % 2,
@@ -203,21 +205,16 @@ pub fn write_row(
     requires { (2 ≤ line.nx) × (line.nx ≤ 256) × (line.j < 255) × (length a.now ≡ 1280) × (length b.now ≡ 1280) × Tables line.nx n0.now n1.now n2.now n3.now × (line.from + length (row_by line.along a.now b.now line.nx line.j n0.now n1.now n2.now n3.now) ≤ length quads.old) }
     ensures { Put quads.old line.from (row_by line.along a.now b.now line.nx line.j n0.now n1.now n2.now n3.now) quads.new result }
 {
-    let along = line.along;
-    let nx = line.nx;
-    let j = line.j;
+    let Line { along, nx, j, from } = line;
     let order = order_of(along);
-    let mut w: usize = 0;
-    let mut p = line.from;
-    while 64 * w < nx {
-        let d = edges(along, a, b, nx, j, w);
+    let mut p = from;
+    for w in 0..nx.div_ceil(64) {
         let run = Run {
-            d,
+            d: edges(along, a, b, nx, j, w),
             up: a[5 * j + w],
             x: 64 * w,
         };
         p = emit(order, run, n0, n1, n2, n3, quads, p);
-        w += 1;
     }
     p
 }

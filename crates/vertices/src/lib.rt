@@ -26,9 +26,8 @@ pub fn write_row(
     ensures { RowWritten loops_of lo.now hi.now row.cut row.nx row.c row.first v words.old words.new offsets.old offsets.new numbers.old numbers.new result }
 {
     let cubes = row.nx - 1;
-    let mut w: usize = 0;
     let mut m = v;
-    while 64 * w < cubes {
+    for w in 0..cubes.div_ceil(64) {
         let e = planes::eight(a, b, 5 * row.j + w);
         let act = planes::active(e) & planes::limit(cubes, w);
         let spot = Spot {
@@ -38,7 +37,6 @@ pub fn write_row(
             first: row.first,
         };
         m = write_word(row, lo, hi, spot, e, act, words, offsets, numbers);
-        w += 1;
     }
     m
 }
@@ -65,8 +63,9 @@ fn write_word(
     let mut w = act;
     let mut i: usize = 0;
     let mut m = spot.v;
+    // (A while: the step is the next set bit, not one more.)
     while w != 0 {
-        let k = u64::trailing_zeros(w) as usize;
+        let k = w.trailing_zeros() as usize;
         let x = i + k;
         let cs = rows::corners(lo, hi, row.nx, spot.x + x);
         let crossed = cube::crossed_edges(planes::pattern_at(e, x));

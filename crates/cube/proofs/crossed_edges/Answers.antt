@@ -1,12 +1,7 @@
 -- `cube::crossed_edges` meets its contract: what it works out is what the definition has at each of the 256 sign patterns.
 -- Assumes nothing.
-use Rattle.cube.proofs.Crossed.{crossed_lt, worked_is}
+use Rattle.cube.proofs.Crossed.{worked_is}
 use Rattle.cube.proofs.crossed_edges.Goals as goal
 
 pub returns-clause-value : goal.returns-clause-value
-returns-clause-value c =
-    let e = worked_is c.args.p c.requires in e
-
-pub returns-clause-upper_bound : goal.returns-clause-upper_bound
-returns-clause-upper_bound c =
-    let e = worked_is c.args.p c.requires in rw e (crossed_lt c.args.p)
+returns-clause-value c = let e = worked_is c.args.p c.requires in e

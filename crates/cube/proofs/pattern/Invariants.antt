@@ -1,9 +1,6 @@
 -- `cube::pattern` meets its contract. The loop's invariant: `p` is the mask of the positive corners below `c`.
--- The measure is what is left of the eight. Assumes nothing.
-use mathlib.Core.Path.{◌≡◌}
-use mathlib.Core.Bool.{Bool}
-use mathlib.Core.List.{List}
-use Prim.Native.Nat.{ℕ, ◌-◌, ◌≤◌}
+-- Assumes nothing.
+use Rattle.std.proofs.Common.{◌≡◌, ℕ, Bool, List}
 use Rattle.laws.specs.Bits.{mask_of}
 use Rattle.block.specs.declared.Cut.{Cut}
 use Rattle.block.specs.Grey.{positive}
@@ -14,7 +11,4 @@ abbrev pub signs : Cut → List ℕ → ℕ → Bool
 signs cut corners c = positive cut (corner_sample corners c)
 
 abbrev pub invariant-loop-c : goal.invariant-loop-c
-invariant-loop-c l = (l.c ≤ 8) × (l.p ≡ mask_of (signs l.cut l.corners) l.c)
-
-abbrev pub decreases-loop-c : goal.decreases-loop-c
-decreases-loop-c l = 8 - l.c
+invariant-loop-c l = l.p ≡ mask_of (signs l.cut l.fn.corners) l.c

@@ -1,11 +1,13 @@
--- `put_four` meets its contract. The loop's invariant: the first i words and places are written. The measure is what is left of n.
+-- `put_four` meets its contract. The loop's invariant: the first i words and places are written.
 -- Assumes nothing.
-use Prim.Native.Nat.{◌-◌, ◌≤◌}
-use Rattle.cube_vertices.proofs.Stored.{FirstPut}
+use Rattle.std.proofs.Common.{◌≡◌, ◌*◌, take}
+use Rattle.std.proofs.lemmas.List.Edits.{sets}
+use Rattle.mesh_rule.specs.Buffers.{triples}
+use Rattle.mesh_rule.specs.Layers.{pairs}
 use Rattle.cube_vertices.proofs.put_four.Given as goal
 
 abbrev pub invariant-loop-i : goal.invariant-loop-i
-invariant-loop-i l = (l.i ≤ l.n) × FirstPut l.v l.c l.i l.four l.places l.initial.words l.words l.initial.offsets l.offsets
-
-abbrev pub decreases-loop-i : goal.decreases-loop-i
-decreases-loop-i l = l.n - l.i
+invariant-loop-i l = record {
+  words_are : l.words ≡ sets l.initial.words (2 * l.v) (pairs l.c (take l.i l.four));
+  offsets_are : l.offsets ≡ sets l.initial.offsets (3 * l.v) (triples (take l.i l.places));
+}

@@ -17,7 +17,10 @@ abbrev pub quad_of : Order → Run → List ℕ → List ℕ → List ℕ → Li
 quad_of o r n0 n1 n2 n3 i = quad_by o.e o.back o.sign n0 n1 n2 n3 (r.up / 2 ^ i % 2) (r.x + i)
 
 abbrev pub invariant-loop-w : goal.invariant-loop-w
-invariant-loop-w l = Left (bits_of l.run.d) 64 l.i l.w × Put l.initial.quads l.from (below (picked l.run.d (quad_of l.order l.run l.n0 l.n1 l.n2 l.n3)) l.i) l.quads l.p
+invariant-loop-w l = record {
+  left : Left (bits_of l.run.d) 64 l.i l.w;
+  written : Put l.initial.quads l.from (below (picked l.run.d (quad_of l.order l.run l.n0 l.n1 l.n2 l.n3)) l.i) l.quads l.p;
+}
 
 abbrev pub decreases-loop-w : goal.decreases-loop-w
 decreases-loop-w l = 64 - l.i

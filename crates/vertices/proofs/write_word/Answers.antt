@@ -1,5 +1,4 @@
--- `write_word` meets its contract. The loop's invariant: w holds the bits from i on, and the vertices of the cubes before i that are picked
--- are stored and noted. The measure is what is left of the 64 bits.
+-- `write_word` meets its contract.
 -- Assumes nothing.
 use Prim.Native.Nat.{ℕ, ◌+◌, ◌*◌, ◌≤◌, ◌<◌}
 use mathlib.Core.Path.{◌≡◌, ap, sym, ◌∙◌}
@@ -10,16 +9,14 @@ use lib.Count.{count_trailing_zeros}
 use lib.ListN.{length}
 use Rattle.cube_rule.specs.Edges.{pattern_of, crossed_mask}
 use Rattle.signs.specs.Windows.{window_corners}
-use Rattle.laws.specs.Below.{below}
 use Rattle.laws.specs.Bits.{holds}
 use Rattle.laws.proofs.Visit.{left_next}
-use Rattle.rows.specs.Rows.{picked}
 use Rattle.rows.proofs.Visits.{visit_start, visit_set, visit_in, picked_room}
 use Rattle.vertices.proofs.Writes.{stored_start, stored_next, stored_end, words_next, offsets_next, noted_next, noted_end, active_names}
 use Rattle.notes.proofs.Notes.{one_noted, noted_none}
 use Rattle.cube_vertices.proofs.Cubes.{written_as}
 use Rattle.vertices.proofs.write_word.Invariants.{loops, names, words, offsets}
-use Rattle.vertices.proofs.write_word.Goals.{In-loop-w, After-write_cube-arg-1}
+use Rattle.vertices.proofs.write_word.Goals.{In-loop-w, After-crossed_edges-crossed}
 use Rattle.vertices.proofs.write_word.Goals as goal
 
 -- the next bit that is set is one of the word's, so its cube has samples
@@ -27,24 +24,25 @@ abbrev next : In-loop-w → ℕ
 next c = c.loop-w.i + count_trailing_zeros 64 c.loop-w.w
 
 inside : (c : In-loop-w) → next c < 64
-inside c = visit_in _ c.loop-w.invariant.0 c.loop-w-test.true
+inside c = visit_in _ c.loop-w.invariant.left c.loop-w-test.true
 
 set_here : (c : In-loop-w) → holds c.args.act (next c) ≡ true
-set_here c = visit_set _ c.loop-w.invariant.0 c.loop-w-test.true
+set_here c = visit_set _ c.loop-w.invariant.left c.loop-w-test.true
 
 low_in : (c : In-loop-w) → c.args.spot.x + next c + 1 + c.args.row.nx < length c.args.lo.now
 low_in c = c.requires.0.low_in _ (inside c) (set_here c)
 
 numbers_room : (c : In-loop-w) → 2 * (c.args.spot.x + next c) + 2 ≤ length c.loop-w.numbers
-numbers_room c = omega (arith, c.requires.1.numbers_room _ (inside c) (set_here c), c.loop-w.invariant.2.long)
+numbers_room c = omega (arith, c.requires.1.numbers_room _ (inside c) (set_here c), c.loop-w.invariant.noted.long)
 
 -- its crossed edges are those of its samples
-crossed_here : (c : After-write_cube-arg-1)
+crossed_here : (c : After-crossed_edges-crossed)
     → let a = c.args in
     c.crossed_edges-crossed.result ≡ crossed_mask (pattern_of a.row.cut (window_corners a.row.nx a.lo.now a.hi.now (a.spot.x + (c.loop-w.i + count_trailing_zeros 64 c.loop-w.w))))
 crossed_here c =
-    let l = (goal.at.overflow_shr-one c).In-loop-w in
-    c.crossed_edges-crossed.ensures.value ∙ ap crossed_mask (c.pattern_at.ensures.value ∙ c.requires.0.signs _ (inside l) (set_here l))
+    let left = c.loop-w.invariant.left in
+    let ne = c.loop-w-test.true in
+    c.crossed_edges-crossed.ensures.value ∙ ap crossed_mask (c.pattern_at.ensures.value ∙ c.requires.0.signs _ (visit_in _ left ne) (visit_set _ left ne))
 
 pub returns-then-act-eq0 : goal.returns-then-act-eq0
 returns-then-act-eq0 c =
@@ -58,7 +56,7 @@ returns-then-act-eq0 c =
     }
 
 pub loop-w-init : goal.loop-w-init
-loop-w-init c = (visit_start _ c.ranges.act.fits, stored_start _ _ _ _ _ _ _, noted_none _ _ _ _ _)
+loop-w-init c = record { left = visit_start _ c.ranges.act.fits; stored = stored_start _ _ _ _ _ _ _; noted = noted_none _ _ _ _ _ }
 
 pub overflow_add-spot : goal.overflow_add-spot
 overflow_add-spot c = omega (arith, low_in (goal.at.overflow_add-spot c).In-loop-w)
@@ -74,21 +72,14 @@ pattern_at-requires c = inside (goal.at.pattern_at-requires c).In-loop-w
 pub overflow_add-here : goal.overflow_add-here
 overflow_add-here c = omega (arith, low_in (goal.at.overflow_add-here c).In-loop-w)
 
-pub overflow_add-here-in-loop-w : goal.overflow_add-here-in-loop-w
-overflow_add-here-in-loop-w c = omega (arith, inside (goal.at.overflow_add-here-in-loop-w c).In-loop-w, c.requires.1.small)
-
 pub overflow_shr-one : goal.overflow_shr-one
 overflow_shr-one c = omega (arith, inside (goal.at.overflow_shr-one c).In-loop-w)
 
 pub write_cube-m-requires : goal.write_cube-m-requires
 write_cube-m-requires c =
-    let a = c.args in
-    let loops_here = loops a.lo.now a.hi.now a.row a.spot in
-    let words_here = words a.lo.now a.hi.now a.row a.spot in
-    let offsets_here = offsets a.lo.now a.hi.now a.row a.spot in
     let l = (goal.at.write_cube-m-requires c).In-loop-w in
-    let crossed = crossed_here (goal.at.write_cube-m-requires c).After-write_cube-arg-1 in
-    let h = c.loop-w in
+    let crossed = crossed_here (goal.at.write_cube-m-requires c).After-crossed_edges-crossed in
+    let h = c.loop-w.invariant in
     let ne = c.loop-w-test.true in
     let r = c.requires.1 in (
       record {
@@ -97,10 +88,10 @@ write_cube-m-requires c =
       },
       record {
         threshold = r.threshold;
-        words_room = rw c.corners-cs.ensures (words_next _ h.invariant.0 loops_here words_here offsets_here h.invariant.1 ne r.words_room);
-        offsets_room = rw c.corners-cs.ensures (offsets_next _ h.invariant.0 loops_here words_here offsets_here h.invariant.1 ne r.offsets_room);
+        words_room = rw c.corners-cs.ensures (words_next _ h.left _ _ _ h.stored ne r.words_room);
+        offsets_room = rw c.corners-cs.ensures (offsets_next _ h.left _ _ _ h.stored ne r.offsets_room);
         numbers_room = numbers_room l;
-        few = omega (arith, r.few, h.invariant.1.number, picked_room _ h.invariant.0 loops_here ne);
+        few = omega (arith, r.few, h.stored.number, picked_room _ h.left (loops c.args.lo.now c.args.hi.now c.args.row c.args.spot) ne);
       },
     )
 
@@ -109,25 +100,18 @@ loop-w-smaller c = omega (arith, inside (goal.at.loop-w-smaller c).In-loop-w)
 
 pub loop-w-preserved : goal.loop-w-preserved
 loop-w-preserved c =
-    let a = c.args in
-    let loops_here = loops a.lo.now a.hi.now a.row a.spot in
     let l = (goal.at.loop-w-preserved c).In-loop-w in
-    let h = c.loop-w in
-    let number : a.spot.first + h.m ≡ a.spot.first + a.spot.v + length (below (picked a.act loops_here) h.i) = omega (arith, h.invariant.1.number) in
+    let h = c.loop-w.invariant in
     let ne = c.loop-w-test.true in
-    let w = written_as c.corners-cs.ensures c.write_cube-m.ensures in (
-      left_next h.invariant.0 ne,
-      stored_next _ h.invariant.0 loops_here (words a.lo.now a.hi.now a.row a.spot) (offsets a.lo.now a.hi.now a.row a.spot) h.invariant.1 ne w.stored,
-      noted_next _ h.invariant.0 loops_here (names a.lo.now a.hi.now a.row a.spot) h.invariant.2 ne _ number (active_names c.requires.0 (next l) (inside l) (set_here l))
-          (one_noted _ _ _ _ _ w.noted (numbers_room l)),
-    )
+    let w = written_as c.corners-cs.ensures c.write_cube-m.ensures in
+    record {
+      left = left_next h.left ne;
+      stored = stored_next _ h.left _ _ _ h.stored ne w.stored;
+      noted = noted_next _ h.left _ _ h.noted ne _ (omega (arith, h.stored.number)) (active_names c.requires.0 (next l) (inside l) (set_here l)) (one_noted _ _ _ _ _ w.noted (numbers_room l));
+    }
 
 pub returns : goal.returns
 returns c =
-    let a = c.args in
-    let loops_here = loops a.lo.now a.hi.now a.row a.spot in
-    let h = c.loop-w in
-    record {
-      stored = stored_end _ h.invariant.0 loops_here (words a.lo.now a.hi.now a.row a.spot) (offsets a.lo.now a.hi.now a.row a.spot) h.invariant.1 c.loop-w-test.false;
-      noted = noted_end _ h.invariant.0 loops_here (names a.lo.now a.hi.now a.row a.spot) h.invariant.2 c.loop-w-test.false;
-    }
+    let h = c.loop-w.invariant in
+    let none = c.loop-w-test.false in
+    record { stored = stored_end _ h.left _ _ _ h.stored none; noted = noted_end _ h.left _ _ h.noted none }

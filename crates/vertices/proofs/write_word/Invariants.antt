@@ -30,11 +30,12 @@ module _ (lo hi : List ℕ) (row : Row) (spot : Spot) where
   offsets x = offsets_at loops_of lo hi row.cut row.nx (spot.x + x)
 
 abbrev pub invariant-loop-w : goal.invariant-loop-w
-invariant-loop-w l =
-    Left (bits_of l.act) 64 l.i l.w
-    × Stored l.spot.v (below (picked l.act (loops l.lo l.hi l.row l.spot)) l.i) (below (picked l.act (words l.lo l.hi l.row l.spot)) l.i)
-    (below (picked l.act (offsets l.lo l.hi l.row l.spot)) l.i) l.initial.words l.words l.initial.offsets l.offsets l.m
-    × Noted (picked l.act (loops l.lo l.hi l.row l.spot)) (picked l.act (names l.lo l.hi l.row l.spot)) l.spot.x l.i (l.spot.first + l.spot.v) l.initial.numbers l.numbers
+invariant-loop-w l = record {
+  left : Left (bits_of l.act) 64 l.i l.w;
+  stored : Stored l.spot.v (below (picked l.act (loops l.lo l.hi l.row l.spot)) l.i) (below (picked l.act (words l.lo l.hi l.row l.spot)) l.i)
+      (below (picked l.act (offsets l.lo l.hi l.row l.spot)) l.i) l.initial.words l.words l.initial.offsets l.offsets l.m;
+  noted : Noted (picked l.act (loops l.lo l.hi l.row l.spot)) (picked l.act (names l.lo l.hi l.row l.spot)) l.spot.x l.i (l.spot.first + l.spot.v) l.initial.numbers l.numbers;
+}
 
 abbrev pub decreases-loop-w : goal.decreases-loop-w
 decreases-loop-w l = 64 - l.i
