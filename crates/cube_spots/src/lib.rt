@@ -59,6 +59,7 @@ fn eight(samples: &[u16], p: usize, row: usize, plane: usize) -> [u16; 8]
 }
 
 // The samples at the corners of the cube c.
+#[tactic(auto, using(crate::proofs::Inside::last_inside), unfolding(mesh_rule::specs::Grid::corners_of))]
 pub fn corners_of(size: Size, samples: &[u16], c: u32) -> [u16; 8]
     requires sampled { Sampled size samples.now }
     requires c_bound { c < cube_count size }

@@ -1,15 +1,17 @@
 -- What the steps that look at the foundry's quads are given and hand on. `n` is the size of the block, `s` its samples.
 -- Assumes nothing.
-use Rattle.std.specs.Prelude.{◌≡◌, ℕ, ◌+◌, ◌*◌, ◌<◌, ◌≤◌, Bool, ◌&&◌, ◌⊎◌, List, ◌==◌}
+use Rattle.std.specs.Prelude.{◌≡◌, ℕ, ◌+◌, ◌-◌, ◌<◌, ◌≤◌, Bool, ◌&&◌, List, ◌==◌}
 use Rattle.laws.specs.Bits.{holds}
 use Rattle.block.specs.declared.Cut.{Cut}
 use Rattle.block.specs.declared.Size.{Size}
 use Rattle.block.specs.Numbering.{cube_count}
+use Rattle.block.specs.Steps.{Sampled}
+use Rattle.mesh_rule.specs.Layers.{layer_size}
 use Rattle.mesh_rule.specs.Mesh.{Quad, quad}
 use Rattle.foundry_rule.specs.Distinct.{QuadsBelow}
 use Rattle.foundry_rule.specs.Judged.{vertex_total, named_quad, as_sent}
-use Rattle.foundry_rule.specs.Spots.{cube_at, word_at, led, fits, axis_by, quad_key}
-use Rattle.repeats.specs.Fresh.{span, fresh}
+use Rattle.foundry_rule.specs.Spots.{cube_at, word_at, led, fits, quad_key}
+use Rattle.repeats.specs.Fresh.{fresh}
 use Rattle.foundry_quads.specs.declared.Four.{Four}
 
 -- four vertex numbers as a quad
@@ -29,6 +31,13 @@ pub record QuadsInside (n : Size) (words quads : List ℕ) : Type 0 where
   pub below : QuadsBelow (vertex_total words) quads
   pub few : vertex_total words ≤ 66325500
 
+-- they are beside a block of so many cubes a row and a layer
+pub record QuadsReady (n : Size) (s words quads : List ℕ) (wide layer : ℕ) : Type 0 where
+  pub sampled : Sampled n s
+  pub inside : QuadsInside n words quads
+  pub wide_value : wide ≡ n.nx - 1
+  pub layer_value : layer ≡ layer_size n
+
 -- second and fourth cube lie r and p before the third, and the first lies both before it
 abbrev pub apart_by : List ℕ → ℕ → ℕ → Quad → Bool
 apart_by words r p q =
@@ -43,12 +52,7 @@ module _ (n : Size) (s : List ℕ) (cut : Cut) (words quads : List ℕ) where
   abbrev pub quad_fits : ℕ → Bool
   quad_fits q = fits words n s cut (led words (named_quad as_sent quads q))
 
--- the number that tells quad q from every other of ours, for rows and layers of so many cubes, and in a block
-unfoldable pub key_by : List ℕ → ℕ → ℕ → List ℕ → ℕ → ℕ
-key_by words wide layer quads q =
-    let p = led words (named_quad as_sent quads q) in
-    axis_by words wide layer p * vertex_total words + p.v2
-
+-- the number that tells quad q from every other of ours
 abbrev pub key_at : Size → List ℕ → List ℕ → ℕ → ℕ
 key_at n words quads q = quad_key words n (vertex_total words) (named_quad as_sent quads q)
 
@@ -56,8 +60,3 @@ module _ (n : Size) (s : List ℕ) (cut : Cut) (words quads : List ℕ) where
   -- it is, and no earlier quad has its number
   abbrev pub quad_spot_sound : ℕ → Bool
   quad_spot_sound q = quad_fits n s cut words quads q && fresh (key_at n words quads) q
-
--- r is how far the key k is behind the base b of a range, or past any range
-pub record FromBase (b k r : ℕ) : Type 0 where
-  pub inside : r < span → k ≡ b + r
-  pub outside : span ≤ r → (k < b) ⊎ (b + span ≤ k)

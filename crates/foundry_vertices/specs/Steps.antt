@@ -1,6 +1,6 @@
 -- What the steps that look at the foundry's vertices are given and hand on. `n` is the size of the block, `s` its samples.
 -- Assumes nothing.
-use Rattle.std.specs.Prelude.{ℕ, ◌*◌, ◌/◌, ◌≤◌, ◌<◌, ◌≡◌, Bool, true, cond, ◌&&◌, List, eqb, ltb, Float, length}
+use Rattle.std.specs.Prelude.{ℕ, ◌*◌, ◌/◌, ◌≤◌, ◌<◌, ◌≡◌, Bool, ◌&&◌, Option, MatchOption, List, eqb, ltb, Float, length}
 use Rattle.block.specs.declared.Cut.{Cut}
 use Rattle.block.specs.declared.Size.{Size}
 use Rattle.vertex_lists.specs.Rows.{offset_inside}
@@ -13,6 +13,10 @@ pub record Shaped (words : List ℕ) (offsets : List Float) : Type 0 where
   pub offsets_long : length offsets ≡ 3 * vertex_total words
   pub few : vertex_total words ≤ 66325500
 
+-- a place among four by its number, 4 for none
+abbrev pub IsPlace : ℕ → Option ℕ → Type 0
+IsPlace p r = MatchOption r (p ≡ 4) (λ q. (q ≡ p) × (q < 4))
+
 -- the cube c is in the r-th range of 65,536 cubes
 abbrev pub in_range : ℕ → ℕ → Bool
 in_range r c = eqb (c / 65536) r
@@ -22,16 +26,9 @@ module _ (n : Size) (s : List ℕ) (cut : Cut) (words : List ℕ) where
   abbrev pub placed : ℕ → Bool
   placed v = ltb (place_in n s cut (cube_at words v) (word_at words v)) 4
 
-  abbrev pub AllPlaced : ℕ → Type 0
-  AllPlaced m = (v : ℕ) → v < m → placed v ≡ true
-
   -- and its offsets are from 0 to 1
   abbrev pub looks_sound : List Float → ℕ → Bool
   looks_sound offsets v = placed v && offset_inside offsets v
-
-  -- the place of its word where it looks so, and 4 where it does not
-  abbrev pub sound_place : List Float → ℕ → ℕ
-  sound_place offsets v = cond (offset_inside offsets v) (place_in n s cut (cube_at words v) (word_at words v)) 4
 
   -- and no earlier vertex has its cube and its word
   abbrev pub spot_sound : List Float → ℕ → Bool

@@ -1,11 +1,10 @@
 -- Entries that no earlier one repeats, by ranges of keys: what is so of the keys below a bound and of those of the next range is so of both. Where each key is above
 -- all earlier ones, nothing is repeated.
 -- Assumes nothing.
-use Prim.Native.Nat.{ℕ, ◌+◌, ◌≤◌, ◌<◌}
+use Prim.Native.Nat.{ℕ, ◌+◌, ◌*◌, ◌≤◌, ◌<◌}
 use mathlib.Core.Path.{◌≡◌, refl, ap, sym, ◌∙◌}
 use mathlib.Core.Bool.{Bool, true, false, not, ◌&&◌, ◌||◌}
 use mathlib.Core.Logic.{◌⊎◌, inl, inr}
-use native.Mathlib.Nat.{not-suc-le-zero}
 use native.Mathlib.Omega.{arith}
 use lib.Dec.{eqb, ltb, leb}
 use borrow.Author.Tests.{ne_eqb, lt-ltb, le-ltb, le-leb, leb-true}
@@ -85,6 +84,14 @@ module _ (key : ℕ → ℕ) where
       ∙ leading_narrow (fresh_below key b) (fresh_in key b) n
       ∙ leading_same (λ (i : ℕ). fresh_below key b i && fresh_in key b i) (fresh_below key (b + span)) n (λ i h. sym (range_more b i))
 
+  -- by the numbers of the ranges: what is so before the r-th, and behind it
+  pub range_passed : (m r limit a : ℕ) → limit ≡ leading (fresh_below key (span * r)) m → a ≡ leading (fresh_in key (span * r)) limit
+      → a ≡ leading (fresh_below key (span * (r + 1))) m
+  range_passed m r limit a e q = q ∙ next_range (span * r) m limit e ∙ ap (λ (x : ℕ). leading (fresh_below key x) m) (next r)
+    where
+      next : (r : ℕ) → span * r + span ≡ span * (r + 1)
+      next r = omega arith
+
   pub no_range : (n : ℕ) → n ≡ leading (fresh_below key 0) n
   no_range n = sym (leading_all (fresh_below key 0) n (λ i h. rw (le-ltb (key i) 0 (omega arith))))
 
@@ -101,9 +108,6 @@ module _ (key : ℕ → ℕ) where
       apart : (x y l : ℕ) → x < l → l ≤ y → y ≡ x → ⊥
       apart x y l p q e = omega arith
 
-  pub rising_none : Rising key 0 0 true
-  rising_none = record { new = λ e u h. absurd (not-suc-le-zero h); under = λ e u h. absurd (not-suc-le-zero h) }
-
   pub rising_more : (v last : ℕ) (rises : Bool) → Rising key v last rises → Rising key (v + 1) (key v + 1) (leb last (key v) && rises)
   rising_more v last rises r = record {
     new = λ e. let q = and_both (leb last (key v)) rises e in before_more (λ (u : ℕ). fresh key u ≡ true) v (r.new q.1) (fresh_above v last (r.under q.1) (leb-true last (key v) q.0));
@@ -112,3 +116,20 @@ module _ (key : ℕ → ℕ) where
     where
       up : (x l y : ℕ) → x < l → l ≤ y → x < y + 1
       up x l y h g = omega arith
+
+-- ---- the end of a first look, at the first entry that is not sound or behind the last
+
+module _ (sound : ℕ → Bool) (count v : ℕ) (h : HoldsTo sound v) where
+  pub looked_stops : v < count → sound v ≡ false → v ≡ leading sound count
+  looked_stops l n = sym (leading_at sound count v l h n)
+
+  pub looked_ends : v ≡ count → v ≡ leading sound count
+  looked_ends q = q ∙ sym (leading_all sound count (λ i l. h i (omega (arith, q))))
+
+-- the first repeated one, of those before the first that is not sound; none where their keys rise
+module _ (sound : ℕ → Bool) (key : ℕ → ℕ) (count m : ℕ) (e : m ≡ leading sound count) where
+  pub fault_again : (a : ℕ) → a ≡ leading (fresh key) m → a ≡ leading (λ (i : ℕ). sound i && fresh key i) count
+  fault_again a q = q ∙ ap (leading (fresh key)) e ∙ leading_narrow sound (fresh key) count
+
+  pub fault_none : (last : ℕ) → Rising key m last true → m ≡ leading (λ (i : ℕ). sound i && fresh key i) count
+  fault_none last r = fault_again m (sym (leading_all (fresh key) m (r.new refl)))

@@ -5,6 +5,7 @@ use mathlib.Core.Path.{◌≡◌, refl, ap, sym, ◌∙◌, subst}
 use mathlib.Core.Bool.{Bool, true, false, not, ◌||◌}
 use mathlib.Core.Logic.{◌⊎◌, inl, inr}
 use mathlib.Core.List.{List}
+use Rattle.std.specs.Prelude.{Some, None}
 use native.Mathlib.Nat.{add-zero, add-suc}
 use native.Mathlib.Numerals.{add-one}
 use native.Mathlib.Omega.{arith}
@@ -13,10 +14,9 @@ use lib.ListN.{length, get_or, replicate, length-replicate}
 use borrow.Author.Tests.{eq-eqb, ne_eqb, eqb-true, lt-ltb, le-ltb, le-leb, lt-leb}
 use Rattle.laws.proofs.Bits.{holds_none}
 use Rattle.laws.specs.Leading.{leading}
-use Rattle.laws.proofs.Leading.{before_more, leading_at, leading_all}
-use Rattle.laws.proofs.Tests.{lt_or_ge}
+use Rattle.laws.proofs.Leading.{HoldsTo, holds_to_none, holds_more, leading_at, leading_all}
 use Rattle.foundry_rule.proofs.Firsts.{same_test, is_none}
-use Rattle.repeats.specs.Fresh.{span, seen, in_span, fresh_in, bit_at, Table, Marked, RunPassed}
+use Rattle.repeats.specs.Fresh.{span, seen, in_span, fresh_in, PlaceIn, FarFrom, bit_at, Table, Marked}
 use Rattle.repeats.proofs.Ranges.{some_next}
 
 module _ (key : ℕ → ℕ) (b : ℕ) where
@@ -38,14 +38,14 @@ module _ (key : ℕ → ℕ) (b : ℕ) where
   -- ---- an entry whose key is not in the range
 
   -- v is such an entry
-  abbrev pub Outside : ℕ → Type 0
+  abbrev Outside : ℕ → Type 0
   Outside v = (key v < b) ⊎ (b + span ≤ key v)
 
   not_in : (v : ℕ) → Outside v → in_span b (key v) ≡ false
   not_in v (inl l) = rw (lt-leb b (key v) l)
   not_in v (inr g) = rw (le-leb b (key v) (omega arith), le-ltb (key v) (b + span) g)
 
-  pub fresh_outside : (v : ℕ) → Outside v → fresh_in key b v ≡ true
+  fresh_outside : (v : ℕ) → Outside v → fresh_in key b v ≡ true
   fresh_outside v o = rw (not_in v o)
 
   other : (v k : ℕ) → k < span → Outside v → eqb (b + k) (key v) ≡ false
@@ -55,7 +55,7 @@ module _ (key : ℕ → ℕ) (b : ℕ) where
       apart x e (inl l) = omega arith
       apart x e (inr g) = omega arith
 
-  pub table_passed : (v : ℕ) (table : List ℕ) → Table key b v table → Outside v → Table key b (v + 1) table
+  table_passed : (v : ℕ) (table : List ℕ) → Table key b v table → Outside v → Table key b (v + 1) table
   table_passed v table t o = record {
     long = t.long;
     says = λ k h. t.says k h ∙ sym (some_next (λ (u : ℕ). eqb (b + k) (key u)) v ∙ ap (λ (x : Bool). x || seen key (b + k) v) (other v k h o));
@@ -63,11 +63,11 @@ module _ (key : ℕ → ℕ) (b : ℕ) where
 
   -- ---- an entry whose key is the k-th of the range
 
-  pub fresh_inside : (v k : ℕ) (table : List ℕ) → Table key b v table → k < span → key v ≡ b + k → fresh_in key b v ≡ not (bit_at table k)
+  fresh_inside : (v k : ℕ) (table : List ℕ) → Table key b v table → k < span → key v ≡ b + k → fresh_in key b v ≡ not (bit_at table k)
   fresh_inside v k table t h e =
       rw (e, le-leb b (b + k) (omega arith), lt-ltb (b + k) (b + span) (omega arith)) (ap not (sym (t.says k h)))
 
-  pub table_marked : (v k : ℕ) (table table' : List ℕ) → Table key b v table → k < span → key v ≡ b + k → Marked k table table' → Table key b (v + 1) table'
+  table_marked : (v k : ℕ) (table table' : List ℕ) → Table key b v table → k < span → key v ≡ b + k → Marked k table table' → Table key b (v + 1) table'
   table_marked v k table table' t h e m = record {
     long = m.as_long ∙ t.long;
     says = λ j l.
@@ -83,64 +83,38 @@ module _ (key : ℕ → ℕ) (b : ℕ) where
           (λ q. let r = eqb-true j k q in eq-eqb (b + j) (key v) (omega (arith, e, r)))
           (λ q. let r = eqb-true (b + j) (key v) q in eq-eqb j k (omega (arith, e, r)))
 
-  -- ---- a run of entries
+  -- ---- a pass over the entries: each before v is new in the range, and the table is behind them
 
-  abbrev pub NewFrom : ℕ → ℕ → Type 0
-  NewFrom from v = (i : ℕ) → from ≤ i → i < v → fresh_in key b i ≡ true
+  pub record Passed (v : ℕ) (table : List ℕ) : Type 0 where
+    pub new : HoldsTo (fresh_in key b) v
+    pub behind : Table key b v table
 
-  pub new_more : (from v : ℕ) → NewFrom from v → fresh_in key b v ≡ true → NewFrom from (v + 1)
-  new_more from v h e i g l = before_more (λ (x : ℕ). from ≤ x → fresh_in key b x ≡ true) v (λ x k f. h x f k) (λ f. e) i l g
+  pub passed_none : Passed 0 (replicate 4096 0)
+  passed_none = record { new = holds_to_none (fresh_in key b); behind = table_new }
 
-  -- it stops at the first that repeats an earlier one, or at its end
-  pub run_stops : (from end v : ℕ) (table : List ℕ) → v < end → NewFrom from v → fresh_in key b v ≡ false → RunPassed key b from end v table
-  run_stops from end v table h a e = record { within = omega arith; new = a; stops = λ _. e; behind = λ z. absurd (omega arith) }
+  module _ (v : ℕ) (table : List ℕ) (p : Passed v table) where
+    pub passed_out : PlaceIn b (key v) None → Passed (v + 1) table
+    passed_out o = record { new = holds_more (fresh_in key b) v p.new (fresh_outside v o); behind = table_passed v table p.behind o }
 
-  pub run_ends : (from end v : ℕ) (table : List ℕ) → v ≡ end → NewFrom from v → Table key b v table → RunPassed key b from end end table
-  run_ends from end v table q a t = record {
-    within = omega arith;
-    new = λ i g l. a i g (rw q l);
-    stops = λ l. absurd (omega arith);
-    behind = λ _. subst (λ (x : ℕ). Table key b x table) q t;
-  }
+    pub passed_more : (k : ℕ) (table' : List ℕ) → PlaceIn b (key v) (Some k) → bit_at table k ≡ false → Marked k table table' → Passed (v + 1) table'
+    passed_more k table' i n m = record {
+      new = holds_more (fresh_in key b) v p.new (fresh_inside v k table p.behind i.0 i.1 ∙ ap not n);
+      behind = table_marked v k table table' p.behind i.0 i.1 m;
+    }
+
+    pub passed_stops : (limit k : ℕ) → v < limit → PlaceIn b (key v) (Some k) → bit_at table k ≡ true → v ≡ leading (fresh_in key b) limit
+    passed_stops limit k l i n = sym (leading_at (fresh_in key b) limit v l p.new (fresh_inside v k table p.behind i.0 i.1 ∙ ap not n))
+
+    pub passed_ends : v ≡ leading (fresh_in key b) v
+    passed_ends = sym (leading_all (fresh_in key b) v p.new)
 
   -- entries that are all out of the range are passed at once
-  far_passed : (table : List ℕ) (v d : ℕ) → ((i : ℕ) → v ≤ i → i < v + d → Outside i) → Table key b v table → Table key b (v + d) table
-  far_passed table v zero o t = rw (add-zero v) t
-  far_passed table v (suc d) o t =
-      rw (add-suc v d, ← add-one (v + d)) (table_passed (v + d) table (far_passed table v d (λ i g l. o i g (omega arith)) t) (o (v + d) (omega arith) (omega arith)))
-
-  -- what is so of the first v entries and of those from v on is so of all
-  new_joined : (v end : ℕ) → NewFrom 0 v → NewFrom v end → NewFrom 0 end
-  new_joined v end a c i g l = go (lt_or_ge i v)
+  pub passed_far : (end v : ℕ) (table : List ℕ) → v ≤ end → FarFrom key b v end → Passed v table → Passed end table
+  passed_far end v table h f p = subst (λ (x : ℕ). Passed x table) (sum end v h) (far (end - v) (λ i g l. f i g (rw (sum end v h) at l)))
     where
-      go : (i < v) ⊎ (v ≤ i) → fresh_in key b i ≡ true
-      go (inl h) = a i g h
-      go (inr h) = c i h l
+      sum : (end v : ℕ) → v ≤ end → v + (end - v) ≡ end
+      sum end v h = omega arith
 
-  -- ---- a pass over the entries below a limit, run by run
-
-  module _ (limit v end a : ℕ) (table : List ℕ) (h : end ≤ limit) (before : NewFrom 0 v) (r : RunPassed key b v end a table) where
-    pub pass_stops : a < end → a ≡ leading (fresh_in key b) limit
-    pass_stops l = sym (leading_at (fresh_in key b) limit a (omega arith) (λ i k. new_joined v a before r.new i (omega arith) k) (r.stops l))
-
-    ended : end ≤ a → a ≡ end
-    ended g = omega (arith, r.within)
-
-    pub pass_table : end ≤ a → Table key b end table
-    pass_table g = r.behind (ended g)
-
-    pub pass_new : end ≤ a → NewFrom 0 end
-    pass_new g = new_joined v end before (λ i k l. r.new i k (omega (arith, ended g)))
-
-  pub pass_ends : (limit v : ℕ) → v ≡ limit → NewFrom 0 v → limit ≡ leading (fresh_in key b) limit
-  pass_ends limit v e a = sym (leading_all (fresh_in key b) limit (λ i l. a i (omega arith) (rw e l)))
-
-  module _ (v end : ℕ) (h : v ≤ end) (o : (i : ℕ) → v ≤ i → i < end → Outside i) where
-    far_end : v + (end - v) ≡ end
-    far_end = omega arith
-
-    pub far_table : (table : List ℕ) → Table key b v table → Table key b end table
-    far_table table t = subst (λ (x : ℕ). Table key b x table) far_end (far_passed table v (end - v) (λ i g l. o i g (rw far_end at l)) t)
-
-    pub far_joined : NewFrom 0 v → NewFrom 0 end
-    far_joined a = new_joined v end a (λ i g l. fresh_outside i (o i g l))
+      far : (d : ℕ) → FarFrom key b v (v + d) → Passed (v + d) table
+      far zero f = rw (add-zero v) p
+      far (suc d) f = rw (add-suc v d, ← add-one (v + d)) (passed_out (v + d) table (far d (λ i g l. f i g (omega arith))) (f (v + d) (omega arith) (omega arith)))

@@ -1,6 +1,6 @@
 -- Entries of a list by their keys: which of them no earlier one repeats, over all keys and over a range of keys, and what a table of bits says of the entries so far.
 -- Assumes nothing.
-use Rattle.std.specs.Prelude.{ℕ, ◌+◌, ◌*◌, ◌/◌, ◌%◌, ◌^◌, ◌≤◌, ◌<◌, ◌≡◌, Bool, true, false, not, ◌&&◌, ◌||◌, List, eqb, ltb, leb, length, get_or, set}
+use Rattle.std.specs.Prelude.{ℕ, ◌+◌, ◌*◌, ◌/◌, ◌%◌, ◌^◌, ◌≤◌, ◌<◌, ◌≡◌, Bool, true, false, not, ◌&&◌, ◌||◌, ◌⊎◌, Option, MatchOption, List, eqb, ltb, leb, length, get_or, set}
 use Rattle.std.specs.Int.Bits.{bit_or}
 use Rattle.laws.specs.Bits.{holds}
 use Rattle.foundry_rule.specs.Judged.{is_some}
@@ -27,6 +27,18 @@ in_span b k = leb b k && ltb k (b + span)
 abbrev pub fresh_in : (ℕ → ℕ) → ℕ → ℕ → Bool
 fresh_in key b v = not (in_span b (key v) && seen key (key v) v)
 
+-- the key of entry v, none where it is not sound
+abbrev pub KeyIf : (ℕ → Bool) → (ℕ → ℕ) → ℕ → Option ℕ → Type 0
+KeyIf sound key v r = MatchOption r (sound v ≡ false) (λ k. (sound v ≡ true) × (k ≡ key v))
+
+-- how far the key k is behind the base b of a range; none where it is not in the range
+abbrev pub PlaceIn : ℕ → ℕ → Option ℕ → Type 0
+PlaceIn b k r = MatchOption r ((k < b) ⊎ (b + span ≤ k)) (λ p. (p < span) × (k ≡ b + p))
+
+-- none of the entries from v up to the end has its key in the range from b on
+abbrev pub FarFrom : (ℕ → ℕ) → ℕ → ℕ → ℕ → Type 0
+FarFrom key b v end = (i : ℕ) → v ≤ i → i < end → (key i < b) ⊎ (b + span ≤ key i)
+
 -- the bit of the key k, of a table in words of 64 bits
 abbrev pub bit_at : List ℕ → ℕ → Bool
 bit_at table k = holds (get_or table (k / 64) 0) (k % 64)
@@ -41,13 +53,6 @@ pub record Marked (k : ℕ) (table table' : List ℕ) : Type 0 where
   pub is : table' ≡ set table (k / 64) (bit_or (get_or table (k / 64) 0) (1 * 2 ^ (k % 64) % 18446744073709551616))
   pub as_long : length table' ≡ length table
   pub bits : (m : ℕ) → m < 64 * length table → bit_at table' m ≡ (eqb m k || bit_at table m)
-
--- what a run over the entries from `from` up to the end finds: the first whose key is in the range and that repeats an earlier one, with the table behind them
-pub record RunPassed (key : ℕ → ℕ) (b from end a : ℕ) (table : List ℕ) : Type 0 where
-  pub within : a ≤ end
-  pub new : (i : ℕ) → from ≤ i → i < a → fresh_in key b i ≡ true
-  pub stops : a < end → fresh_in key b a ≡ false
-  pub behind : a ≡ end → Table key b end table
 
 -- the keys of the entries before v rise, if so it is said: none repeats an earlier one, and all are below `last`
 pub record Rising (key : ℕ → ℕ) (v last : ℕ) (rises : Bool) : Type 0 where
