@@ -1,18 +1,18 @@
--- A text copied byte by byte, and a number put from its last digit to its first.
+-- A text copied into a buffer, and a number put from its last digit to its first.
 -- Assumes nothing.
 use Prim.Native.Nat.{ℕ, suc, ◌+◌, ◌-◌, ◌/◌, ◌%◌, ◌≤◌, ◌<◌}
 use mathlib.Core.Path.{◌≡◌, refl, ap, sym, ◌∙◌}
 use mathlib.Core.Logic.{◌⊎◌, inl, inr}
-use mathlib.Core.List.{List, [], ◌∷◌, ◌++◌, append_assoc, append-nil}
+use mathlib.Core.List.{List, [], ◌∷◌, ◌++◌, append_assoc}
 use native.Mathlib.Omega.{arith}
 use borrow.Rule.Slice.PartMut.{put_mid}
-use lib.ListN.{length, set, take, drop, length-append}
+use lib.ListN.{length, set, take, drop}
 use lib.Seq.{sets, sets-eq, drop-drop}
 use Rattle.laws.specs.Put.{Put}
 use Rattle.laws.proofs.Stores.{set-sets}
 use Rattle.laws.proofs.Tests.{lt_or_ge}
 use Rattle.file_bytes.specs.Bytes.{digit, decimal}
-use Rattle.file_bytes.proofs.Decimal.{decimal_small, decimal_large, length_small, length_large, length_some}
+use Rattle.file_bytes.proofs.Decimal.{decimal_small, decimal_large, length_small, length_large}
 
 -- ---- a text
 
@@ -37,9 +37,6 @@ module _ (out₀ : List ℕ) (at n : ℕ) where
   abbrev pub PutDown : List ℕ → ℕ → ℕ → Type 0
   PutDown out next left = DigitsBehind out next left ⊎ ((next ≡ at) × (out ≡ sets out₀ at (decimal n)))
 
-  pub down_start : (next : ℕ) → next ≡ at + length (decimal n) → PutDown out₀ next n
-  down_start next e = inl (record { behind = []; stored = refl; whole = append-nil (decimal n); place = e })
-
   -- one digit more
   pub down_more : (out : List ℕ) (next left b : ℕ) → b ≡ digit (left % 10) → (next ≡ at → ⊥) → PutDown out next left → PutDown (set out (next - 1) b) (next - 1) (left / 10)
   down_more out next left b is some (inr d) = absurd (some d.0)
@@ -62,13 +59,3 @@ module _ (out₀ : List ℕ) (at n : ℕ) where
             whole = sym (append_assoc (decimal (left / 10)) (digit (left % 10) ∷ []) d.behind) ∙ rw (decimal_large left g) at d.whole;
             place = low;
           })
-
-  pub down_end : (out : List ℕ) (next left : ℕ) → next ≡ at → PutDown out next left → out ≡ sets out₀ at (decimal n)
-  down_end out next left e (inr d) = d.1
-  down_end out next left e (inl d) = absurd (omega (arith, e, d.place, length_some left))
-
-  -- where there is room for the number, there is room for its digits
-  pub down_inside : (out : List ℕ) (next left : ℕ) → PutDown out next left → (at ≤ next) × (next ≤ at + length (decimal n))
-  down_inside out next left (inr d) = (omega (arith, d.0), omega (arith, d.0))
-  down_inside out next left (inl d) =
-      (omega (arith, d.place), omega (arith, d.place, length-append (decimal left) d.behind, ap length d.whole))
