@@ -1,30 +1,17 @@
 -- Copies of a list item by item, and of samples from and to words that hold two of them.
 -- Assumes nothing.
-use mathlib.Core.Path.{◌≡◌, refl, ap, ap₂, sym, ◌∙◌}
-use mathlib.Core.List.{List, [], ◌∷◌, ◌++◌}
-use Prim.Native.Nat.{ℕ, zero, suc, ◌+◌, ◌*◌, ◌-◌, ◌/◌, ◌%◌, ◌≤◌, ◌<◌}
+use mathlib.Core.Path.{◌≡◌, ap, ap₂, sym, ◌∙◌}
+use mathlib.Core.List.{List}
+use Prim.Native.Nat.{ℕ, ◌+◌, ◌*◌, ◌-◌, ◌/◌, ◌%◌, ◌≤◌, ◌<◌}
 use mathlib.Core.Logic.{◌⊎◌, inl, inr}
 use native.Mathlib.Omega.{arith}
-use lib.ListN.{length, get_or, set, take, length-set, get_or-eq_default}
-use lib.Seq.{take-suc, take-length, get_or-set_same, get_or-set_other}
-use Rattle.laws.specs.Below.{below, over}
-use Rattle.laws.proofs.Over.{each, each_length, over_put, over_each, over_at, over_behind}
+use lib.ListN.{length, get_or, set, length-set, get_or-eq_default}
+use lib.Seq.{get_or-set_same, get_or-set_other}
+use Rattle.laws.specs.Below.{over}
+use Rattle.laws.proofs.Over.{each, each_length, over_put, over_at, over_behind}
 use Rattle.laws.proofs.Tests.{lt_or_ge}
 use Rattle.block.specs.Grey.{SixteenBit}
 use Rattle.plane_layers.specs.Memory.{half_of, sample_in, pair_of, packed, Windowed}
-
--- the first n items, one by one
-each_take : (l : List ℕ) (n : ℕ) → n ≤ length l → each (λ i. get_or l i 0) n ≡ take n l
-unfolding below
-each_take l zero h = refl
-each_take l (suc n) h = ap (λ (x : List ℕ). x ++ (get_or l n 0 ∷ [])) (each_take l n (omega arith)) ∙ sym (take-suc l n 0 (omega arith))
-
-pub each_all : (l : List ℕ) (n : ℕ) → n ≡ length l → each (λ i. get_or l i 0) n ≡ l
-each_all l n e = rw e (each_take l (length l) (omega arith) ∙ take-length l)
-
--- into a buffer of the same length
-pub copied_all : (l b c : List ℕ) (n : ℕ) → n ≡ length l → length l ≡ length b → c ≡ over (each (λ i. get_or l i 0) n) b → c ≡ l
-copied_all l b c n e f h = h ∙ over_each (λ i. get_or l i 0) b n (sym f ∙ sym e) ∙ each_all l n e
 
 -- ---- samples from words
 
@@ -64,9 +51,6 @@ window_more part w i h is x l = go (lt_or_ge x (2 * i)) (lt_or_ge (2 * i) x)
 -- the word i of a plane
 abbrev pub word_at : List ℕ → ℕ → ℕ
 word_at plane i = pair_of (get_or plane (2 * i) 0) (get_or plane (2 * i + 1) 0)
-
-pub packed_even : (plane b c : List ℕ) (i : ℕ) → i ≡ length plane / 2 → (length plane % 2 ≡ 1 → ⊥) → c ≡ over (each (word_at plane) i) b → c ≡ over (packed plane) b
-packed_even plane b c i e ne h = h ∙ ap (λ (m : ℕ). over (each (word_at plane) m) b) (omega arith)
 
 pub packed_odd : (plane b c : List ℕ) (i v : ℕ) → i ≡ length plane / 2 → length plane % 2 ≡ 1 → length plane ≤ length b → v ≡ pair_of (get_or plane (length plane - 1) 0) 0 → c ≡ over (each (word_at plane) i) b
     → set c i v ≡ over (packed plane) b
