@@ -2,7 +2,7 @@
 // and what must be remembered for the next plane (document 02, Nine).
 #![tactic(auto)]
 
-ghost use Rattle.std.specs.Prelude.{◌≡◌, ◌+◌, ◌*◌, ◌/◌, ◌%◌, ◌≤◌, length};
+ghost use Rattle.std.specs.Prelude.{◌≡◌, ◌*◌, ◌≤◌, length};
 ghost use Rattle.laws.specs.Below.{over};
 ghost use Rattle.cube_rule.specs.Decider.{loops_of};
 ghost use Rattle.plane_layers.specs.Layer.{LayerReady, SignsReady, LayerCounted, StepReady, RowTaken, LayerRoomy, LayerWritten, Grown};

@@ -2,7 +2,7 @@
 // one how many vertices hang under each top.
 #![tactic(auto)]
 
-ghost use Rattle.std.specs.Prelude.{◌≡◌, ◌+◌, ◌<◌, max, not, ◌&&◌, ◌||◌, eqb, ltb, length, set};
+ghost use Rattle.std.specs.Prelude.{◌≡◌, ◌+◌, ◌<◌, not, ◌&&◌, ◌||◌, eqb, ltb, length, set};
 ghost use Rattle.trees.specs.Forest.{at, top_of, links_of, goes_under, join_quad};
 ghost use Rattle.trees.specs.Steps.{stored, Ends, Standing, Tops, Unites, Reached, Joins};
 
