@@ -82,6 +82,7 @@ fn old_signs(nx: usize, ny: usize, cut: Cut, work: &[u32], signs: &mut [u64])
 }
 
 // The signs of a plane that is lent, five words to a row.
+// (Not one function with `old_signs`: a closure cannot lend the window that it fills.)
 fn new_signs(nx: usize, ny: usize, cut: Cut, plane: &[u16], signs: &mut [u64])
     requires { (nx ≤ 256) × (ny ≤ 256) × (nx * ny ≤ length plane.now) × (length signs.old ≡ 1280) }
     ensures { SignedTo nx (item_at plane.now) cut ny signs.new }

@@ -7,6 +7,7 @@ use mathlib.Core.List.{List}
 use native.Mathlib.Numerals.{add-one}
 use native.Mathlib.Omega.{arith}
 use lib.Dec.{eqb}
+use Rattle.std.proofs.lemmas.Bool.Decides.{nat_tests}
 use borrow.Author.Tests.{eq-eqb, ne_eqb, eqb-true, eqb-false}
 use Rattle.trees.specs.Forest.{at, top_of, links_of}
 use Rattle.trees.specs.Steps.{Ends, Standing, Tops}
@@ -14,11 +15,7 @@ use Rattle.trees.specs.Steps.{Ends, Standing, Tops}
 pub links_le : (up : ℕ → ℕ) (steps v : ℕ) → links_of up steps v ≤ steps
 unfolding links_of
 links_le up zero v = omega arith
-links_le up (suc steps) v = go (eqb (up v) v) (links_le up steps (up v))
-  where
-    go : (c : Bool) → links_of up steps (up v) ≤ steps → cond c 0 (suc (links_of up steps (up v))) ≤ suc steps
-    go true h = omega arith
-    go false h = omega (arith, h)
+links_le up (suc steps) v = grind (arith, nat_tests, links_le up steps (up v))
 
 pub at_top : (up : ℕ → ℕ) (steps v : ℕ) → up v ≡ v → (top_of up steps v ≡ v) × (links_of up steps v ≡ 0)
 unfolding top_of links_of
@@ -36,11 +33,7 @@ one_link up (suc n) v w h ne e f =
 module _ {n : ℕ} {up : List ℕ} (E : Ends n up) where
   -- a link leads to a vertex
   pub inside : (v : ℕ) → v < n → at up v < n
-  inside v h = go (eqb (at up v) v) refl
-    where
-      go : (c : Bool) → eqb (at up v) v ≡ c → at up v < n
-      go true e = rw (eqb-true (at up v) v e) h
-      go false e = (E.nearer v h (eqb-false (at up v) v e)).0
+  inside v h = grind (arith, nat_tests, E.nearer v h)
 
   -- one step nearer to the same top
   pub nearer_to : (v w : ℕ) → v < n → w ≡ at up v → (w ≡ v → ⊥) → (top_of (at up) n v ≡ top_of (at up) n w) × (links_of (at up) n v ≡ links_of (at up) n w + 1)

@@ -7,6 +7,7 @@ use mathlib.Core.Bool.{Bool, true, false, cond, ◌||◌}
 use native.Mathlib.Nat.{pow-suc}
 use native.Mathlib.Omega.{arith}
 use lib.Dec.{eqb}
+use Rattle.std.proofs.lemmas.Bool.Decides.{nat_tests}
 use borrow.Author.Tests.{eq-eqb, ne_eqb, eqb-true, eqb-false}
 use Rattle.laws.specs.Bits.{bit}
 use Rattle.laws.specs.Counting.{count}
@@ -53,18 +54,10 @@ module _ (n : ℕ) (up size depth root : ℕ → ℕ) (F : Trees n up size depth
   root_a = eq-eqb (root a) a (F.stay a ha ta).0
 
   inside' : (v : ℕ) → v < n → root' v < n
-  inside' v l = go (eqb (root v) a)
-    where
-      go : (c : Bool) → cond c b (root v) < n
-      go true = hb
-      go false = F.inside v l
+  inside' v l = grind (arith, nat_tests, F.inside v l)
 
   tops' : (v : ℕ) → v < n → hung_up up a b (root' v) ≡ root' v
-  tops' v l = go (eqb (root v) a) refl
-    where
-      go : (c : Bool) → eqb (root v) a ≡ c → hung_up up a b (cond c b (root v)) ≡ cond c b (root v)
-      go true q = rw ba tb
-      go false q = rw q (F.tops v l)
+  tops' v l = grind (arith, nat_tests, F.tops v l)
 
   stay' : (v : ℕ) → v < n → hung_up up a b v ≡ v → (root' v ≡ v) × (depth' v ≡ 0)
   stay' v l = go (eqb v a) refl
@@ -110,18 +103,10 @@ module _ (n : ℕ) (up size depth root : ℕ → ℕ) (F : Trees n up size depth
 
   -- the vertices under b are those that were under a or b
   both_under : (x : ℕ) → bit (eqb (cond (eqb x a) b x) b) ≡ bit (eqb x a) + bit (eqb x b)
-  both_under x = go (eqb x a) refl
-    where
-      go : (c : Bool) → eqb x a ≡ c → bit (eqb (cond c b x) b) ≡ bit c + bit (eqb x b)
-      go true q = rw (eq-eqb b b refl, eqb-true x a q, ne_eqb a b ne)
-      go false q = omega arith
+  both_under x = grind (arith, nat_tests)
 
   others : (x r : ℕ) → (r ≡ a → ⊥) → (r ≡ b → ⊥) → eqb x r ≡ eqb (cond (eqb x a) b x) r
-  others x r na nb = go (eqb x a) refl
-    where
-      go : (c : Bool) → eqb x a ≡ c → eqb x r ≡ eqb (cond c b x) r
-      go true q = rw (eqb-true x a q, ne_eqb a r (λ z. na (sym z)), ne_eqb b r (λ z. nb (sym z)))
-      go false q = refl
+  others x r na nb = grind (arith, nat_tests)
 
   counted' : (r : ℕ) → r < n → hung_up up a b r ≡ r → hung_size size a b r ≡ count (λ (v : ℕ). eqb (root' v) r) n
   counted' r l = go (eqb r a) (eqb r b) refl refl
@@ -136,12 +121,7 @@ module _ (n : ℕ) (up size depth root : ℕ → ℕ) (F : Trees n up size depth
           ∙ count_same _ _ n (λ v lv. others (root v) r (eqb-false r a p) (eqb-false r b q))
 
   spent' : (v : ℕ) → v < n → (hung_up up a b v ≡ v → ⊥) → hung_size size a b v ≡ 0
-  spent' v l = go (eqb v a) (eqb v b) refl refl
-    where
-      go : (c d : Bool) → eqb v a ≡ c → eqb v b ≡ d → (cond c b (up v) ≡ v → ⊥) → cond c 0 (cond d (size a + size b) (size v)) ≡ 0
-      go true d p q m = refl
-      go false true p q m = absurd (m (rw (eqb-true v b q) tb))
-      go false false p q m = F.spent v l m
+  spent' v l m = grind (arith, nat_tests, F.spent v l)
 
   pub hang : Trees n (hung_up up a b) (hung_size size a b) depth' root'
   hang = record { inside = inside'; tops = tops'; stay = stay'; step = step'; heavy = heavy'; counted = counted'; spent = spent' }
