@@ -60,14 +60,7 @@ module _ (n : ℕ) (up size depth root : ℕ → ℕ) (F : Trees n up size depth
   tops' v l = grind (arith, nat_tests, F.tops v l)
 
   stay' : (v : ℕ) → v < n → hung_up up a b v ≡ v → (root' v ≡ v) × (depth' v ≡ 0)
-  stay' v l = go (eqb v a) refl
-    where
-      go : (c : Bool) → eqb v a ≡ c → cond c b (up v) ≡ v → (root' v ≡ v) × (depth' v ≡ 0)
-      go true q e = absurd (ne (sym (eqb-true v a q) ∙ sym e))
-      go false q e =
-          let r = F.stay v l e in
-          let z : eqb (root v) a ≡ false = ap (λ (x : ℕ). eqb x a) r.0 ∙ q in
-          (rw z r.0, rw z r.1)
+  stay' v l e = (grind (arith, nat_tests, F.stay v l), grind (arith, nat_tests, F.stay v l))
 
   step' : (v : ℕ) → v < n → (hung_up up a b v ≡ v → ⊥)
       → (hung_up up a b v < n) × (root' v ≡ root' (hung_up up a b v)) × (depth' v ≡ suc (depth' (hung_up up a b v)))
@@ -91,15 +84,7 @@ module _ (n : ℕ) (up size depth root : ℕ → ℕ) (F : Trees n up size depth
           rw q (s.0, w.0, w.1)
 
   heavy' : (v : ℕ) → v < n → 2 ^ depth' v ≤ hung_size size a b (root' v)
-  heavy' v l = go (eqb (root v) a) refl
-    where
-      bigger : (c : Bool) → eqb (root v) b ≡ c → 2 ^ depth v ≤ size (root v) → 2 ^ depth v ≤ cond c (size a + size b) (size (root v))
-      bigger true q h = omega (arith, ap size (eqb-true (root v) b q))
-      bigger false q h = h
-
-      go : (c : Bool) → eqb (root v) a ≡ c → 2 ^ cond c (suc (depth v)) (depth v) ≤ hung_size size a b (cond c b (root v))
-      go true q = rw (ba, eq-eqb b b refl, pow-suc) (omega (arith, F.heavy v l, ap size (eqb-true (root v) a q)))
-      go false q = rw q (bigger (eqb (root v) b) refl (F.heavy v l))
+  heavy' v l = grind (arith, nat_tests, F.heavy v l, pow-suc 2 (depth v))
 
   -- the vertices under b are those that were under a or b
   both_under : (x : ℕ) → bit (eqb (cond (eqb x a) b x) b) ≡ bit (eqb x a) + bit (eqb x b)
@@ -179,8 +164,4 @@ module _ {n : ℕ} {up size depth root : ℕ → ℕ} (F : Trees n up size depth
   -- two trees have at most n vertices together
   pub two_tops : (a b : ℕ) → a < n → b < n → up a ≡ a → up b ≡ b → (a ≡ b → ⊥) → size a + size b ≤ n
   two_tops a b ha hb ta tb ne =
-      omega (arith, F.counted a ha ta, F.counted b hb tb, count_two (λ (v : ℕ). eqb (root v) a) (λ (v : ℕ). eqb (root v) b) (λ (v : ℕ). eqb (root v) a || eqb (root v) b) n (λ v l. either (root v) (eqb (root v) a) refl), count_le_all (λ (v : ℕ). eqb (root v) a || eqb (root v) b) n)
-    where
-      either : (x : ℕ) (c : Bool) → eqb x a ≡ c → bit (c || eqb x b) ≡ bit c + bit (eqb x b)
-      either x true q = rw (eqb-true x a q, ne_eqb a b ne)
-      either x false q = omega arith
+      omega (arith, F.counted a ha ta, F.counted b hb tb, count_two (λ (v : ℕ). eqb (root v) a) (λ (v : ℕ). eqb (root v) b) (λ (v : ℕ). eqb (root v) a || eqb (root v) b) n (λ v l. grind (arith, nat_tests)), count_le_all (λ (v : ℕ). eqb (root v) a || eqb (root v) b) n)
