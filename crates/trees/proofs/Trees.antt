@@ -128,20 +128,9 @@ module _ {n : ℕ} {up size depth root : ℕ → ℕ} (F : Trees n up size depth
   -- a search finds the top, and follows `depth v` links
   search_is : (steps v : ℕ) → v < n → depth v ≤ steps → (top_of up steps v ≡ root v) × (links_of up steps v ≡ depth v)
   unfolding top_of links_of
-  search_is zero v l h = go (eqb (up v) v) refl
-    where
-      go : (c : Bool) → eqb (up v) v ≡ c → (v ≡ root v) × (0 ≡ depth v)
-      go true q = let s = F.stay v l (eqb-true (up v) v q) in (sym s.0, sym s.1)
-      go false q = absurd (omega (arith, F.step v l (eqb-false (up v) v q)))
-  search_is (suc steps) v l h = go (eqb (up v) v) refl (search_is steps (up v))
-    where
-      go : (c : Bool) → eqb (up v) v ≡ c → (up v < n → depth (up v) ≤ steps → (top_of up steps (up v) ≡ root (up v)) × (links_of up steps (up v) ≡ depth (up v)))
-          → (cond c v (top_of up steps (up v)) ≡ root v) × (cond c 0 (suc (links_of up steps (up v))) ≡ depth v)
-      go true q ih = let s = F.stay v l (eqb-true (up v) v q) in (sym s.0, sym s.1)
-      go false q ih =
-          let s = F.step v l (eqb-false (up v) v q) in
-          let r = ih s.0 (omega arith) in
-          (r.0 ∙ sym s.1, ap suc r.1 ∙ sym s.2)
+  search_is zero v l h = (grind (arith, nat_tests, F.stay v l, F.step v l), grind (arith, nat_tests, F.stay v l, F.step v l))
+  search_is (suc steps) v l h =
+      (grind (arith, nat_tests, F.stay v l, F.step v l, search_is steps (up v)), grind (arith, nat_tests, F.stay v l, F.step v l, search_is steps (up v)))
 
   -- n steps are enough
   pub found : (v : ℕ) → v < n → (top_of up n v ≡ root v) × (links_of up n v ≡ depth v)
