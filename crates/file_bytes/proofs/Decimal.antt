@@ -57,21 +57,13 @@ pub length_large : (n : ℕ) → 10 ≤ n → length (decimal n) ≡ length (dec
 length_large n h = ap length (decimal_large n h) ∙ length-append (decimal (n / 10)) (digit (n % 10) ∷ [])
 
 pub length_some : (n : ℕ) → 1 ≤ length (decimal n)
-length_some n = go (lt_or_ge n 10)
-  where
-    go : (n < 10) ⊎ (10 ≤ n) → 1 ≤ length (decimal n)
-    go (inl l) = omega (arith, length_small n l)
-    go (inr g) = omega (arith, length_large n g)
+length_some n = grind (arith, length_small n, length_large n)
 
 -- a number below 10 ^ k has at most k digits
 pub length_most : (k n : ℕ) → 1 ≤ k → n < 10 ^ k → length (decimal n) ≤ k
 length_most zero n h l = absurd (not-suc-le-zero h)
 length_most (suc zero) n h l = omega (arith, length_small n (omega (arith, l)))
-length_most (suc (suc k)) n h l = go (lt_or_ge n 10) (length_most (suc k) (n / 10) (omega arith))
-  where
-    go : (n < 10) ⊎ (10 ≤ n) → (n / 10 < 10 ^ suc k → length (decimal (n / 10)) ≤ suc k) → length (decimal n) ≤ suc (suc k)
-    go (inl l') ih = omega (arith, length_small n l')
-    go (inr g) ih = omega (arith, length_large n g, ih (omega (arith, l)))
+length_most (suc (suc k)) n h l = grind (arith, length_small n, length_large n, length_most (suc k) (n / 10), pow-suc 10 (suc k))
 
 -- a number from 10 ^ k on, and below ten times that, has k + 1 digits
 pub length_of : (k n : ℕ) → 10 ^ k ≤ max n 1 → max n 1 < 10 * 10 ^ k → length (decimal n) ≡ k + 1
