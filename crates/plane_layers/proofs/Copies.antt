@@ -5,8 +5,8 @@ use mathlib.Core.List.{List}
 use Prim.Native.Nat.{ℕ, ◌+◌, ◌*◌, ◌-◌, ◌/◌, ◌%◌, ◌≤◌, ◌<◌}
 use mathlib.Core.Logic.{◌⊎◌, inl, inr}
 use native.Mathlib.Omega.{arith}
-use lib.ListN.{length, get_or, set, length-set, get_or-eq_default}
-use lib.Seq.{get_or-set_same, get_or-set_other}
+use Rattle.std.proofs.lemmas.Grind.{common_steps}
+use lib.ListN.{length, get_or, set, get_or-eq_default}
 use Rattle.laws.specs.Below.{over}
 use Rattle.laws.proofs.Over.{each, each_length, over_put, over_at, over_behind}
 use Rattle.laws.proofs.Tests.{lt_or_ge}
@@ -22,29 +22,18 @@ half_same work y y' z z' e f = ap₂ (λ (a b : ℕ). half_of (get_or work a 0) 
 pub window_more : (part w : List ℕ) (i : ℕ) → 2 * i + 1 < length w → Windowed part (2 * i) w → Windowed part (2 * (i + 1)) (set (set w (2 * i) (get_or part i 0 % 65536)) (2 * i + 1) (get_or part i 0 / 65536))
 window_more part w i h is x l = go (lt_or_ge x (2 * i)) (lt_or_ge (2 * i) x)
   where
-    v : ℕ
-    v = get_or part i 0
-
-    w₁ : List ℕ
-    w₁ = set w (2 * i) (v % 65536)
-
-    go : (x < 2 * i) ⊎ (2 * i ≤ x) → (2 * i < x) ⊎ (x ≤ 2 * i) → get_or (set w₁ (2 * i + 1) (v / 65536)) x 0 ≡ half_of (get_or part (x / 2) 0) (x % 2)
-    go (inl a) b = get_or-set_other w₁ (2 * i + 1) x (v / 65536) 0 (λ q. omega arith) ∙ get_or-set_other w (2 * i) x (v % 65536) 0 (λ q. omega arith) ∙ is x a
+    go : (x < 2 * i) ⊎ (2 * i ≤ x) → (2 * i < x) ⊎ (x ≤ 2 * i) → get_or (set (set w (2 * i) (get_or part i 0 % 65536)) (2 * i + 1) (get_or part i 0 / 65536)) x 0 ≡ half_of (get_or part (x / 2) 0) (x % 2)
+    go (inl a) b = grind (arith, common_steps, is x a)
     go (inr a) (inl b) =
-        ap (λ (y : ℕ). get_or (set w₁ (2 * i + 1) (v / 65536)) y 0) last
-        ∙ get_or-set_same w₁ (2 * i + 1) (v / 65536) 0 (omega (arith, length-set w (2 * i) (v % 65536)))
-        ∙ sym (half_same part (x / 2) i (x % 2) 1 (omega arith) (omega arith))
-      where
-        last : x ≡ 2 * i + 1
-        last = omega arith
+        let e : x ≡ 2 * i + 1 = omega arith in
+        let word : x / 2 ≡ i = omega arith in
+        let high : x % 2 ≡ 1 = omega arith in
+        rw (word, high) (grind (arith, common_steps))
     go (inr a) (inr b) =
-        ap (λ (y : ℕ). get_or (set w₁ (2 * i + 1) (v / 65536)) y 0) here
-        ∙ get_or-set_other w₁ (2 * i + 1) (2 * i) (v / 65536) 0 (λ q. omega arith)
-        ∙ get_or-set_same w (2 * i) (v % 65536) 0 (omega arith)
-        ∙ sym (half_same part (x / 2) i (x % 2) 0 (omega arith) (omega arith))
-      where
-        here : x ≡ 2 * i
-        here = omega arith
+        let e : x ≡ 2 * i = omega arith in
+        let word : x / 2 ≡ i = omega arith in
+        let low : x % 2 ≡ 0 = omega arith in
+        rw (word, low) (grind (arith, common_steps))
 
 -- ---- words from samples
 
