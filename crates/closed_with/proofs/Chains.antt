@@ -1,49 +1,63 @@
 -- The chains of sides: one side more at the front, the words when all are chained, and a chain that is followed.
 -- Assumes nothing.
-use Prim.Native.Nat.{ℕ, ◌+◌, ◌-◌, ◌≤◌, ◌<◌}
+use Prim.Native.Nat.{ℕ, ◌+◌, ◌-◌, ◌≤◌, ◌<◌, max}
+use Rattle.std.specs.Prelude.{Some, None, fold}
+use Rattle.std.specs.List.{reduce}
 use mathlib.Core.Path.{◌≡◌, refl, ap, sym, ◌∙◌, subst}
 use mathlib.Core.Bool.{Bool, true, false}
 use mathlib.Core.Logic.{◌⊎◌, inl, inr}
-use mathlib.Core.List.{List}
+use mathlib.Core.List.{List, [], ◌∷◌, ◌++◌}
 use native.Mathlib.Omega.{arith}
 use lib.Dec.{eqb}
-use lib.ListN.{length, get_or, set, length-set}
-use lib.Seq.{get_or-set_same, get_or-set_other, ext_get_or}
+use lib.ListN.{length, get_or, set, take, drop, replicate, length-set}
+use lib.Seq.{get_or-set_same, get_or-set_other, ext_get_or, length-take-le}
+use Rattle.std.proofs.lemmas.List.{length-replicate, get_or-replicate}
 use borrow.Author.Tests.{eqb-true, eqb-false, eq-eqb}
 use Rattle.laws.specs.Below.{over}
 use Rattle.laws.specs.Bits.{bit}
 use Rattle.laws.specs.Counting.{count}
+use Rattle.laws.proofs.Bits.{bit_le}
 use Rattle.laws.proofs.Counting.{count_next, count_still}
-use Rattle.laws.proofs.Leading.{before_more}
 use Rattle.laws.proofs.Over.{over_length, over_front, over_behind}
 use Rattle.laws.proofs.Tests.{lt_or_ge, and_fails}
-use Rattle.closed.specs.Closed.{from, walked, walks}
+use Rattle.closed.specs.Closed.{from, walked}
 use Rattle.closed.specs.Chains.{top_number, first_from, chains}
 use Rattle.closed.specs.Steps.{next_place, walks_before}
 use Rattle.closed.proofs.Chains.{top_above, first_ge, first_le, first_starts, first_between, first_none, first_here, first_skip, chains_length, at_head, at_link}
 use Rattle.closed_with.specs.Steps.{Chained, Followed}
 
--- ---- the chains while they are made
+-- ---- one more than the highest number
 
--- the words before v are n, those from v on are as they were: one word more
-pub cleared_more : (n v : ℕ) (old new : List ℕ) → v < length new → length new ≡ length old → ((p : ℕ) → p < v → get_or new p 0 ≡ n) → ((p : ℕ) → v ≤ p → get_or new p 0 ≡ get_or old p 0)
-    → (length (set new v n) ≡ length old) × ((p : ℕ) → p < v + 1 → get_or (set new v n) p 0 ≡ n) × ((p : ℕ) → v + 1 ≤ p → get_or (set new v n) p 0 ≡ get_or old p 0)
-cleared_more n v old new h l before behind = (
-  length-set new v n ∙ l,
-  before_more (λ (p : ℕ). get_or (set new v n) p 0 ≡ n) v (λ p k. get_or-set_other new v p n 0 (λ e. absurd (omega arith)) ∙ before p k) (get_or-set_same new v n 0 h),
-  (λ p k. get_or-set_other new v p n 0 (λ e. absurd (omega arith)) ∙ behind p (omega arith)),
-)
+fold_top : (v : ℕ) (l : List ℕ) → fold max v l + 1 ≡ max (v + 1) (top_number l)
+unfolding top_number
+fold_top v [] = omega arith
+fold_top v (x ∷ l) = omega (arith, fold_top (max v x) l)
+
+pub top_some : (l : List ℕ) (m : ℕ) → Some m ≡ reduce max l → m + 1 ≡ top_number l
+unfolding top_number
+top_some [] m e = cc
+top_some (v ∷ l) m e = let f : m ≡ fold max v l = cc in omega (arith, f, fold_top v l)
+
+pub top_none : (l : List ℕ) → None ≡ reduce max l → 0 ≡ top_number l
+unfolding top_number
+top_none [] e = refl
+top_none (v ∷ l) e = cc
+
+-- ---- the chains while they are made
 
 module _ {quads : List ℕ} {top : ℕ} where
   -- no side is chained yet: the word of each vertex says so, and nothing else is touched
-  pub chained_none : {old new : List ℕ} → length new ≡ length old → ((v : ℕ) → v < top → get_or new v 0 ≡ length quads)
-      → ((p : ℕ) → top ≤ p → get_or new p 0 ≡ get_or old p 0) → Chained quads top (length quads) old new
-  chained_none l h k = record {
-    long = l;
-    heads = λ v b. h v b ∙ sym (first_none quads v);
-    links = λ i a b. absurd (omega arith);
-    behind = λ p b. k p (omega arith);
-  }
+  pub chained_none : (old heads : List ℕ) → top ≤ length old → heads ≡ replicate (length (take top old)) (length quads) → Chained quads top (length quads) old (heads ++ drop top old)
+  unfolding over
+  chained_none old heads h e =
+      let all : length (take top old) ≡ top = length-take-le top old h in
+      let many : length heads ≡ top = ap length e ∙ length-replicate (length (take top old)) (length quads) ∙ all in
+      subst (λ (n : ℕ). Chained quads top (length quads) old (heads ++ drop n old)) many (record {
+        long = over_length heads old (omega (arith, many));
+        heads = λ v b. over_front heads old v 0 (omega (arith, many)) ∙ ap (λ (l : List ℕ). get_or l v 0) e ∙ get_or-replicate _ v (length quads) 0 (omega (arith, all)) ∙ sym (first_none quads v);
+        links = λ i a b. absurd (omega arith);
+        behind = λ p b. over_behind heads old p 0 (omega (arith, many));
+      })
 
   module _ (m v : ℕ) {old new : List ℕ} (at : v ≡ from quads m) (is-top : top ≡ top_number quads) (room : top + length quads ≤ length new) (inside : m < length quads)
       (c : Chained quads top (m + 1) old new) where
@@ -143,19 +157,14 @@ module _ (quads : List ℕ) (a b : ℕ) where
   }
 
   -- one side further
-  pub follow_next : (found m e s next : ℕ) → Following quads a b found m → m < length quads → e ≡ next_place m → s ≡ bit (eqb (get_or quads e 0) b) → s ≤ 1
+  pub follow_next : (found m e s next : ℕ) → Following quads a b found m → m < length quads → e ≡ next_place m → s ≡ bit (eqb (get_or quads e 0) b)
       → next ≡ first_from quads (from quads m) (m + 1) → Following quads a b (found + s) next
-  follow_next found m e s next f h g w l n =
+  follow_next found m e s next f h g w n =
       let goes : next ≡ first_from quads a (m + 1) = n ∙ ap (λ (v : ℕ). first_from quads v (m + 1)) (f.starts h) in
       let here : bit (walked quads a b m) ≡ s = rw (eq-eqb (from quads m) a (f.starts h)) (sym (w ∙ ap (λ (k : ℕ). bit (eqb (get_or quads k 0) b)) g)) in
       record {
         bounded = rw goes (first_le quads a (m + 1) (omega arith));
-        few = omega (arith, goes, first_ge quads a (m + 1), f.few, l);
+        few = omega (arith, goes, first_ge quads a (m + 1), f.few, w, bit_le (eqb (get_or quads e 0) b));
         counted = rw goes (sym (still (m + 1) (omega arith) ∙ count_next (walked quads a b) m ∙ rw (here, ← f.counted)));
         starts = λ k. rw goes (first_starts quads a (m + 1) (rw goes at k));
       }
-
-  pub follow_end : (found m : ℕ) → Following quads a b found m → length quads ≤ m → found ≡ walks quads a b
-  follow_end found m f h =
-      let end : m ≡ length quads = omega (arith, h, f.bounded) in
-      f.counted ∙ ap (walks_before quads a b) end

@@ -2,9 +2,8 @@
 // start at its two ends, and not with every other.
 #![tactic(auto)]
 
-ghost use Rattle.std.specs.Prelude.{◌≡◌, ◌+◌, ◌≤◌, ◌<◌, ◌%◌, eqb, length};
+ghost use Rattle.std.specs.Prelude.{◌≡◌, ◌+◌, ◌≤◌, ◌<◌, ◌%◌, length};
 ghost use Rattle.laws.specs.Below.{over};
-ghost use Rattle.laws.specs.Bits.{bit};
 ghost use Rattle.laws.specs.Leading.{leading};
 ghost use Rattle.closed.specs.Closed.{walks, side_sound};
 ghost use Rattle.closed.specs.Chains.{top_number, chains, ClosedWith};
@@ -52,24 +51,10 @@ fn top_number(quads: &[u32]) -> usize
     ensures value { result ≡ top_number quads.now }
     ensures upper_bound { result ≤ 4294967296 }
 {
-    let mut top: usize = 0;
-    let mut n: usize = 0;
-    while n < quads.len() {
-        let v = wide(quads[n]);
-        if v >= top {
-            top = v + 1;
-        }
-        n += 1;
+    match quads.iter().copied().max() {
+        Some(highest) => highest as usize + 1,
+        None => 0,
     }
-    top
-}
-
-// A vertex number as an index.
-fn wide(v: u32) -> usize
-    ensures value { result ≡ v }
-    ensures upper_bound { result < 4294967296 }
-{
-    v as usize
 }
 
 // No side is chained yet: the word of each vertex says that there is none.
@@ -78,36 +63,20 @@ fn clear_heads(quads: &[u32], top: usize, work: &mut [u64])
     ensures { Chained quads.now top (length quads.now) work.old work.new }
 {
     let none = quads.len() as u64;
-    let mut v: usize = 0;
-    while v < top {
-        work[v] = none;
-        v += 1;
-    }
+    work[..top].fill(none);
 }
 
 // From the last side to the first: each side is put before those that start at its vertex.
+#[tactic(auto, using(closed::proofs::Chains::top_above))]
 fn chain_sides(quads: &[u32], top: usize, work: &mut [u64])
     requires { (top ≡ top_number quads.now) × (top + length quads.now ≤ length work.old) × Chained quads.now top (length quads.now) work.old work.old }
     ensures { Chained quads.now top 0 work.old work.new }
 {
-    let mut m = quads.len();
-    while m > 0 {
-        m -= 1;
-        let v = wide(quads[m]);
+    for m in (0..quads.len()).rev() {
+        let v = quads[m] as usize;
         work[top + m] = work[v];
         work[v] = m as u64;
     }
-}
-
-// 1 if two vertices are the same, else 0.
-fn same(a: u32, b: u32) -> usize
-    ensures value { result ≡ bit (eqb a b) }
-    ensures upper_bound { result ≤ 1 }
-{
-    if a == b {
-        return 1;
-    }
-    0
 }
 
 // How often a side is walked from a to b: the chain of a is followed.
@@ -115,23 +84,24 @@ fn walks_from(quads: &[u32], top: usize, work: &[u64], a: u32, b: u32) -> usize
     requires { (a < top) × (length quads.now % 4 ≡ 0) × Followed quads.now top work.now }
     ensures { result ≡ walks quads.now a b }
 {
+    // (A while: the next side is what the word of the last tells, not one more.)
     let mut found = 0;
     let mut m = work[a as usize] as usize;
     while m < quads.len() {
         let e = closed::next(m);
-        found += same(quads[e], b);
+        found += (quads[e] == b) as usize;
         m = work[top + m] as usize;
     }
     found
 }
 
 // The first side that is not in order, or how many sides there are.
+#[tactic(auto, using(closed::proofs::Chains::top_above))]
 fn first_fault(quads: &[u32], top: usize, work: &[u64]) -> usize
     requires { (top ≡ top_number quads.now) × (length quads.now % 4 ≡ 0) × Followed quads.now top work.now }
     ensures { result ≡ leading (side_sound quads.now) (length quads.now) }
 {
-    let mut n: usize = 0;
-    while n < quads.len() {
+    for n in 0..quads.len() {
         let a = quads[n];
         let e = closed::next(n);
         let b = quads[e];
@@ -140,7 +110,6 @@ fn first_fault(quads: &[u32], top: usize, work: &[u64]) -> usize
         if !closed::sound(a, b, there, back) {
             return n;
         }
-        n += 1;
     }
-    n
+    quads.len()
 }

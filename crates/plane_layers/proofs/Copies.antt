@@ -1,30 +1,17 @@
 -- Copies of a list item by item, and of samples from and to words that hold two of them.
 -- Assumes nothing.
-use mathlib.Core.Path.{◌≡◌, refl, ap, ap₂, sym, ◌∙◌}
-use mathlib.Core.List.{List, [], ◌∷◌, ◌++◌}
-use Prim.Native.Nat.{ℕ, zero, suc, ◌+◌, ◌*◌, ◌-◌, ◌/◌, ◌%◌, ◌≤◌, ◌<◌}
+use mathlib.Core.Path.{◌≡◌, ap, ap₂, sym, ◌∙◌}
+use mathlib.Core.List.{List}
+use Prim.Native.Nat.{ℕ, ◌+◌, ◌*◌, ◌-◌, ◌/◌, ◌%◌, ◌≤◌, ◌<◌}
 use mathlib.Core.Logic.{◌⊎◌, inl, inr}
 use native.Mathlib.Omega.{arith}
-use lib.ListN.{length, get_or, set, take, length-set, get_or-eq_default}
-use lib.Seq.{take-suc, take-length, get_or-set_same, get_or-set_other}
-use Rattle.laws.specs.Below.{below, over}
-use Rattle.laws.proofs.Over.{each, each_length, over_put, over_each, over_at, over_behind}
+use Rattle.std.proofs.lemmas.Grind.{common_steps}
+use lib.ListN.{length, get_or, set, get_or-eq_default}
+use Rattle.laws.specs.Below.{over}
+use Rattle.laws.proofs.Over.{each, each_length, over_put, over_at, over_behind}
 use Rattle.laws.proofs.Tests.{lt_or_ge}
 use Rattle.block.specs.Grey.{SixteenBit}
 use Rattle.plane_layers.specs.Memory.{half_of, sample_in, pair_of, packed, Windowed}
-
--- the first n items, one by one
-each_take : (l : List ℕ) (n : ℕ) → n ≤ length l → each (λ i. get_or l i 0) n ≡ take n l
-unfolding below
-each_take l zero h = refl
-each_take l (suc n) h = ap (λ (x : List ℕ). x ++ (get_or l n 0 ∷ [])) (each_take l n (omega arith)) ∙ sym (take-suc l n 0 (omega arith))
-
-pub each_all : (l : List ℕ) (n : ℕ) → n ≡ length l → each (λ i. get_or l i 0) n ≡ l
-each_all l n e = rw e (each_take l (length l) (omega arith) ∙ take-length l)
-
--- into a buffer of the same length
-pub copied_all : (l b c : List ℕ) (n : ℕ) → n ≡ length l → length l ≡ length b → c ≡ over (each (λ i. get_or l i 0) n) b → c ≡ l
-copied_all l b c n e f h = h ∙ over_each (λ i. get_or l i 0) b n (sym f ∙ sym e) ∙ each_all l n e
 
 -- ---- samples from words
 
@@ -35,38 +22,24 @@ half_same work y y' z z' e f = ap₂ (λ (a b : ℕ). half_of (get_or work a 0) 
 pub window_more : (part w : List ℕ) (i : ℕ) → 2 * i + 1 < length w → Windowed part (2 * i) w → Windowed part (2 * (i + 1)) (set (set w (2 * i) (get_or part i 0 % 65536)) (2 * i + 1) (get_or part i 0 / 65536))
 window_more part w i h is x l = go (lt_or_ge x (2 * i)) (lt_or_ge (2 * i) x)
   where
-    v : ℕ
-    v = get_or part i 0
-
-    w₁ : List ℕ
-    w₁ = set w (2 * i) (v % 65536)
-
-    go : (x < 2 * i) ⊎ (2 * i ≤ x) → (2 * i < x) ⊎ (x ≤ 2 * i) → get_or (set w₁ (2 * i + 1) (v / 65536)) x 0 ≡ half_of (get_or part (x / 2) 0) (x % 2)
-    go (inl a) b = get_or-set_other w₁ (2 * i + 1) x (v / 65536) 0 (λ q. omega arith) ∙ get_or-set_other w (2 * i) x (v % 65536) 0 (λ q. omega arith) ∙ is x a
+    go : (x < 2 * i) ⊎ (2 * i ≤ x) → (2 * i < x) ⊎ (x ≤ 2 * i) → get_or (set (set w (2 * i) (get_or part i 0 % 65536)) (2 * i + 1) (get_or part i 0 / 65536)) x 0 ≡ half_of (get_or part (x / 2) 0) (x % 2)
+    go (inl a) b = grind (arith, common_steps, is x a)
     go (inr a) (inl b) =
-        ap (λ (y : ℕ). get_or (set w₁ (2 * i + 1) (v / 65536)) y 0) last
-        ∙ get_or-set_same w₁ (2 * i + 1) (v / 65536) 0 (omega (arith, length-set w (2 * i) (v % 65536)))
-        ∙ sym (half_same part (x / 2) i (x % 2) 1 (omega arith) (omega arith))
-      where
-        last : x ≡ 2 * i + 1
-        last = omega arith
+        let e : x ≡ 2 * i + 1 = omega arith in
+        let word : x / 2 ≡ i = omega arith in
+        let high : x % 2 ≡ 1 = omega arith in
+        rw (word, high) (grind (arith, common_steps))
     go (inr a) (inr b) =
-        ap (λ (y : ℕ). get_or (set w₁ (2 * i + 1) (v / 65536)) y 0) here
-        ∙ get_or-set_other w₁ (2 * i + 1) (2 * i) (v / 65536) 0 (λ q. omega arith)
-        ∙ get_or-set_same w (2 * i) (v % 65536) 0 (omega arith)
-        ∙ sym (half_same part (x / 2) i (x % 2) 0 (omega arith) (omega arith))
-      where
-        here : x ≡ 2 * i
-        here = omega arith
+        let e : x ≡ 2 * i = omega arith in
+        let word : x / 2 ≡ i = omega arith in
+        let low : x % 2 ≡ 0 = omega arith in
+        rw (word, low) (grind (arith, common_steps))
 
 -- ---- words from samples
 
 -- the word i of a plane
 abbrev pub word_at : List ℕ → ℕ → ℕ
 word_at plane i = pair_of (get_or plane (2 * i) 0) (get_or plane (2 * i + 1) 0)
-
-pub packed_even : (plane b c : List ℕ) (i : ℕ) → i ≡ length plane / 2 → (length plane % 2 ≡ 1 → ⊥) → c ≡ over (each (word_at plane) i) b → c ≡ over (packed plane) b
-packed_even plane b c i e ne h = h ∙ ap (λ (m : ℕ). over (each (word_at plane) m) b) (omega arith)
 
 pub packed_odd : (plane b c : List ℕ) (i v : ℕ) → i ≡ length plane / 2 → length plane % 2 ≡ 1 → length plane ≤ length b → v ≡ pair_of (get_or plane (length plane - 1) 0) 0 → c ≡ over (each (word_at plane) i) b
     → set c i v ≡ over (packed plane) b

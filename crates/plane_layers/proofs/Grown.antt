@@ -120,11 +120,6 @@ module _ (n : Size) (s : List ℕ) (cut : Cut) (k : ℕ) where
 -- ---- what a layer requires is there
 
 module _ {layer : Layer} {work plane : List ℕ} (r : LayerReady layer work plane) where
-  pub signs_fit : (nx ny : ℕ) → nx ≡ layer.size.nx → ny ≡ layer.size.ny → (nx ≤ 256) × (ny ≤ 256) × (nx * ny ≤ length work) × (nx * ny ≤ length plane)
-  signs_fit nx ny ex ey =
-      let all : nx * ny ≡ plane_size layer.size = ap₂ (λ (x y : ℕ). x * y) ex ey in
-      (omega (arith, r.limits.x_high), omega (arith, r.limits.y_high), omega (arith, r.room), omega (arith, r.plane_long))
-
   pub signs_ready : (nx ny : ℕ) (a b : List ℕ) → nx ≡ layer.size.nx → ny ≡ layer.size.ny → length a ≡ 1280 → length b ≡ 1280
       → SignedTo nx (sample_in work) layer.cut ny a → SignedTo nx (item_at plane) layer.cut ny b → SignsReady layer work plane a b
   signs_ready nx ny a b ex ey ea eb sa sb = record {

@@ -173,16 +173,32 @@ module _ {layer : Layer} {t : Marks} {plane work₀ w₀ : List ℕ} {o₀ : Lis
 
   -- ---- the numbers below are fetched
 
-  module _ (at h p : ℕ) (ea : at ≡ table_at layer.size j) (eh : h ≡ 512 * (j % 2)) (ep : p ≡ 2 * layer.size.nx) where
-    pub in_work : at + p ≤ length work
-    in_work = omega (arith, table_in layer.size j hj, r.room, st.kept.work_long)
+  module _ (nx ny : ℕ) (ex : nx ≡ layer.size.nx) (ey : ny ≡ layer.size.ny) where
+    abbrev at : ℕ
+    at = nx * ny + 2 * (nx * j)
 
-    pub in_half : h + p ≤ 1024
+    abbrev h : ℕ
+    h = 512 * (j % 2)
+
+    abbrev p : ℕ
+    p = 2 * nx
+
+    ea : at ≡ table_at layer.size j
+    ea = ap₂ (λ (x y : ℕ). x * y + 2 * (x * j)) ex ey
+
+    in_work : at + p ≤ length work
+    in_work = omega (arith, ea, table_in layer.size j hj, r.room, st.kept.work_long)
+
+    in_half : h + p ≤ 1024
     in_half = omega (arith, r.limits.x_high)
 
-    -- so the code's numbers fit
-    pub in_all : (at + p ≤ length work) × (h + p ≤ 1024)
-    in_all = (in_work, in_half)
+    -- the code's numbers fit
+    pub small : (nx * ny ≤ 65536) × (nx * j ≤ 65536) × (nx ≤ 256) × (at + p ≤ length work) × (h + p ≤ 1024)
+    small =
+        let x : nx ≤ 256 = omega (arith, r.limits.x_high) in
+        let y : ny ≤ 256 = omega (arith, r.limits.y_high) in
+        let z : j ≤ 256 = omega arith in
+        (mul-le-mul x y, mul-le-mul x z, x, in_work, in_half)
 
     -- the part that is lent to be filled is as long as the part that is copied
     pub fetch_fits : length (take (at + p - at) (drop at work)) ≡ length (take (h + p - h) (drop h under))
@@ -209,11 +225,10 @@ module _ {layer : Layer} {t : Marks} {plane work₀ w₀ : List ℕ} {o₀ : Lis
       here x l =
           get_or-take 512 (drop (512 * (j % 2)) under') x 0 (omega (arith, r.limits.x_high))
           ∙ get_or-drop (512 * (j % 2)) under' x 0
-          ∙ ap (λ (i : ℕ). get_or under' (i + x) 0) (sym eh)
           ∙ put_in h (h + p) under fetched (omega arith) (omega (arith, in_half, st.under_long)) fits x (omega arith)
           ∙ ap (λ (l : List ℕ). get_or l x 0) ef
           ∙ part_at work at p x (omega arith)
-          ∙ st.kept.work_behind (at + x) (omega arith)
+          ∙ st.kept.work_behind (at + x) (omega (arith, ea))
           ∙ ap (λ (i : ℕ). get_or work₀ (i + x) 0) ea
           ∙ sym (get_or-drop (table_at layer.size j) work₀ x 0)
 
@@ -298,7 +313,6 @@ module _ {layer : Layer} {t : Marks} {plane work₀ w₀ : List ℕ} {o₀ : Lis
                     ∙ put_in at (at + p) work own (omega arith) in_work own_fits x (omega arith)
                     ∙ ap (λ (l : List ℕ). get_or l x 0) eo
                     ∙ part_at tab' h p x (omega arith)
-                    ∙ ap (λ (i : ℕ). get_or tab' (i + x) 0) eh
                     ∙ sym (get_or-drop (512 * (j % 2)) tab' x 0)
                     ∙ sym (get_or-take 512 (drop (512 * (j % 2)) tab') x 0 (omega (arith, r.limits.x_high)))
 
@@ -309,7 +323,7 @@ module _ {layer : Layer} {t : Marks} {plane work₀ w₀ : List ℕ} {o₀ : Lis
                 le_of a = omega arith
 
                 same : i < j → (x : ℕ) → x < 2 * (layer.size.nx - 1) → get_or (drop (table_at n i) work') x 0 ≡ get_or (drop (table_at n i) work) x 0
-                same a x b = get_or-drop (table_at n i) work' x 0 ∙ before_kept (table_at n i + x) (omega (arith, table_later n j i a)) ∙ sym (get_or-drop (table_at n i) work x 0)
+                same a x b = get_or-drop (table_at n i) work' x 0 ∙ before_kept (table_at n i + x) (omega (arith, ea, table_later n j i a)) ∙ sym (get_or-drop (table_at n i) work x 0)
 
                 go : (i ≡ j) ⊎ (i < j) → RowTable loops_of n s layer.cut i layer.k (drop (table_at n i) work')
                 go (inl e) = subst (λ (y : ℕ). RowTable loops_of n s layer.cut y layer.k (drop (table_at n y) work')) (sym e) noted_here
@@ -344,9 +358,9 @@ module _ {layer : Layer} {t : Marks} {plane work₀ w₀ : List ℕ} {o₀ : Lis
             quads_behind = λ i l.
                 taken.quads_behind i (omega (arith, moved_x, moved_z)) (omega (arith, moved_y, moved_z)) l
                 ∙ st.kept.quads_behind i (omega (arith, further));
-            work_behind = λ i l. put_behind at (at + p) work own (omega arith) in_work own_fits i (omega arith) ∙ st.kept.work_behind i (omega arith);
+            work_behind = λ i l. put_behind at (at + p) work own (omega arith) in_work own_fits i (omega (arith, ea)) ∙ st.kept.work_behind i (omega arith);
           };
-          front = λ i l. before_kept i (omega arith) ∙ st.front i l;
+          front = λ i l. before_kept i (omega (arith, ea)) ∙ st.front i l;
           marked = λ s sh. next_marked sh;
           done = λ s sh known. next_done sh known;
         }
@@ -362,20 +376,6 @@ module _ {layer : Layer} {t : Marks} {plane work₀ w₀ : List ℕ} {o₀ : Lis
 
             further : m.z ≤ m'.z
             further = omega (arith, (taken.moved some (shown_same layer work₀ work st.kept.work_long st.front shown₀)).z_is)
-
--- the numbers of a row fit, as the code makes them
-pub table_small : {layer : Layer} {t : Marks} {plane work₀ w₀ : List ℕ} {o₀ : List Float} {q₀ under tab work w : List ℕ} {o : List Float} {q : List ℕ} {m : Marks} {j : ℕ}
-    → LayerReady layer work₀ plane → LayerCounted loops_of layer work₀ plane t → LayerRoomy t w₀ o₀ q₀ → RowsState loops_of layer t.x (t.x + t.y) plane work₀ w₀ o₀ q₀ under tab work w o q m j → j + 1 < layer.size.ny
-    → (nx ny : ℕ) → nx ≡ layer.size.nx → ny ≡ layer.size.ny
-    → (nx * ny ≤ 65536) × (nx * j ≤ 65536) × (nx ≤ 256) × (nx * ny + 2 * (nx * j) + 2 * nx ≤ length work) × (512 * (j % 2) + 2 * nx ≤ 1024) × (nx * ny + 2 * (nx * j) ≤ 196608)
-table_small {layer} {t} {plane} {work₀} {w₀} {o₀} {q₀} {under} {tab} {work} {w} {o} {q} {m} {j} r counted room st hj nx ny ex ey =
-    let x : nx ≤ 256 = omega (arith, r.limits.x_high) in
-    let y : ny ≤ 256 = omega (arith, r.limits.y_high) in
-    let z : j ≤ 256 = omega arith in
-    let a : nx * ny ≤ 256 * 256 = mul-le-mul x y in
-    let b : nx * j ≤ 256 * 256 = mul-le-mul x z in
-    let c = in_all r counted room st hj (nx * ny + 2 * (nx * j)) (512 * (j % 2)) (2 * nx) (ap₂ (λ (u v : ℕ). u * v + 2 * (u * j)) ex ey) refl (ap (λ (u : ℕ). 2 * u) ex) in
-    (a, b, x, c.0, c.1, omega arith)
 
 -- ---- all rows
 

@@ -2,7 +2,7 @@
 // and what must be remembered for the next plane (document 02, Nine).
 #![tactic(auto)]
 
-ghost use Rattle.std.specs.Prelude.{◌≡◌, ◌+◌, ◌*◌, ◌/◌, ◌%◌, ◌≤◌, length};
+ghost use Rattle.std.specs.Prelude.{◌≡◌, ◌*◌, ◌≤◌, length};
 ghost use Rattle.laws.specs.Below.{over};
 ghost use Rattle.cube_rule.specs.Decider.{loops_of};
 ghost use Rattle.plane_layers.specs.Layer.{LayerReady, SignsReady, LayerCounted, StepReady, RowTaken, LayerRoomy, LayerWritten, Grown};
@@ -21,59 +21,39 @@ pub struct Layer {
     pub k: usize,
 }
 
-// The samples of a part of words, at the front of a window: a loop that is compiled to a copy.
+// The samples of a part of words, at the front of a window: a loop that is compiled to a copy, since each word is read once.
+#[tactic(auto, using(crate::proofs::Copies::window_more))]
 fn unpack(part: &[u32], window: &mut [u16])
     requires { 2 * length part.now ≤ length window.old }
     ensures { Windowed part.now (2 * length part.now) window.new }
 {
-    let n = part.len();
-    let mut i: usize = 0;
-    while i < n {
-        let w = part[i];
-        window[2 * i] = low(w);
-        window[2 * i + 1] = high(w);
-        i += 1;
+    for (i, &w) in part.iter().enumerate() {
+        window[2 * i] = (w % 65536) as u16;
+        window[2 * i + 1] = (w / 65536) as u16;
     }
 }
 
-// The low half of a word.
-fn low(w: u32) -> u16
-    ensures { result ≡ w % 65536 }
-{
-    (w % 65536) as u16
-}
-
-// The high half of a word.
-fn high(w: u32) -> u16
-    ensures { result ≡ w / 65536 }
-{
-    (w / 65536) as u16
-}
-
 // Copies words into a part of the same length.
+// (A loop: `copy_from_slice` has the archive call memmove, and it is to need memcpy and memset alone.)
 fn copy(source: &[u32], target: &mut [u32])
     requires { length source.now ≡ length target.old }
     ensures { target.new ≡ source.now }
 {
-    let n = source.len();
-    let mut i: usize = 0;
-    while i < n {
-        target[i] = source[i];
-        i += 1;
+    for (i, w) in source.iter().enumerate() {
+        target[i] = *w;
     }
 }
 
 // Remembers a plane at the front of the buffer, two samples to a word.
+#[tactic(auto, using(crate::proofs::Copies::packed_odd, laws::proofs::Over::over_none, laws::proofs::Over::over_put))]
 pub fn keep_plane(plane: &[u16], work: &mut [u32])
     requires { length plane.now ≤ length work.old }
     ensures { work.new ≡ over (packed plane.now) work.old }
 {
     let n = plane.len();
     let pairs = n / 2;
-    let mut i: usize = 0;
-    while i < pairs {
+    for i in 0..pairs {
         work[i] = pair(plane[2 * i], plane[2 * i + 1]);
-        i += 1;
     }
     if n % 2 == 1 {
         work[pairs] = pair(plane[n - 1], 0);
@@ -93,26 +73,23 @@ fn old_signs(nx: usize, ny: usize, cut: Cut, work: &[u32], signs: &mut [u64])
     ensures { SignedTo nx (sample_in work.now) cut ny signs.new }
 {
     let mut row = [0u16; 514];
-    let mut j: usize = 0;
-    while j < ny {
+    for j in 0..ny {
         let p = nx * j;
         unpack(&work[p / 2..(p + nx + 1) / 2], &mut row);
         let h = p % 2;
         signs::row_signs(&row[h..h + nx], cut, signs, j);
-        j += 1;
     }
 }
 
 // The signs of a plane that is lent, five words to a row.
+// (Not one function with `old_signs`: a closure cannot lend the window that it fills.)
 fn new_signs(nx: usize, ny: usize, cut: Cut, plane: &[u16], signs: &mut [u64])
     requires { (nx ≤ 256) × (ny ≤ 256) × (nx * ny ≤ length plane.now) × (length signs.old ≡ 1280) }
     ensures { SignedTo nx (item_at plane.now) cut ny signs.new }
 {
-    let mut j: usize = 0;
-    while j < ny {
+    for j in 0..ny {
         let p = nx * j;
         signs::row_signs(&plane[p..p + nx], cut, signs, j);
-        j += 1;
     }
 }
 
@@ -130,15 +107,13 @@ fn count_rows(layer: Layer, plane: &[u16], work: &[u32], a: &[u64], b: &[u64]) -
         z: 0,
     };
     let mut lo = [0u16; 514];
-    let mut j: usize = 0;
-    while j < rows {
+    for j in 0..rows {
         let nx = size.nx();
         let p = nx * j;
         unpack(&work[p / 2..(p + 2 * nx + 1) / 2], &mut lo);
         let h = p % 2;
         let row = mesh::row_of(size, layer.cut, layer.first, j, layer.k);
         m = layers::row_counts(row, a, b, &lo[h..h + 2 * nx], &plane[p..p + 2 * nx], m);
-        j += 1;
     }
     m
 }
@@ -210,8 +185,7 @@ fn write_rows(
         y: t.x,
         z: t.x + t.y,
     };
-    let mut j: usize = 0;
-    while j < rows {
+    for j in 0..rows {
         let at = nx * ny + 2 * (nx * j);
         let h = 512 * (j % 2);
         copy(&work[at..at + 2 * nx], &mut under[h..h + 2 * nx]);
@@ -219,7 +193,6 @@ fn write_rows(
             layer, plane, work, a, b, j, words, offsets, quads, &under, &mut tab, &mut lo, m,
         );
         copy(&tab[h..h + 2 * nx], &mut work[at..at + 2 * nx]);
-        j += 1;
     }
 }
 

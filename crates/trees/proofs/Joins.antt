@@ -4,16 +4,14 @@
 use Prim.Native.Nat.{ℕ, suc, ◌+◌, ◌^◌, ◌≤◌, ◌<◌, max}
 use mathlib.Core.Path.{◌≡◌, refl, ap, ap₂, sym, ◌∙◌, subst}
 use mathlib.Core.Bool.{Bool, true, false, not, cond, ◌&&◌}
-use mathlib.Core.Logic.{◌⊎◌, inl, inr}
 use mathlib.Core.List.{List}
 use native.Mathlib.Omega.{arith}
 use lib.Dec.{eqb}
 use lib.ListN.{length, set, length-set}
 use borrow.Author.Tests.{eq-eqb, ne_eqb, eqb-true, eqb-false}
 use Rattle.laws.specs.Bits.{bit}
-use Rattle.laws.proofs.Tests.{lt_or_ge}
-use Rattle.trees.specs.Forest.{State, at, top_of, links_of, hung, goes_under, united, counted, join, join_quad}
-use Rattle.trees.specs.Steps.{stored, Trees, Standing, Tops, Unites, Follows, Joins}
+use Rattle.trees.specs.Forest.{State, at, top_of, links_of, hung, goes_under, united, counted, join}
+use Rattle.trees.specs.Steps.{stored, Trees, Standing, Tops, Unites, Follows, Reached, Joins}
 use Rattle.trees.proofs.Trees.{hung_up, hung_size, hang, small, found, settled}
 use Rattle.trees.proofs.Searches.{at_top, one_link, tops}
 use Rattle.trees.proofs.Stored.{set_as}
@@ -34,11 +32,7 @@ abbrev pub Stands : ℕ → State → Type 0
 Stands n st = Standing n st.up st.size
 
 max_pow : (a b n : ℕ) → 2 ^ a ≤ n → 2 ^ b ≤ n → 2 ^ max a b ≤ n
-max_pow a b n p q = go (lt_or_ge a b)
-  where
-    go : (a < b) ⊎ (b ≤ a) → 2 ^ max a b ≤ n
-    go (inl l) = let e : max a b ≡ b = omega arith in rw e q
-    go (inr g) = let e : max a b ≡ a = omega arith in rw e p
+max_pow a b n p q = grind arith
 
 -- x and y have one top, or one of them has the top of v and the other that of w
 pub data Merged (root : ℕ → ℕ) (v w x y : ℕ) : Type 0 where
@@ -179,14 +173,6 @@ module _ (n : ℕ) where
 
 -- ---- as the code finds it
 
--- links and sizes after a join: they are as many, and can be joined again
-pub ready_again : (up size up' size' : List ℕ) (longest r v w : ℕ) → v < length up → w < length up → Standing (length up) up size
-    → stored up' size' r ≡ join (length up) v w (stored up size longest)
-    → (length up' ≡ length up) × Standing (length up') up' size'
-ready_again up size up' size' longest r v w hv hw S e =
-    let S' : Standing (length up) up' size' = subst (Stands (length up)) (sym e) (join_next (length up) (stored up size longest) S v w hv hw).stands in
-    (S'.up_length, subst (λ (m : ℕ). Standing m up' size') (sym S'.up_length) S')
-
 -- two searches, and the tops that they find are united
 pub join_is : (up size up' size' : List ℕ) (v w longest r a b k l : ℕ)
     → a ≡ top_of (at up) (length up) v → k ≡ links_of (at up) (length up) v → b ≡ top_of (at up) (length up) w → l ≡ links_of (at up) (length up) w
@@ -223,44 +209,47 @@ hung_top {n} {up} {size} {a} {b} S t up' size' u = go (eqb a b) (goes_under size
         there = ap (λ (l : List ℕ). at l b) (stored_up false true p q) ∙ (λ i. set_as up a b (rw S.up_length t.first_lt) i b) ∙ rw (ne_eqb b a (λ e. eqb-false a b p (sym e))) t.second_top
 
 -- A vertex whose way is known, by k links to a, is joined with w, whose way is known by l links to b: their tops are united, and c says whether a was hung.
-module _ (up size up' size' : List ℕ) (w a k longest b l longest' : ℕ) (c : Bool) (hw : w < length up) (S : Standing (length up) up size)
+module _ {up size up' size' : List ℕ} {w a k b l longest' : ℕ} {c : Bool} (longest : ℕ) (hw : w < length up) (S : Standing (length up) up size)
     (eb : b ≡ top_of (at up) (length up) w) (el : l ≡ links_of (at up) (length up) w)
     (u : Unites a b up size up' size') (ec : c ≡ (not (eqb a b) && goes_under size a b)) (em : longest' ≡ max longest (max k l)) where
   is_joined : (v : ℕ) → Follows (length up) up v a k → stored up' size' longest' ≡ join (length up) v w (stored up size longest)
   is_joined v F = join_is up size up' size' v w longest longest' a b k l F.finds F.follows eb el u em
 
-  -- its way goes on
-  goes_on : (a' k' : ℕ) → a' ≡ cond c b a → k' ≡ k + bit c → Joins w up size a k longest up' size' a' k' longest'
-  goes_on a' k' ea ek = λ v F. (is_joined v F, way v F)
+  -- its way goes on, by a link where its top was hung, or not at all
+  pub goes_on : (d : Bool) (k' : ℕ) → c ≡ d → k' ≡ k + bit d → Joins w up size a k longest up' size' (cond d b a) k' longest'
+  goes_on d k' ed ek = λ v F. (is_joined v F, way v F)
     where
-      way : (v : ℕ) → Follows (length up) up v a k → Follows (length up) up' v a' k'
+      way : (v : ℕ) → Follows (length up) up v a k → Follows (length up) up' v (cond d b a) k'
       way v F =
           let t = tops S v w F.inside hw a b F.finds eb in
           let h = hung_top S t up' size' u in
           let o = subst (λ (st : State). (top_of (at st.up) (length up) v ≡ top_of (at st.up) (length up) (top_of (at up) (length up) v)) × (links_of (at st.up) (length up) v ≡ links_of (at up) (length up) v + links_of (at st.up) (length up) (top_of (at up) (length up) v)))
           (sym (is_joined v F)) ((join_next (length up) (stored up size longest) S v w F.inside hw).onward v F.inside) in
+          let e = sym ed ∙ ec in
           record {
             inside = F.inside;
-            finds = ea ∙ ap (λ (x : Bool). cond x b a) ec ∙ sym h.0 ∙ ap (top_of (at up') (length up)) F.finds ∙ sym o.0;
-            follows = ek ∙ ap₂ (λ (x y : ℕ). x + y) F.follows (ap bit ec ∙ sym h.1 ∙ ap (links_of (at up') (length up)) F.finds) ∙ sym o.1;
+            finds = ap (λ (x : Bool). cond x b a) e ∙ sym h.0 ∙ ap (top_of (at up') (length up)) F.finds ∙ sym o.0;
+            follows = ek ∙ ap₂ (λ (x y : ℕ). x + y) F.follows (ap bit e ∙ sym h.1 ∙ ap (links_of (at up') (length up)) F.finds) ∙ sym o.1;
           }
 
-  -- by a link, where its top was hung, or not at all
-  pub joins_under : c ≡ true → Joins w up size a k longest up' size' b (k + 1) longest'
-  joins_under t = goes_on b (k + 1) (sym (ap (λ (x : Bool). cond x b a) t)) (sym (ap (λ (x : Bool). k + bit x) t))
+-- A vertex v of n on its way through several joins: the links and sizes are those of a state, and its way is known.
+pub record Going (n v : ℕ) (st : State) (up size : List ℕ) (top links longest : ℕ) : Type 0 where
+  pub is : stored up size longest ≡ st
+  pub stands : Standing n up size
+  pub way : Follows n up v top links
 
-  pub joins_over : c ≡ false → Joins w up size a k longest up' size' a k longest'
-  joins_over t = goes_on a k (sym (ap (λ (x : Bool). cond x b a) t)) (omega (arith, ap bit t))
+module _ {n v : ℕ} {st : State} {up size : List ℕ} {a k longest : ℕ} (G : Going n v st up size a k longest) where
+  -- it can be joined with w
+  pub joinable : (w : ℕ) → w < n → (w < length up) × Standing (length up) up size × Reached (length up) up a k
+  joinable w hw = rw G.stands.up_length (hw, G.stands, record { from = v; way = G.way })
 
--- and then it can be joined again
-pub ready_on : (up size up' size' : List ℕ) (v w a k longest a' k' longest' : ℕ) → w < length up → Standing (length up) up size → Follows (length up) up v a k
-    → Joins w up size a k longest up' size' a' k' longest'
-    → (length up' ≡ length up) × Standing (length up') up' size' × Follows (length up') up' v a' k' × (stored up' size' longest' ≡ join (length up) v w (stored up size longest))
-ready_on up size up' size' v w a k longest a' k' longest' hw S F J =
-    let j = J v F in
-    let r = ready_again up size up' size' longest longest' v w F.inside hw S j.0 in
-    (r.0, r.1, subst (λ (m : ℕ). Follows m up' v a' k') (sym r.0) j.1, j.0)
-
--- three joins of one quad
-pub quad_is : (n m l v0 v1 v2 v3 : ℕ) (st a b c : State) → a ≡ join n v0 v1 st → m ≡ n → b ≡ join m v0 v2 a → l ≡ n → c ≡ join l v0 v3 b → c ≡ join_quad n v0 v1 v2 v3 st
-quad_is n m l v0 v1 v2 v3 st a b c ea em eb el ec = ec ∙ rw (el, eb, em, ea)
+  -- and is on its way still then
+  pub going_on : {w : ℕ} {up' size' : List ℕ} {a' k' longest' : ℕ} → w < n → Joins w up size a k longest up' size' a' k' longest'
+      → Going n v (join n v w st) up' size' a' k' longest'
+  going_on {w} {up'} {size'} {a'} {k'} {longest'} hw J =
+      let j = subst (λ (m : ℕ). Follows m up v a k → (stored up' size' longest' ≡ join m v w (stored up size longest)) × Follows m up' v a' k') G.stands.up_length (J v) G.way in
+      record {
+        is = j.0 ∙ ap (join n v w) G.is;
+        stands = subst (Stands n) (sym j.0) (join_next n (stored up size longest) G.stands v w G.way.inside hw).stands;
+        way = j.1;
+      }

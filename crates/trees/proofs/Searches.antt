@@ -2,23 +2,18 @@
 -- Assumes nothing.
 use Prim.Native.Nat.{ℕ, zero, suc, ◌+◌, ◌≤◌, ◌<◌}
 use mathlib.Core.Path.{◌≡◌, refl, ap, sym, ◌∙◌}
-use mathlib.Core.Bool.{Bool, true, false, cond}
 use mathlib.Core.List.{List}
 use native.Mathlib.Numerals.{add-one}
 use native.Mathlib.Omega.{arith}
-use lib.Dec.{eqb}
-use borrow.Author.Tests.{eq-eqb, ne_eqb, eqb-true, eqb-false}
+use Rattle.std.proofs.lemmas.Bool.Decides.{nat_tests}
+use borrow.Author.Tests.{eq-eqb, ne_eqb}
 use Rattle.trees.specs.Forest.{at, top_of, links_of}
 use Rattle.trees.specs.Steps.{Ends, Standing, Tops}
 
 pub links_le : (up : ℕ → ℕ) (steps v : ℕ) → links_of up steps v ≤ steps
 unfolding links_of
 links_le up zero v = omega arith
-links_le up (suc steps) v = go (eqb (up v) v) (links_le up steps (up v))
-  where
-    go : (c : Bool) → links_of up steps (up v) ≤ steps → cond c 0 (suc (links_of up steps (up v))) ≤ suc steps
-    go true h = omega arith
-    go false h = omega (arith, h)
+links_le up (suc steps) v = grind (arith, nat_tests, links_le up steps (up v))
 
 pub at_top : (up : ℕ → ℕ) (steps v : ℕ) → up v ≡ v → (top_of up steps v ≡ v) × (links_of up steps v ≡ 0)
 unfolding top_of links_of
@@ -36,11 +31,7 @@ one_link up (suc n) v w h ne e f =
 module _ {n : ℕ} {up : List ℕ} (E : Ends n up) where
   -- a link leads to a vertex
   pub inside : (v : ℕ) → v < n → at up v < n
-  inside v h = go (eqb (at up v) v) refl
-    where
-      go : (c : Bool) → eqb (at up v) v ≡ c → at up v < n
-      go true e = rw (eqb-true (at up v) v e) h
-      go false e = (E.nearer v h (eqb-false (at up v) v e)).0
+  inside v h = grind (arith, nat_tests, E.nearer v h)
 
   -- one step nearer to the same top
   pub nearer_to : (v w : ℕ) → v < n → w ≡ at up v → (w ≡ v → ⊥) → (top_of (at up) n v ≡ top_of (at up) n w) × (links_of (at up) n v ≡ links_of (at up) n w + 1)
@@ -69,20 +60,8 @@ module _ (n : ℕ) (up left : ℕ → ℕ) (goes : (x : ℕ) → x < n → (up x
   -- one step more finds the same
   stable : (m x : ℕ) → x < n → left x ≤ m → (top_of up m x ≡ top_of up (suc m) x) × (links_of up m x ≡ links_of up (suc m) x)
   unfolding top_of links_of
-  stable zero x l h = go (eqb (up x) x) refl
-    where
-      go : (c : Bool) → eqb (up x) x ≡ c → (x ≡ cond c x (up x)) × ◌≡◌ {A = ℕ} 0 (cond c 0 1)
-      go true e = (refl, refl)
-      go false e = absurd (omega (arith, (goes x l (eqb-false (up x) x e)).1))
-  stable (suc m) x l h = go (eqb (up x) x) refl (stable m (up x))
-    where
-      go : (c : Bool) → eqb (up x) x ≡ c → (up x < n → left (up x) ≤ m → (top_of up m (up x) ≡ top_of up (suc m) (up x)) × (links_of up m (up x) ≡ links_of up (suc m) (up x)))
-          → (cond c x (top_of up m (up x)) ≡ cond c x (top_of up (suc m) (up x))) × (cond c 0 (suc (links_of up m (up x))) ≡ cond c 0 (suc (links_of up (suc m) (up x))))
-      go true e ih = (refl, refl)
-      go false e ih =
-          let g = goes x l (eqb-false (up x) x e) in
-          let s = ih g.0 (omega (arith, g.1)) in
-          (s.0, ap suc s.1)
+  stable zero x l h = (grind (arith, nat_tests, goes x l), grind (arith, nat_tests, goes x l))
+  stable (suc m) x l h = (grind (arith, nat_tests, goes x l, stable m (up x)), grind (arith, nat_tests, goes x l, stable m (up x)))
 
   -- a link leads one step nearer to the same top
   pub nearer_by : ((x : ℕ) → x < n → left x ≤ n) → (x : ℕ) → x < n → (up x ≡ x → ⊥) → (up x < n) × (top_of up n x ≡ top_of up n (up x)) × (links_of up n x ≡ suc (links_of up n (up x)))
@@ -102,16 +81,5 @@ module _ (n : ℕ) (up left : ℕ → ℕ) (goes : (x : ℕ) → x < n → (up x
   pub ends_at : (root : ℕ → ℕ) → ((x : ℕ) → x < n → up x ≡ x → root x ≡ x) → ((x : ℕ) → x < n → (up x ≡ x → ⊥) → root (up x) ≡ root x)
       → (m x : ℕ) → x < n → left x ≤ m → top_of up m x ≡ root x
   unfolding top_of
-  ends_at root stops same zero x l h = go (eqb (up x) x) refl
-    where
-      go : (c : Bool) → eqb (up x) x ≡ c → x ≡ root x
-      go true e = sym (stops x l (eqb-true (up x) x e))
-      go false e = absurd (omega (arith, (goes x l (eqb-false (up x) x e)).1))
-  ends_at root stops same (suc m) x l h = go (eqb (up x) x) refl (ends_at root stops same m (up x))
-    where
-      go : (c : Bool) → eqb (up x) x ≡ c → (up x < n → left (up x) ≤ m → top_of up m (up x) ≡ root (up x)) → cond c x (top_of up m (up x)) ≡ root x
-      go true e ih = sym (stops x l (eqb-true (up x) x e))
-      go false e ih =
-          let ne = eqb-false (up x) x e in
-          let g = goes x l ne in
-          ih g.0 (omega (arith, g.1)) ∙ same x l ne
+  ends_at root stops same zero x l h = grind (arith, nat_tests, goes x l, stops x l)
+  ends_at root stops same (suc m) x l h = grind (arith, nat_tests, goes x l, stops x l, same x l, ends_at root stops same m (up x))

@@ -7,6 +7,7 @@ use mathlib.Core.Bool.{Bool, true, false, cond, ◌||◌}
 use native.Mathlib.Nat.{pow-suc}
 use native.Mathlib.Omega.{arith}
 use lib.Dec.{eqb}
+use Rattle.std.proofs.lemmas.Bool.Decides.{nat_tests}
 use borrow.Author.Tests.{eq-eqb, ne_eqb, eqb-true, eqb-false}
 use Rattle.laws.specs.Bits.{bit}
 use Rattle.laws.specs.Counting.{count}
@@ -53,28 +54,13 @@ module _ (n : ℕ) (up size depth root : ℕ → ℕ) (F : Trees n up size depth
   root_a = eq-eqb (root a) a (F.stay a ha ta).0
 
   inside' : (v : ℕ) → v < n → root' v < n
-  inside' v l = go (eqb (root v) a)
-    where
-      go : (c : Bool) → cond c b (root v) < n
-      go true = hb
-      go false = F.inside v l
+  inside' v l = grind (arith, nat_tests, F.inside v l)
 
   tops' : (v : ℕ) → v < n → hung_up up a b (root' v) ≡ root' v
-  tops' v l = go (eqb (root v) a) refl
-    where
-      go : (c : Bool) → eqb (root v) a ≡ c → hung_up up a b (cond c b (root v)) ≡ cond c b (root v)
-      go true q = rw ba tb
-      go false q = rw q (F.tops v l)
+  tops' v l = grind (arith, nat_tests, F.tops v l)
 
   stay' : (v : ℕ) → v < n → hung_up up a b v ≡ v → (root' v ≡ v) × (depth' v ≡ 0)
-  stay' v l = go (eqb v a) refl
-    where
-      go : (c : Bool) → eqb v a ≡ c → cond c b (up v) ≡ v → (root' v ≡ v) × (depth' v ≡ 0)
-      go true q e = absurd (ne (sym (eqb-true v a q) ∙ sym e))
-      go false q e =
-          let r = F.stay v l e in
-          let z : eqb (root v) a ≡ false = ap (λ (x : ℕ). eqb x a) r.0 ∙ q in
-          (rw z r.0, rw z r.1)
+  stay' v l e = (grind (arith, nat_tests, F.stay v l), grind (arith, nat_tests, F.stay v l))
 
   step' : (v : ℕ) → v < n → (hung_up up a b v ≡ v → ⊥)
       → (hung_up up a b v < n) × (root' v ≡ root' (hung_up up a b v)) × (depth' v ≡ suc (depth' (hung_up up a b v)))
@@ -98,30 +84,14 @@ module _ (n : ℕ) (up size depth root : ℕ → ℕ) (F : Trees n up size depth
           rw q (s.0, w.0, w.1)
 
   heavy' : (v : ℕ) → v < n → 2 ^ depth' v ≤ hung_size size a b (root' v)
-  heavy' v l = go (eqb (root v) a) refl
-    where
-      bigger : (c : Bool) → eqb (root v) b ≡ c → 2 ^ depth v ≤ size (root v) → 2 ^ depth v ≤ cond c (size a + size b) (size (root v))
-      bigger true q h = omega (arith, ap size (eqb-true (root v) b q))
-      bigger false q h = h
-
-      go : (c : Bool) → eqb (root v) a ≡ c → 2 ^ cond c (suc (depth v)) (depth v) ≤ hung_size size a b (cond c b (root v))
-      go true q = rw (ba, eq-eqb b b refl, pow-suc) (omega (arith, F.heavy v l, ap size (eqb-true (root v) a q)))
-      go false q = rw q (bigger (eqb (root v) b) refl (F.heavy v l))
+  heavy' v l = grind (arith, nat_tests, F.heavy v l, pow-suc 2 (depth v))
 
   -- the vertices under b are those that were under a or b
   both_under : (x : ℕ) → bit (eqb (cond (eqb x a) b x) b) ≡ bit (eqb x a) + bit (eqb x b)
-  both_under x = go (eqb x a) refl
-    where
-      go : (c : Bool) → eqb x a ≡ c → bit (eqb (cond c b x) b) ≡ bit c + bit (eqb x b)
-      go true q = rw (eq-eqb b b refl, eqb-true x a q, ne_eqb a b ne)
-      go false q = omega arith
+  both_under x = grind (arith, nat_tests)
 
   others : (x r : ℕ) → (r ≡ a → ⊥) → (r ≡ b → ⊥) → eqb x r ≡ eqb (cond (eqb x a) b x) r
-  others x r na nb = go (eqb x a) refl
-    where
-      go : (c : Bool) → eqb x a ≡ c → eqb x r ≡ eqb (cond c b x) r
-      go true q = rw (eqb-true x a q, ne_eqb a r (λ z. na (sym z)), ne_eqb b r (λ z. nb (sym z)))
-      go false q = refl
+  others x r na nb = grind (arith, nat_tests)
 
   counted' : (r : ℕ) → r < n → hung_up up a b r ≡ r → hung_size size a b r ≡ count (λ (v : ℕ). eqb (root' v) r) n
   counted' r l = go (eqb r a) (eqb r b) refl refl
@@ -136,12 +106,7 @@ module _ (n : ℕ) (up size depth root : ℕ → ℕ) (F : Trees n up size depth
           ∙ count_same _ _ n (λ v lv. others (root v) r (eqb-false r a p) (eqb-false r b q))
 
   spent' : (v : ℕ) → v < n → (hung_up up a b v ≡ v → ⊥) → hung_size size a b v ≡ 0
-  spent' v l = go (eqb v a) (eqb v b) refl refl
-    where
-      go : (c d : Bool) → eqb v a ≡ c → eqb v b ≡ d → (cond c b (up v) ≡ v → ⊥) → cond c 0 (cond d (size a + size b) (size v)) ≡ 0
-      go true d p q m = refl
-      go false true p q m = absurd (m (rw (eqb-true v b q) tb))
-      go false false p q m = F.spent v l m
+  spent' v l m = grind (arith, nat_tests, F.spent v l)
 
   pub hang : Trees n (hung_up up a b) (hung_size size a b) depth' root'
   hang = record { inside = inside'; tops = tops'; stay = stay'; step = step'; heavy = heavy'; counted = counted'; spent = spent' }
@@ -163,20 +128,9 @@ module _ {n : ℕ} {up size depth root : ℕ → ℕ} (F : Trees n up size depth
   -- a search finds the top, and follows `depth v` links
   search_is : (steps v : ℕ) → v < n → depth v ≤ steps → (top_of up steps v ≡ root v) × (links_of up steps v ≡ depth v)
   unfolding top_of links_of
-  search_is zero v l h = go (eqb (up v) v) refl
-    where
-      go : (c : Bool) → eqb (up v) v ≡ c → (v ≡ root v) × (0 ≡ depth v)
-      go true q = let s = F.stay v l (eqb-true (up v) v q) in (sym s.0, sym s.1)
-      go false q = absurd (omega (arith, F.step v l (eqb-false (up v) v q)))
-  search_is (suc steps) v l h = go (eqb (up v) v) refl (search_is steps (up v))
-    where
-      go : (c : Bool) → eqb (up v) v ≡ c → (up v < n → depth (up v) ≤ steps → (top_of up steps (up v) ≡ root (up v)) × (links_of up steps (up v) ≡ depth (up v)))
-          → (cond c v (top_of up steps (up v)) ≡ root v) × (cond c 0 (suc (links_of up steps (up v))) ≡ depth v)
-      go true q ih = let s = F.stay v l (eqb-true (up v) v q) in (sym s.0, sym s.1)
-      go false q ih =
-          let s = F.step v l (eqb-false (up v) v q) in
-          let r = ih s.0 (omega arith) in
-          (r.0 ∙ sym s.1, ap suc r.1 ∙ sym s.2)
+  search_is zero v l h = (grind (arith, nat_tests, F.stay v l, F.step v l), grind (arith, nat_tests, F.stay v l, F.step v l))
+  search_is (suc steps) v l h =
+      (grind (arith, nat_tests, F.stay v l, F.step v l, search_is steps (up v)), grind (arith, nat_tests, F.stay v l, F.step v l, search_is steps (up v)))
 
   -- n steps are enough
   pub found : (v : ℕ) → v < n → (top_of up n v ≡ root v) × (links_of up n v ≡ depth v)
@@ -199,8 +153,4 @@ module _ {n : ℕ} {up size depth root : ℕ → ℕ} (F : Trees n up size depth
   -- two trees have at most n vertices together
   pub two_tops : (a b : ℕ) → a < n → b < n → up a ≡ a → up b ≡ b → (a ≡ b → ⊥) → size a + size b ≤ n
   two_tops a b ha hb ta tb ne =
-      omega (arith, F.counted a ha ta, F.counted b hb tb, count_two (λ (v : ℕ). eqb (root v) a) (λ (v : ℕ). eqb (root v) b) (λ (v : ℕ). eqb (root v) a || eqb (root v) b) n (λ v l. either (root v) (eqb (root v) a) refl), count_le_all (λ (v : ℕ). eqb (root v) a || eqb (root v) b) n)
-    where
-      either : (x : ℕ) (c : Bool) → eqb x a ≡ c → bit (c || eqb x b) ≡ bit c + bit (eqb x b)
-      either x true q = rw (eqb-true x a q, ne_eqb a b ne)
-      either x false q = omega arith
+      omega (arith, F.counted a ha ta, F.counted b hb tb, count_two (λ (v : ℕ). eqb (root v) a) (λ (v : ℕ). eqb (root v) b) (λ (v : ℕ). eqb (root v) a || eqb (root v) b) n (λ v l. grind (arith, nat_tests)), count_le_all (λ (v : ℕ). eqb (root v) a || eqb (root v) b) n)

@@ -2,7 +2,7 @@
 // one how many vertices hang under each top.
 #![tactic(auto)]
 
-ghost use Rattle.std.specs.Prelude.{◌≡◌, ◌+◌, ◌<◌, max, not, ◌&&◌, ◌||◌, eqb, ltb, length, set};
+ghost use Rattle.std.specs.Prelude.{◌≡◌, ◌+◌, ◌<◌, not, ◌&&◌, ◌||◌, eqb, ltb, length, set};
 ghost use Rattle.trees.specs.Forest.{at, top_of, links_of, goes_under, join_quad};
 ghost use Rattle.trees.specs.Steps.{stored, Ends, Standing, Tops, Unites, Reached, Joins};
 
@@ -13,31 +13,15 @@ pub struct Way {
     pub links: u32,
 }
 
-// The way of the first vertex of a quad to its top, and the longest search so far.
-#[derive(Clone, Copy)]
-struct Walk {
-    top: u32,
-    links: u32,
-    longest: u32,
-}
-
-// The larger of two numbers.
-fn larger(a: u32, b: u32) -> u32
-    ensures { result ≡ max a b }
-{
-    if a < b {
-        return b;
-    }
-    a
-}
-
 // From a vertex to its top. The links followed are counted.
+#[tactic(auto, using(crate::proofs::Searches::nearer_to, crate::proofs::Searches::at_top, crate::proofs::Searches::links_le))]
 pub fn search(up: &[u32], v: u32) -> Way
     requires { (v < length up.now) × Ends (length up.now) up.now }
     ensures top_value { result.top ≡ top_of (at up.now) (length up.now) v }
     ensures links_value { result.links ≡ links_of (at up.now) (length up.now) v }
     ensures top_in_bounds { result.top < length up.now }
 {
+    // (A while: the next index is what stands at this one, not one more.)
     let mut top = v;
     let mut above = up[v as usize];
     let mut links: u32 = 0;
@@ -56,7 +40,7 @@ fn hang(up: &mut [u32], size: &mut [u32], a: u32, b: u32)
     ensures size_after { size.new ≡ set (set size.old b (at size.old a + at size.old b)) a 0 }
 {
     up[a as usize] = b;
-    size[b as usize] = size[a as usize] + size[b as usize];
+    size[b as usize] += size[a as usize];
     size[a as usize] = 0;
 }
 
@@ -64,16 +48,11 @@ fn hang(up: &mut [u32], size: &mut [u32], a: u32, b: u32)
 fn goes_under(s: u32, t: u32, a: u32, b: u32) -> bool
     ensures { result ≡ (ltb s t || eqb s t && ltb b a) }
 {
-    if s < t {
-        return true;
-    }
-    if s == t {
-        return b < a;
-    }
-    false
+    s < t || s == t && b < a
 }
 
 // Two tops become one: one of them is hung under the other. The answer is whether it is the first.
+#[tactic(auto, using(crate::proofs::Unites::hangable))]
 fn unite(up: &mut [u32], size: &mut [u32], a: u32, b: u32) -> bool
     requires { Standing (length up.old) up.old size.old × Tops (length up.old) up.old a b }
     ensures unites { Unites a b up.old size.old up.new size.new }
@@ -90,26 +69,24 @@ fn unite(up: &mut [u32], size: &mut [u32], a: u32, b: u32) -> bool
     false
 }
 
-// A vertex whose way is known is joined with another. Its way goes on by a link if its top is hung, and else it stays: so it is not searched again.
-fn join(up: &mut [u32], size: &mut [u32], first: Walk, w: u32) -> Walk
+// A vertex whose way is known is joined with another. Its way goes on by a link if its top is hung, and else it stays: so it is not searched again. The longest
+// search so far goes through.
+fn join(up: &mut [u32], size: &mut [u32], first: Way, w: u32, longest: u32) -> (Way, u32)
     requires { (w < length up.old) × Standing (length up.old) up.old size.old × Reached (length up.old) up.old first.top first.links }
-    ensures { Joins w up.old size.old first.top first.links first.longest up.new size.new result.top result.links result.longest }
+    ensures { Joins w up.old size.old first.top first.links longest up.new size.new result.0.top result.0.links result.1 }
 {
     let second = search(up, w);
     let under = unite(up, size, first.top, second.top);
-    let longest = larger(first.longest, larger(first.links, second.links));
-    if under {
-        return Walk {
+    let longest = longest.max(first.links.max(second.links));
+    let way = if under {
+        Way {
             top: second.top,
             links: first.links + 1,
-            longest,
-        };
-    }
-    Walk {
-        top: first.top,
-        links: first.links,
-        longest,
-    }
+        }
+    } else {
+        first
+    };
+    (way, longest)
 }
 
 // The first vertex of a quad is joined with the second, the third and the fourth.
@@ -126,17 +103,8 @@ pub fn join_quad(
     ensures { stored up.new size.new result ≡ join_quad (length up.old) v0 v1 v2 v3 (stored up.old size.old longest) }
 {
     let way = search(up, v0);
-    let a = join(
-        up,
-        size,
-        Walk {
-            top: way.top,
-            links: way.links,
-            longest,
-        },
-        v1,
-    );
-    let b = join(up, size, a, v2);
-    let c = join(up, size, b, v3);
-    c.longest
+    let (way, longest) = join(up, size, way, v1, longest);
+    let (way, longest) = join(up, size, way, v2, longest);
+    let (_, longest) = join(up, size, way, v3, longest);
+    longest
 }

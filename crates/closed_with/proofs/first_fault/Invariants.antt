@@ -1,13 +1,8 @@
 -- `first_fault` meets its contract: each side before n is in order.
 -- Assumes nothing.
-use Prim.Native.Nat.{◌-◌, ◌≤◌}
-use lib.ListN.{length}
 use Rattle.laws.proofs.Leading.{HoldsTo}
 use Rattle.closed.specs.Closed.{side_sound}
 use Rattle.closed_with.proofs.first_fault.Given as goal
 
 abbrev pub invariant-loop-n : goal.invariant-loop-n
-invariant-loop-n l = (l.n ≤ length l.quads) × HoldsTo (side_sound l.quads) l.n
-
-abbrev pub decreases-loop-n : goal.decreases-loop-n
-decreases-loop-n l = length l.quads - l.n
+invariant-loop-n l = HoldsTo (side_sound l.quads) l.n

@@ -1,38 +1,22 @@
--- `top_number` meets its contract. Each number before n is below `top`, which is never more than is needed.
+-- `top_number` meets its contract: it is one more than the library's maximum.
 -- Assumes nothing.
-use Prim.Native.Nat.{ℕ, ◌≤◌, ◌<◌}
-use native.Mathlib.Omega.{arith}
-use borrow.Author.Rules.{rules}
-use lib.ListN.{get_or}
-use Rattle.laws.proofs.Leading.{before_more}
-use Rattle.closed.specs.Chains.{top_number}
-use Rattle.closed.proofs.Chains.{top_above, top_least}
+use mathlib.Core.Path.{◌≡◌, sym, ◌∙◌}
+use Prim.Native.Nat.{max}
+use Rattle.std.specs.List.{reduce}
+use Rattle.std.proofs.lemmas.Iterator.{YieldsList-from_slice}
+use Rattle.std.proofs.lemmas.Iterator.Adapters.{option_map_id}
+use Rattle.std.proofs.lemmas.Iterator.Consumers.{YieldsList-from_copied, max_from_yields_List}
+use Rattle.closed_with.proofs.Chains.{top_some, top_none}
+use Rattle.closed_with.proofs.top_number.Goals.{After-max}
 use Rattle.closed_with.proofs.top_number.Goals as goal
-use Rattle.closed_with.proofs.top_number.Goals.{then-v-top, else-v-top}
 
-pub loop-n-preserved : goal.loop-n-preserved
-loop-n-preserved c =
-    let l = c.loop-n in
-    let quads = c.args.quads.now in
-    let w = c.wide-v in
-    let here : w.result < top_number quads = rw w.ensures.value (top_above quads l.n (omega arith)) in
-    elim c.if-v-top.branch [
-      | then-v-top t ↦ (
-        search rules,
-        omega (arith, w.ensures.upper_bound),
-        omega (arith, here),
-        before_more (λ (i : ℕ). get_or quads i 0 < c.if-v-top.top) l.n (λ i h. omega (arith, l.invariant.3 i h)) (omega (arith, w.ensures.value)),
-      )
-      | else-v-top t ↦ (
-        search rules,
-        omega (arith, l.invariant.1),
-        omega (arith, l.invariant.2),
-        before_more (λ (i : ℕ). get_or quads i 0 < c.if-v-top.top) l.n (λ i h. omega (arith, l.invariant.3 i h)) (omega (arith, w.ensures.value)),
-      )
-    ]
+highest : (c : After-max) → c.max.result ≡ reduce max c.args.quads.now
+highest c =
+    sym (option_map_id c.max.result)
+    ∙ max_from_yields_List c.copied.result c.max.result c.max.ensures.ran (YieldsList-from_copied (YieldsList-from_slice c.args.quads.now cc))
 
-pub returns-clause-value : goal.returns-clause-value
-returns-clause-value c =
-    let quads = c.args.quads.now in
-    let l = c.loop-n in
-    let least : top_number quads ≤ l.top = top_least quads l.top (λ i h. l.invariant.3 i (omega arith)) in omega (arith, l.invariant.2)
+pub returns-in-Some-clause-value : goal.returns-in-Some-clause-value
+returns-in-Some-clause-value c = top_some _ _ (sym c.in-Some.is ∙ highest (goal.at.returns-in-Some-clause-value c).After-max)
+
+pub returns-in-None-clause-value : goal.returns-in-None-clause-value
+returns-in-None-clause-value c = top_none _ (sym c.in-None.is ∙ highest (goal.at.returns-in-None-clause-value c).After-max)

@@ -1,11 +1,20 @@
 -- `walks_from` meets its contract: the chain of a is followed.
 -- Assumes nothing.
-use Prim.Native.Nat.{◌-◌, ◌+◌}
-use Rattle.closed_with.proofs.Chains.{follow_end, follow_first, follow_next}
+use Prim.Native.Nat.{◌+◌}
+use mathlib.Core.Path.{◌≡◌, refl}
+use mathlib.Core.Bool.{Bool, true, false}
+use mir.Val.{bool_byte}
 use native.Mathlib.Omega.{arith}
+use Rattle.laws.specs.Bits.{bit}
 use Rattle.closed.specs.Closed.{from}
 use Rattle.closed.proofs.Chains.{first_ge}
+use Rattle.closed_with.proofs.Chains.{follow_first, follow_next}
 use Rattle.closed_with.proofs.walks_from.Goals as goal
+
+-- what a test counts
+counted : (t : Bool) → bool_byte t ≡ bit t
+counted true = refl
+counted false = refl
 
 pub loop-m-init : goal.loop-m-init
 loop-m-init c = follow_first _ _ _ _ (c.requires.2.heads _ c.requires.0)
@@ -19,10 +28,4 @@ loop-m-smaller c =
 pub loop-m-preserved : goal.loop-m-preserved
 loop-m-preserved c =
     let l = c.loop-m in
-    let e = c.next-e in
-    let s = c.same-found in
-    follow_next c.args.quads.now c.args.a c.args.b l.found l.m e.result s.result _ l.invariant (omega arith) e.ensures s.ensures.value s.ensures.upper_bound
-    (c.requires.2.links l.m (omega arith))
-
-pub returns : goal.returns
-returns c = follow_end _ _ _ _ _ c.loop-m.invariant (omega arith)
+    follow_next c.args.quads.now c.args.a c.args.b l.found l.m c.next-e.result _ _ l.invariant (omega arith) c.next-e.ensures (counted _) (c.requires.2.links l.m (omega arith))

@@ -1,14 +1,9 @@
--- `copy` meets its contract. The loop's invariant: the first i words stand at the front. The measure is what is left of the words.
+-- `copy` meets its contract: the words before i are copied.
 -- Assumes nothing.
-use Prim.Native.Nat.{◌-◌, ◌≤◌}
+use Prim.Native.Nat.{ℕ, ◌<◌}
 use mathlib.Core.Path.{◌≡◌}
-use lib.ListN.{length, get_or}
-use Rattle.laws.specs.Below.{over}
-use Rattle.laws.proofs.Over.{each}
+use lib.ListN.{get_or}
 use Rattle.plane_layers.proofs.copy.Given as goal
 
 abbrev pub invariant-loop-i : goal.invariant-loop-i
-invariant-loop-i l = (l.i ≤ l.n) × (length l.target ≡ length l.initial.target) × (l.target ≡ over (each (λ x. get_or l.source x 0) l.i) l.initial.target)
-
-abbrev pub decreases-loop-i : goal.decreases-loop-i
-decreases-loop-i l = l.n - l.i
+invariant-loop-i l = (x : ℕ) → x < l.i → get_or l.target x 0 ≡ get_or l.source x 0

@@ -1,10 +1,10 @@
 -- `grow` meets its contract: the layer is counted, rows 5 and 6 refuse, or the layer is written and remembered.
 -- Assumes nothing.
-use mathlib.Core.Path.{refl, ap, sym, ◌∙◌}
+use mathlib.Core.Path.{ap, sym, ◌∙◌}
 use native.Mathlib.Omega.{arith}
 use Rattle.mesh.specs.declared.Totals.{Totals}
 use Rattle.plane_layers.specs.Layer.{SignsReady}
-use Rattle.plane_layers.proofs.Grown.{signs_fit, signs_ready, layer_few, grown_refused, layer_roomy, grown_passed}
+use Rattle.plane_layers.proofs.Grown.{signs_ready, layer_few, grown_refused, layer_roomy, grown_passed}
 use Rattle.plane_layers.proofs.grow.Goals as goal
 
 pub total-counts-requires : goal.total-counts-requires
@@ -25,8 +25,3 @@ write_rows-requires c =
 
 pub returns : goal.returns
 returns c = grown_passed c.requires c.count_rows-t.ensures c.args.words.now c.args.offsets.now c.args.quads.now c.total-counts.result c.total-counts.ensures (sym c.check_buffers-fits.ensures ∙ c.in_default.is) _ _ _ _ _ c.write_rows.ensures c.keep_plane.ensures
-
-pub old_signs-requires : goal.old_signs-requires
-old_signs-requires c =
-    let f = signs_fit c.requires _ _ c.nx-nx.ensures c.ny-ny.ensures in
-    (f.0, f.1, f.2, refl)

@@ -1,13 +1,7 @@
--- `new_signs` meets its contract. The loop's invariant: the signs of the rows before j stand there. The measure is what is left of the rows.
+-- `new_signs` meets its contract: the signs of the rows before j stand there.
 -- Assumes nothing.
-use Prim.Native.Nat.{◌-◌, ◌≤◌}
-use mathlib.Core.Path.{◌≡◌}
-use lib.ListN.{length}
 use Rattle.plane_layers.specs.Memory.{SignedTo, item_at}
 use Rattle.plane_layers.proofs.new_signs.Given as goal
 
 abbrev pub invariant-loop-j : goal.invariant-loop-j
-invariant-loop-j l = (l.j ≤ l.ny) × (length l.signs ≡ 1280) × SignedTo l.nx (item_at l.plane) l.cut l.j l.signs
-
-abbrev pub decreases-loop-j : goal.decreases-loop-j
-decreases-loop-j l = l.ny - l.j
+invariant-loop-j l = SignedTo l.nx (item_at l.plane) l.cut l.j l.signs

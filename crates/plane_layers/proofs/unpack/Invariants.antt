@@ -1,13 +1,8 @@
--- `unpack` meets its contract. The loop's invariant: the samples of the first i words stand at the front. The measure is what is left of the words.
+-- `unpack` meets its contract: the samples of the words before i stand at the front.
 -- Assumes nothing.
-use Prim.Native.Nat.{◌*◌, ◌-◌, ◌≤◌}
-use mathlib.Core.Path.{◌≡◌}
-use lib.ListN.{length}
+use Prim.Native.Nat.{◌*◌}
 use Rattle.plane_layers.specs.Memory.{Windowed}
 use Rattle.plane_layers.proofs.unpack.Given as goal
 
 abbrev pub invariant-loop-i : goal.invariant-loop-i
-invariant-loop-i l = (l.i ≤ l.n) × (length l.window ≡ length l.initial.window) × Windowed l.part (2 * l.i) l.window
-
-abbrev pub decreases-loop-i : goal.decreases-loop-i
-decreases-loop-i l = l.n - l.i
+invariant-loop-i l = Windowed l.part (2 * l.i) l.window
