@@ -1,27 +1,18 @@
--- Signed machine integers: the difference of two u16 and the product of two i32, with a u32 on top of it or without, and what a local's bits read back as.
+-- Signed machine integers: the product of two i32 with a u32 on top of it, and what a local's bits read back as.
 -- Assumes nothing.
-use mathlib.Core.Path.{◌≡◌, ap, ◌∙◌, subst⁻¹}
+use mathlib.Core.Path.{◌≡◌}
 use mathlib.Core.Bool.{Bool, true, false, cond}
 use Prim.Native.Nat.{ℕ, zero, suc, ◌+◌, ◌-◌, ◌*◌, ◌^◌, ◌≤◌, ◌<◌}
-use native.Mathlib.Nat.{mul-le-mul, lt_of_le_of_lt}
+use native.Mathlib.Nat.{mul-le-mul}
 use native.Mathlib.Omega.{arith}
 use lib.Dec.{ltb}
-use lib.IntN.{ℤ, pos, negsuc, neg_ℤ, ◌+ℤ◌, ◌-ℤ◌, ◌*ℤ◌}
+use lib.IntN.{ℤ, pos, negsuc, neg_ℤ, ◌+ℤ◌, ◌*ℤ◌}
 use lib.Signed.{mag}
-use mir.Syntax.{Width, w16, w32, w64}
+use mir.Syntax.{Width, w32, w64}
 use mir.Val.{Fits, SFits, hbits, to_z, of_z}
-use mir.Facts.{to_z_pos, to_z-of_z, sfits_widen}
+use mir.Facts.{to_z_pos, to_z-of_z}
 
--- ---- the size of a difference and of a product
-
-mag_cond : (c : Bool) (x y : ℤ) {H : ℕ} → mag x < H → mag y < H → mag (cond c x y) < H
-mag_cond true x y p q = p
-mag_cond false x y p q = q
-
--- the difference of two numbers below H
-pub mag_diff : (a b : ℕ) {H : ℕ} → a < H → b < H → mag (pos a -ℤ pos b) < H
-mag_diff a zero {H} p q = omega arith
-mag_diff a (suc b) {H} p q = mag_cond (ltb a (suc b)) (negsuc (suc b - suc a)) (pos (a - suc b)) (omega arith) (omega arith)
+-- ---- the size of a product
 
 mag_neg : (n H : ℕ) → n ≤ H → mag (neg_ℤ (pos n)) ≤ H
 mag_neg zero H p = omega arith
@@ -43,40 +34,9 @@ mag_plus (negsuc a) n = go (ltb n (suc a))
     go true = omega arith
     go false = omega arith
 
--- ---- a u16 in an i32
+-- ---- a product of two i32 with a u32 on top
 
--- it is the number itself
-pub read16 : {n : ℕ} → Fits w16 n → to_z w32 n ≡ pos n
-read16 {n} f = to_z_pos w32 (wider f.fits)
-  where
-    wider : {n : ℕ} → n < 2 ^ 16 → n < 2 ^ 31
-    wider h = omega arith
-
--- the difference of two fits
-pub diff16 : {a b : ℕ} → Fits w16 a → Fits w16 b → SFits w32 (pos a -ℤ pos b)
-diff16 {a} {b} f g = record { sfits = wider (mag_diff a b f.fits g.fits) }
-  where
-    wider : {n : ℕ} → n < 2 ^ 16 → n < 2 ^ 31
-    wider h = omega arith
-
--- ---- an i32 in an i64
-
--- it fits
-pub wide32 : {x : ℤ} → SFits w32 x → SFits w64 (to_z w32 (of_z w32 x))
-wide32 {x} f = subst⁻¹ (λ (z : ℤ). SFits w64 z) (to_z-of_z f) (sfits_widen {w = w32} {w' = w64} tt f)
-
--- and is the number itself
-pub read32 : {x : ℤ} → SFits w32 x → to_z w64 (of_z w64 (to_z w32 (of_z w32 x))) ≡ x
-read32 {x} f = ap (λ (z : ℤ). to_z w64 (of_z w64 z)) (to_z-of_z f) ∙ to_z-of_z (sfits_widen {w = w32} {w' = w64} tt f)
-
-pub small32 : {x : ℤ} → SFits w32 x → SFits w32 (to_z w64 (of_z w64 (to_z w32 (of_z w32 x))))
-small32 {x} f = subst⁻¹ (λ (z : ℤ). SFits w32 z) (read32 f) f
-
--- the product of two fits a width of 62 bits and the sign
-pub product_fits : {w : Width} {x y : ℤ} → 2 ^ 62 < 2 ^ hbits w → SFits w32 x → SFits w32 y → SFits w (x *ℤ y)
-product_fits {w} {x} {y} wide f g = record { sfits = lt_of_le_of_lt (mag_product x y f.sfits g.sfits) wide }
-
--- and with a u32 on top it still fits an i64
+-- it fits an i64
 pub raised_fits : {x y : ℤ} {n : ℕ} → SFits w32 x → SFits w32 y → Fits w32 n → SFits w64 (x *ℤ y +ℤ pos n)
 raised_fits {x} {y} {n} f g h = record { sfits = small (mag_plus (x *ℤ y) n) (mag_product x y f.sfits g.sfits) h.fits }
   where

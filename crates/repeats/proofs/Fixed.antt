@@ -1,4 +1,4 @@
--- The promises of `mark` and `still` fix their answers and the lent table.
+-- The promises of `mark`, `still` and `first_fault` fix their answers and the lent table.
 -- Assumes nothing.
 use Prim.Native.Nat.{ℕ}
 use mathlib.Core.Path.{◌≡◌, ap₂, sym, ◌∙◌}
@@ -7,7 +7,8 @@ use mathlib.Core.List.{List}
 use lib.Dec.{leb}
 use Rattle.laws.specs.Fixed.{Fixes}
 use Rattle.laws.proofs.Fixed.{equation_fixes}
-use Rattle.repeats.specs.Fresh.{bit_at, Marked}
+use Rattle.laws.specs.Leading.{leading}
+use Rattle.repeats.specs.Fresh.{fresh, bit_at, Marked}
 
 -- the answer and the table
 pub table_mark_fixed : (k : ℕ) (table : List ℕ) → Fixes (λ (f : Bool × List ℕ). (f.0 ≡ bit_at table k) × Marked k table f.1)
@@ -15,3 +16,7 @@ table_mark_fixed k table a b p q = ap₂ (λ (x : Bool) (y : List ℕ). (x, y)) 
 
 pub still_fixed : (rises : Bool) (last key : ℕ) → Fixes (λ (r : Bool). r ≡ (leb last key && rises))
 still_fixed rises last key = equation_fixes (leb last key && rises)
+
+-- of `first_fault`, by which entries are sound, their keys, and how many there are
+pub repeated_fault_fixed : (sound : ℕ → Bool) (key : ℕ → ℕ) (n : ℕ) → Fixes (λ (r : ℕ). r ≡ leading (λ (v : ℕ). sound v && fresh key v) n)
+repeated_fault_fixed sound key n = equation_fixes (leading (λ (v : ℕ). sound v && fresh key v) n)

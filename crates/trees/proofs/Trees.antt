@@ -44,9 +44,6 @@ module _ (n : ℕ) (up size depth root : ℕ → ℕ) (F : Trees n up size depth
   abbrev root' : ℕ → ℕ
   root' v = cond (eqb (root v) a) b (root v)
 
-  ba : eqb b a ≡ false
-  ba = ne_eqb b a (λ x. ne (sym x))
-
   root_b : eqb (root b) a ≡ false
   root_b = ne_eqb (root b) a (λ x. ne (sym x ∙ (F.stay b hb tb).0))
 
