@@ -33,11 +33,10 @@ fn highest(a: u32, b: u32, c: u32, d: u32) -> usize
     ensures value { result ≡ highest_of a b c d }
     ensures upper_bound { result < 4 }
 {
-    if a.max(b) < c.max(d) {
-        2 + usize::from(c < d)
-    } else {
-        usize::from(a < b)
-    }
+    // (Both places first, so that the choice between them is no branch.)
+    let low = usize::from(a < b);
+    let high = 2 + usize::from(c < d);
+    if a.max(b) < c.max(d) { high } else { low }
 }
 
 // The cube of a vertex.
@@ -75,7 +74,7 @@ fn lies_before(words: &[u32], v: u32, w: u32, by: u64) -> bool
     requires { (v < vertex_total words.now) × (w < vertex_total words.now) × (by ≤ 8589934590) }
     ensures { result ≡ (cube_at words.now v + by == cube_at words.now w) }
 {
-    cube_at(words, v) as u64 + by == cube_at(words, w) as u64
+    u64::from(cube_at(words, v)) + by == u64::from(cube_at(words, w))
 }
 
 // Whether second and fourth cube lie r and p before the third, and the first lies both before it.
@@ -83,9 +82,9 @@ fn lie_apart(words: &[u32], r: u32, p: u32, four: Four) -> bool
     requires { FourBelow (vertex_total words.now) four }
     ensures { result ≡ apart_by words.now r p (as_quad four) }
 {
-    lies_before(words, four.b, four.c, r as u64)
-        && lies_before(words, four.d, four.c, p as u64)
-        && lies_before(words, four.a, four.c, r as u64 + p as u64)
+    lies_before(words, four.b, four.c, u64::from(r))
+        && lies_before(words, four.d, four.c, u64::from(p))
+        && lies_before(words, four.a, four.c, u64::from(r) + u64::from(p))
 }
 
 // Whether the word of a vertex holds an edge.
@@ -125,7 +124,14 @@ fn lies_along(
     requires e0_bound { (e0 < 12) × (e1 < 12) × (e2 < 12) × (e3 < 12) }
     ensures { result ≡ along_by words.now u v r p e0 e1 e2 e3 (as_quad four) }
 {
-    u > 0 && v > 0 && lie_apart(words, r, p, four) && hold_edges(words, e0, e1, e2, e3, four)
+    // (No `&&` between these two: a look at a quad then took a twentieth longer.)
+    if u == 0 {
+        return false;
+    }
+    if v == 0 {
+        return false;
+    }
+    lie_apart(words, r, p, four) && hold_edges(words, e0, e1, e2, e3, four)
 }
 
 // Whether a quad lies round an edge along x, y or z as 01's table says. Its third vertex is in the cube at the spot, and second and fourth stand in the table's
@@ -193,9 +199,9 @@ fn axis_of(words: &[u32], wide: u32, layer: u32, four: Four) -> u64
     ensures value { result ≡ axis_by words.now wide layer (as_quad four) }
     ensures upper_bound { result ≤ 2 }
 {
-    if lies_before(words, four.a, four.c, layer as u64 + wide as u64) {
+    if lies_before(words, four.a, four.c, u64::from(layer) + u64::from(wide)) {
         0
-    } else if lies_before(words, four.a, four.c, 1 + layer as u64) {
+    } else if lies_before(words, four.a, four.c, 1 + u64::from(layer)) {
         1
     } else {
         2
@@ -209,7 +215,7 @@ fn key_of(words: &[u32], wide: u32, layer: u32, four: Four) -> u64
     ensures value { result ≡ axis_by words.now wide layer (as_quad four) * vertex_total words.now + four.c }
     ensures upper_bound { result < 3 * vertex_total words.now }
 {
-    axis_of(words, wide, layer, four) * (words.len() / 2) as u64 + four.c as u64
+    axis_of(words, wide, layer, four) * (words.len() / 2) as u64 + u64::from(four.c)
 }
 
 // How far a key is behind the base of a range; none where it is not in the range. Where the key is before the base the difference wraps, and it is then past any

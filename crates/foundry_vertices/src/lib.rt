@@ -14,11 +14,23 @@ ghost use Rattle.foundry_vertices.specs.Steps.{Shaped, IsPlace, in_range, looks_
 use block::{Cut, Size};
 use repeats::Keyed;
 
-// The place of a mask among four.
+// The place of a mask among four. (Tests, and no `position` over the masks, by which a look at a vertex took up to three hundredths longer.)
 fn place_among(m: u32, masks: [u32; 4]) -> Option<u32>
     ensures { IsPlace (place_among m masks) result }
 {
-    masks.iter().position(|x| *x == m).map(|p| p as u32)
+    if m == masks[0] {
+        return Some(0);
+    }
+    if m == masks[1] {
+        return Some(1);
+    }
+    if m == masks[2] {
+        return Some(2);
+    }
+    if m == masks[3] {
+        return Some(3);
+    }
+    None
 }
 
 // At most so many crossed edges are never two loops, which have six at least.

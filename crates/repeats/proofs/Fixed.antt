@@ -6,8 +6,8 @@ use mathlib.Core.Bool.{Bool, ◌&&◌}
 use mathlib.Core.List.{List}
 use lib.Dec.{leb}
 use Rattle.laws.specs.Fixed.{Fixes}
-use Rattle.laws.proofs.Fixed.{equation_fixes}
 use Rattle.laws.specs.Leading.{leading}
+use Rattle.laws.proofs.Fixed.{equation_fixes}
 use Rattle.repeats.specs.Fresh.{fresh, bit_at, Marked}
 
 -- the answer and the table
@@ -17,6 +17,5 @@ table_mark_fixed k table a b p q = ap₂ (λ (x : Bool) (y : List ℕ). (x, y)) 
 pub still_fixed : (rises : Bool) (last key : ℕ) → Fixes (λ (r : Bool). r ≡ (leb last key && rises))
 still_fixed rises last key = equation_fixes (leb last key && rises)
 
--- of `first_fault`, by which entries are sound, their keys, and how many there are
-pub repeated_fault_fixed : (sound : ℕ → Bool) (key : ℕ → ℕ) (n : ℕ) → Fixes (λ (r : ℕ). r ≡ leading (λ (v : ℕ). sound v && fresh key v) n)
-repeated_fault_fixed sound key n = equation_fixes (leading (λ (v : ℕ). sound v && fresh key v) n)
+pub entry_fault_fixed : (sound : ℕ → Bool) (key : ℕ → ℕ) (count : ℕ) → Fixes (λ (r : ℕ). r ≡ leading (λ (v : ℕ). sound v && fresh key v) count)
+entry_fault_fixed sound key count = equation_fixes (leading (λ (v : ℕ). sound v && fresh key v) count)

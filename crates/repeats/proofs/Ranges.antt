@@ -51,6 +51,11 @@ leading_narrow f g n = go (lt_or_ge (leading g (leading f n)) (leading f n)) (lt
         let e : leading g (leading f n) ≡ n = omega (arith, le_g, le_m) in
         e ∙ sym (leading_all (λ (i : ℕ). f i && g i) n (λ i h. both i (omega (arith, e))))
 
+-- where it fails before n it fails there before any later end too
+pub leading_further : (f : ℕ → Bool) (n m a : ℕ) → n ≤ m → a ≡ leading f n → a < n → a ≡ leading f m
+leading_further f n m a h e l =
+    e ∙ sym (leading_at f m (leading f n) (omega (arith, e)) (leading_holds f n) (leading_stops f n (omega (arith, e))))
+
 module _ (key : ℕ → ℕ) where
   -- ---- range by range
 

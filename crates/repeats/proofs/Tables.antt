@@ -14,9 +14,9 @@ use lib.ListN.{length, get_or, replicate, length-replicate}
 use borrow.Author.Tests.{eq-eqb, ne_eqb, eqb-true, lt-ltb, le-ltb, le-leb, lt-leb}
 use Rattle.laws.proofs.Bits.{holds_none}
 use Rattle.laws.specs.Leading.{leading}
-use Rattle.laws.proofs.Leading.{HoldsTo, holds_to_none, holds_more, leading_at, leading_all}
+use Rattle.laws.proofs.Leading.{holds_to_none, holds_more, leading_at, leading_all}
 use Rattle.foundry_rule.proofs.Firsts.{same_test, is_none}
-use Rattle.repeats.specs.Fresh.{span, seen, in_span, fresh_in, PlaceIn, FarFrom, bit_at, Table, Marked}
+use Rattle.repeats.specs.Fresh.{span, seen, in_span, fresh_in, PlaceIn, FarFrom, bit_at, Table, Marked, Passed}
 use Rattle.repeats.proofs.Ranges.{some_next}
 
 module _ (key : ℕ → ℕ) (b : ℕ) where
@@ -83,38 +83,34 @@ module _ (key : ℕ → ℕ) (b : ℕ) where
           (λ q. let r = eqb-true j k q in eq-eqb (b + j) (key v) (omega (arith, e, r)))
           (λ q. let r = eqb-true (b + j) (key v) q in eq-eqb j k (omega (arith, e, r)))
 
-  -- ---- a pass over the entries: each before v is new in the range, and the table is behind them
+  -- ---- a pass over the entries
 
-  pub record Passed (v : ℕ) (table : List ℕ) : Type 0 where
-    pub new : HoldsTo (fresh_in key b) v
-    pub behind : Table key b v table
-
-  pub passed_none : Passed 0 (replicate 4096 0)
+  pub passed_none : Passed key b 0 (replicate 4096 0)
   passed_none = record { new = holds_to_none (fresh_in key b); behind = table_new }
 
-  module _ (v : ℕ) (table : List ℕ) (p : Passed v table) where
-    pub passed_out : PlaceIn b (key v) None → Passed (v + 1) table
+  module _ (v : ℕ) (table : List ℕ) (p : Passed key b v table) where
+    pub passed_out : PlaceIn b (key v) None → Passed key b (v + 1) table
     passed_out o = record { new = holds_more (fresh_in key b) v p.new (fresh_outside v o); behind = table_passed v table p.behind o }
 
-    pub passed_more : (k : ℕ) (table' : List ℕ) → PlaceIn b (key v) (Some k) → bit_at table k ≡ false → Marked k table table' → Passed (v + 1) table'
+    pub passed_more : (k : ℕ) (table' : List ℕ) → PlaceIn b (key v) (Some k) → bit_at table k ≡ false → Marked k table table' → Passed key b (v + 1) table'
     passed_more k table' i n m = record {
       new = holds_more (fresh_in key b) v p.new (fresh_inside v k table p.behind i.0 i.1 ∙ ap not n);
       behind = table_marked v k table table' p.behind i.0 i.1 m;
     }
 
-    pub passed_stops : (limit k : ℕ) → v < limit → PlaceIn b (key v) (Some k) → bit_at table k ≡ true → v ≡ leading (fresh_in key b) limit
-    passed_stops limit k l i n = sym (leading_at (fresh_in key b) limit v l p.new (fresh_inside v k table p.behind i.0 i.1 ∙ ap not n))
+    pub passed_stops : (end k : ℕ) → v < end → PlaceIn b (key v) (Some k) → bit_at table k ≡ true → v ≡ leading (fresh_in key b) end
+    passed_stops end k l i n = sym (leading_at (fresh_in key b) end v l p.new (fresh_inside v k table p.behind i.0 i.1 ∙ ap not n))
 
     pub passed_ends : v ≡ leading (fresh_in key b) v
     passed_ends = sym (leading_all (fresh_in key b) v p.new)
 
   -- entries that are all out of the range are passed at once
-  pub passed_far : (end v : ℕ) (table : List ℕ) → v ≤ end → FarFrom key b v end → Passed v table → Passed end table
-  passed_far end v table h f p = subst (λ (x : ℕ). Passed x table) (sum end v h) (far (end - v) (λ i g l. f i g (rw (sum end v h) at l)))
+  pub passed_far : (end v : ℕ) (table : List ℕ) → v ≤ end → FarFrom key b v end → Passed key b v table → Passed key b end table
+  passed_far end v table h f p = subst (λ (x : ℕ). Passed key b x table) (sum end v h) (far (end - v) (λ i g l. f i g (rw (sum end v h) at l)))
     where
       sum : (end v : ℕ) → v ≤ end → v + (end - v) ≡ end
       sum end v h = omega arith
 
-      far : (d : ℕ) → FarFrom key b v (v + d) → Passed (v + d) table
+      far : (d : ℕ) → FarFrom key b v (v + d) → Passed key b (v + d) table
       far zero f = rw (add-zero v) p
       far (suc d) f = rw (add-suc v d, ← add-one (v + d)) (passed_out (v + d) table (far d (λ i g l. f i g (omega arith))) (f (v + d) (omega arith) (omega arith)))

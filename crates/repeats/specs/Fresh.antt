@@ -48,6 +48,11 @@ pub record Table (key : ℕ → ℕ) (b v : ℕ) (table : List ℕ) : Type 0 whe
   pub long : length table ≡ 4096
   pub says : (k : ℕ) → k < span → bit_at table k ≡ seen key (b + k) v
 
+-- no entry before v repeats an earlier one, of those with keys in the range, and the table is behind them
+pub record Passed (key : ℕ → ℕ) (b v : ℕ) (table : List ℕ) : Type 0 where
+  pub new : (i : ℕ) → i < v → fresh_in key b i ≡ true
+  pub behind : Table key b v table
+
 -- the bit of k is set, and no other is changed
 pub record Marked (k : ℕ) (table table' : List ℕ) : Type 0 where
   pub is : table' ≡ set table (k / 64) (bit_or (get_or table (k / 64) 0) (1 * 2 ^ (k % 64) % 18446744073709551616))

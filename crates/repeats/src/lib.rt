@@ -5,7 +5,7 @@
 ghost use Rattle.std.specs.Prelude.{◌≡◌, true, Bool, ℕ, ◌&&◌, ◌+◌, ◌*◌, ◌<◌, ◌≤◌, leb, length, IsTrue};
 ghost use Rattle.laws.specs.Leading.{leading};
 ghost use Rattle.laws.proofs.Leading.{HoldsTo};
-ghost use Rattle.repeats.specs.Fresh.{span, fresh, fresh_in, bit_at, Marked, KeyIf, PlaceIn, FarFrom};
+ghost use Rattle.repeats.specs.Fresh.{span, fresh, fresh_in, bit_at, Marked, Passed, KeyIf, PlaceIn, FarFrom};
 
 // The entries of a list, by their numbers. One that is sound by itself has a key.
 pub trait Keyed {
@@ -69,6 +69,26 @@ pub fn still(rises: bool, last: u64, key: u64) -> bool
     key >= last && rises
 }
 
+// The first entry before the end whose key is in the r-th range and that repeats an earlier one; the end where there is none. Those before `from` were passed.
+// (A function of its own, since the loop then takes fewer steps a turn.)
+fn run<T: Keyed>(entries: &T, r: u32, from: usize, end: usize, table: &mut [u64]) -> usize
+    requires ready { T.ready entries.now }
+    requires from_bound { (from ≤ end) × (end ≤ T.count entries.now) }
+    requires end_sound { HoldsTo (T.sound entries.now) end }
+    requires passed { Passed (T.key entries.now) (span * r) from table.old }
+    ensures first { result ≡ leading (fresh_in (T.key entries.now) (span * r)) end }
+    ensures all_passed { end ≤ result → Passed (T.key entries.now) (span * r) end table.new }
+{
+    for v in from..end {
+        if let Some(k) = entries.place(r, v) {
+            if mark(table, k) {
+                return v;
+            }
+        }
+    }
+    end
+}
+
 // The first entry before the limit whose key is in the r-th range and that repeats an earlier one; the limit where there is none. It asks for 64 at a time whether
 // they are far from the range.
 fn pass<T: Keyed>(entries: &T, r: u32, limit: usize) -> usize
@@ -82,12 +102,9 @@ fn pass<T: Keyed>(entries: &T, r: u32, limit: usize) -> usize
         let from = 64 * part;
         let end = from + (limit - from).min(64);
         if !entries.is_far(r, from, end) {
-            for v in from..end {
-                if let Some(k) = entries.place(r, v) {
-                    if mark(&mut table, k) {
-                        return v;
-                    }
-                }
+            let at = run(entries, r, from, end, &mut table);
+            if at < end {
+                return at;
             }
         }
     }
