@@ -143,8 +143,8 @@ module _ (cut : Cut) (corners : List ℕ) (m : ℕ) (m-is : m ≡ crossed_mask (
   -- so one face more, with the links l as the code finds them by its table of faces
   pub links_more : {f : ℕ} {links : List ℕ} (faces : List Face) → faces ≡ all_faces → (d : Face) → f < 6 → links ≡ links_to cut corners f
       → (l : Links) → l ≡ (let face = get_or faces f d in
-          let sample : (i : ℕ) → ℕ = λ i. corner_sample corners (get_or face.around i 0) in
-          cut_face face (bit_and m face.ring) (differ (positive cut (sample 0)) (joined cut (sample 0) (sample 1) (sample 2) (sample 3))))
+      let sample : (i : ℕ) → ℕ = λ i. corner_sample corners (get_or face.around i 0) in
+      cut_face face (bit_and m face.ring) (differ (positive cut (sample 0)) (joined cut (sample 0) (sample 1) (sample 2) (sample 3))))
       → set (set links (2 * f) l.first) (2 * f + 1) l.second ≡ links_to cut corners (f + 1)
   unfolding links_to
   links_more {f} faces t d f_lt e l l-is =

@@ -20,7 +20,7 @@ overflow_add-way c =
 -- the way goes on, whether the first top was hung or not
 onward : (c : After-max-longest) (hung : Bool) (links : ℕ)
     → let a = c.args in let b = c.search-second.result in let u = c.unite-under in
-      u.result ≡ hung → links ≡ a.first.links + bit hung → c.max-longest.result ≡ max a.longest (max a.first.links b.links)
+    u.result ≡ hung → links ≡ a.first.links + bit hung → c.max-longest.result ≡ max a.longest (max a.first.links b.links)
     → Joins a.w a.up.now a.size.now a.first.top a.first.links a.longest u.new.up u.new.size (cond hung b.top a.first.top) links c.max-longest.result
 onward c hung links is more longest =
     let b = c.search-second.ensures in
