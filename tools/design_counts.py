@@ -39,6 +39,8 @@ def functions(path):
                 break
         else:
             continue
+        if re.search(r';$', text[m.start():brace], re.M):
+            continue  # a trait's function without a body
         yield text.count('\n', 0, start) + 1, m.group(2), text[m.start():brace], text[brace:end.end()]
 
 
@@ -68,7 +70,8 @@ for f in files:
             enums.append(f'{name(f)}: {m.group(1)}')
 tell('1a', 'own enums of the shape of Result or Option', enums)
 tell('1b', 'a refusal made by a literal number', grep(r'\bnumber: \d+|\brefuse\(\d+'))
-tell('1c', 'a bool field in a struct', grep(r'^ +(pub )?\w+: bool,'))
+tell('1c', 'a bool field in a struct', [f'{name(f)}: {m.group(1)}.{b}' for f in files for m in re.finditer(r'struct (\w+)[^{;]*\{(.*?)^\}', open(f).read(), re.M | re.S)
+     for b in re.findall(r'^ +(?:pub )?(\w+): bool,', m.group(2), re.M)])
 
 # 2: functions of one shape: the same body once names, types and numbers are struck out
 shapes = defaultdict(list)
