@@ -1,11 +1,11 @@
 -- Numbers in decimal: a digit at a time, how many digits there are, and that what was written is read back.
 -- Assumes nothing.
-use Prim.Native.Nat.{ℕ, zero, suc, ◌+◌, ◌*◌, ◌-◌, ◌/◌, ◌%◌, ◌^◌, ◌≤◌, ◌<◌, max}
+use Prim.Native.Nat.{ℕ, zero, suc, ◌+◌, ◌*◌, ◌-◌, ◌/◌, ◌%◌, ◌^◌, ◌≤◌, ◌<◌}
 use mathlib.Core.Path.{◌≡◌, refl, ap, ◌∙◌}
 use mathlib.Core.Bool.{Bool, true, false, cond}
 use mathlib.Core.Logic.{◌⊎◌, inl, inr}
 use mathlib.Core.List.{List, [], ◌∷◌, ◌++◌}
-use native.Mathlib.Nat.{not-suc-le-zero, pow-suc}
+use native.Mathlib.Nat.{not-suc-le-zero}
 use native.Mathlib.Omega.{arith}
 use lib.Dec.{ltb}
 use lib.ListN.{length, get_or, length-append, get_or-append}
@@ -57,21 +57,25 @@ pub length_large : (n : ℕ) → 10 ≤ n → length (decimal n) ≡ length (dec
 length_large n h = ap length (decimal_large n h) ∙ length-append (decimal (n / 10)) (digit (n % 10) ∷ [])
 
 pub length_some : (n : ℕ) → 1 ≤ length (decimal n)
-length_some n = grind (arith, length_small n, length_large n)
+length_some n = go (lt_or_ge n 10)
+  where
+    go : (n < 10) ⊎ (10 ≤ n) → 1 ≤ length (decimal n)
+    go (inl l) = omega (arith, length_small n l)
+    go (inr g) = omega (arith, length_large n g)
 
 -- a number below 10 ^ k has at most k digits
 pub length_most : (k n : ℕ) → 1 ≤ k → n < 10 ^ k → length (decimal n) ≤ k
 length_most zero n h l = absurd (not-suc-le-zero h)
 length_most (suc zero) n h l = omega (arith, length_small n (omega (arith, l)))
-length_most (suc (suc k)) n h l = grind (arith, length_small n, length_large n, length_most (suc k) (n / 10), pow-suc 10 (suc k))
+length_most (suc (suc k)) n h l = go (lt_or_ge n 10) (length_most (suc k) (n / 10) (omega arith))
+  where
+    go : (n < 10) ⊎ (10 ≤ n) → (n / 10 < 10 ^ suc k → length (decimal (n / 10)) ≤ suc k) → length (decimal n) ≤ suc (suc k)
+    go (inl l') ih = omega (arith, length_small n l')
+    go (inr g) ih = omega (arith, length_large n g, ih (omega (arith, l)))
 
--- a number from 10 ^ k on, and below ten times that, has k + 1 digits
-pub length_of : (k n : ℕ) → 10 ^ k ≤ max n 1 → max n 1 < 10 * 10 ^ k → length (decimal n) ≡ k + 1
-length_of zero n h l = length_small n (omega (arith, l))
-length_of (suc k) n h l =
-    let g : 10 ≤ n = omega (arith, h, pow-suc 10 k) in
-    let ih = length_of k (n / 10) (omega (arith, h, pow-suc 10 k)) (omega (arith, l, pow-suc 10 k)) in
-    omega (arith, length_large n g, ih)
+-- every number of 64 bits
+pub length_twenty : (n : ℕ) → n < 18446744073709551616 → length (decimal n) ≤ 20
+length_twenty n h = length_most 20 n (omega arith) (omega (arith, h))
 
 -- ---- read back
 

@@ -1,10 +1,8 @@
--- Numbers in bytes, the lowest first: that what was written is read back, and that the library makes the same bytes.
+-- Numbers in bytes, the lowest first: some bytes and then the others, and that what was written is read back.
 -- Assumes nothing.
 use Prim.Native.Nat.{ℕ, zero, suc, ◌/◌, ◌%◌, ◌^◌, ◌<◌}
-use Rattle.std.specs.Int.{byte_at, bytes_low_first}
-use native.Mathlib.Nat.{div-div-eq-div-mul, pow-suc}
-use mathlib.Core.Path.{◌≡◌, refl, ap, ap₂, sym}
-use mathlib.Core.List.{List, ◌∷◌}
+use mathlib.Core.Path.{◌≡◌, refl, ap}
+use mathlib.Core.List.{[], ◌∷◌, ◌++◌}
 use native.Mathlib.Omega.{arith}
 use lib.ListN.{length}
 use Rattle.file_bytes.specs.Bytes.{little_endian}
@@ -21,15 +19,26 @@ unfolding little_endian
 little_back zero v h = omega (arith, h)
 little_back (suc k) v h = rw (little_back k (v / 256) (omega (arith, h))) (omega arith)
 
--- the bytes that the library makes of a number
-bytes_from : (k v i w : ℕ) → w ≡ v / 256 ^ i → bytes_low_first i k v ≡ little_endian k w
+-- one byte
+pub little_one : (v : ℕ) → v < 256 → v ∷ [] ≡ little_endian 1 v
 unfolding little_endian
-bytes_from zero v i w e = refl
-bytes_from (suc k) v i w e = ap₂ (λ (b : ℕ) (bs : List ℕ). b ∷ bs) (low i e) (bytes_from k v (suc i) (w / 256) (rw (e, div-div-eq-div-mul v (256 ^ i) 256, pow-suc)))
-  where
-    low : (j : ℕ) → w ≡ v / 256 ^ j → byte_at j v ≡ w % 256
-    low zero f = rw f (omega arith)
-    low (suc j) f = rw f
+little_one v h = ap (λ (b : ℕ). b ∷ []) (omega (arith, h))
 
-pub little_bytes : (k v : ℕ) → little_endian k v ≡ bytes_low_first 0 k v
-little_bytes k v = sym (bytes_from k v 0 v (omega arith))
+-- four bytes
+pub little_four : (v : ℕ) → v < 4294967296 → v % 256 ∷ v / 256 % 256 ∷ v / 65536 % 256 ∷ v / 16777216 ∷ [] ≡ little_endian 4 v
+unfolding little_endian
+little_four v h = bytes (omega arith) (omega arith) (omega (arith, h))
+  where
+    bytes : {a b c : ℕ} → a ≡ v / 256 % 256 → b ≡ v / 256 / 256 % 256 → c ≡ v / 256 / 256 / 256 % 256
+        → v % 256 ∷ a ∷ b ∷ c ∷ [] ≡ v % 256 ∷ v / 256 % 256 ∷ v / 256 / 256 % 256 ∷ v / 256 / 256 / 256 % 256 ∷ []
+    bytes a b c = rw (a, b, c)
+
+-- eight bytes are the lower four and the upper four
+pub little_eight : (v : ℕ) → little_endian 4 (v % 4294967296) ++ little_endian 4 (v / 4294967296) ≡ little_endian 8 v
+unfolding little_endian
+little_eight v =
+    bytes (omega arith) (omega arith) (omega arith) (omega arith) (omega arith) (omega arith) (omega arith) (omega arith)
+  where
+    bytes : {a b c d e f g h a' b' c' d' e' f' g' h' : ℕ} → a ≡ a' → b ≡ b' → c ≡ c' → d ≡ d' → e ≡ e' → f ≡ f' → g ≡ g' → h ≡ h'
+        → a ∷ b ∷ c ∷ d ∷ e ∷ f ∷ g ∷ h ∷ [] ≡ a' ∷ b' ∷ c' ∷ d' ∷ e' ∷ f' ∷ g' ∷ h' ∷ []
+    bytes a b c d e f g h = cc
