@@ -41,7 +41,7 @@ pub fn plane_signs(size: Size, readings: &[f32], cut: Cut, k: usize, plane: &mut
     requires { Limits size × (length readings.now ≡ sample_count size) × (k < size.nz) × (length plane.old ≡ 1280) × Sound readings.now }
     ensures { plane.new ≡ over (plane_words size (greys_of readings.now) cut k) plane.old }
 {
-    signs::plane_signs(size, Readings { all: readings }, cut, k, plane);
+    signs::block_signs(size, Readings { all: readings }, cut, k, plane);
 }
 
 // The grey values of a window's readings.

@@ -33,7 +33,15 @@ impl<'a> Samples for &'a [u16] {
 }
 
 // The words of plane k, five to a row, at the front of a buffer for the largest plane.
-pub fn plane_signs<B: Samples>(size: Size, samples: B, cut: Cut, k: usize, plane: &mut [u64])
+pub fn plane_signs(size: Size, samples: &[u16], cut: Cut, k: usize, plane: &mut [u64])
+    requires { Limits size × (length samples.now ≡ sample_count size) × (k < size.nz) × (length plane.old ≡ 1280) }
+    ensures { plane.new ≡ over (plane_words size samples.now cut k) plane.old }
+{
+    block_signs(size, samples, cut, k, plane);
+}
+
+// The same of any block of samples.
+pub fn block_signs<B: Samples>(size: Size, samples: B, cut: Cut, k: usize, plane: &mut [u64])
     requires { Limits size × (length (B.greys samples) ≡ sample_count size) × (k < size.nz) × (length plane.old ≡ 1280) }
     ensures { plane.new ≡ over (plane_words size (B.greys samples) cut k) plane.old }
 {

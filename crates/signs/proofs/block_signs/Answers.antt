@@ -1,11 +1,11 @@
--- `plane_signs` meets its contract: the words of each row are put behind those of the rows before.
+-- `block_signs` meets its contract: the words of each row are put behind those of the rows before.
 -- Assumes nothing.
 use Rattle.std.proofs.Common.{List, ℕ, ap, ◌∙◌, arith}
 use Rattle.laws.specs.Below.{over}
 use Rattle.laws.proofs.Over.{over_none}
 use Rattle.signs.proofs.Planes.{plane_made}
 use Rattle.signs.proofs.RowSigns.{row_stored}
-use Rattle.signs.proofs.plane_signs.Goals as goal
+use Rattle.signs.proofs.block_signs.Goals as goal
 
 pub loop-j-init : goal.loop-j-init
 loop-j-init g c = over_none _ _
