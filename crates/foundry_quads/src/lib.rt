@@ -252,6 +252,9 @@ impl<'a> Keyed for Quads<'a> {
 
     ghost key = { λ s. key_at s.size s.words.now s.quads.now };
 
+    // One for each axis and vertex.
+    ghost keys = { λ s. 3 * vertex_total s.words.now };
+
     fn count(&self) -> usize {
         self.quads.len() / 4
     }

@@ -1,6 +1,6 @@
 -- A vertex and a range of cubes: its key is in the range exactly if its cube is, and all keys are in the ranges that hold all cubes.
 -- Assumes nothing.
-use Rattle.std.proofs.Common.{◌≡◌, ℕ, ◌+◌, ◌*◌, ◌-◌, ◌/◌, ◌≤◌, ◌<◌, true, List, None, ◌⊎◌, inl, inr, ap, ◌∙◌, arith, ltb-true}
+use Rattle.std.proofs.Common.{◌≡◌, ℕ, ◌+◌, ◌*◌, ◌-◌, ◌/◌, ◌≤◌, ◌<◌, true, false, List, None, ◌⊎◌, inl, inr, ap, ◌∙◌, arith, ltb-true}
 use Rattle.std.proofs.lemmas.Bool.{eqb-false}
 use lib.Ieee.{Float}
 use Rattle.laws.specs.Counting.{count}
@@ -24,21 +24,28 @@ outside c p r h d = go (lt_or_ge (4 * c + p) (262144 * r))
     go (inl l) = inl l
     go (inr g) = inr (omega (arith, d))
 
+-- those that are far from the range are outside of it
+pub far_outside : (n : Size) (s : List ℕ) (cut : Cut) (words : List ℕ) (r v end : ℕ) → ((i : ℕ) → i < end → placed n s cut words i ≡ true)
+    → ((i : ℕ) → v ≤ i → i < end → in_range r (cube_at words i) ≡ false) → FarFrom (vertex_key words n s cut) (span * r) v end
+far_outside n s cut words r v end p f i g l =
+    outside (cube_at words i) (place_in n s cut (cube_at words i) (word_at words i)) r (ltb-true _ 4 (p i l)) (eqb-false _ r (f i g l))
+
 module _ (n : Size) (s : List ℕ) (cut : Cut) (words : List ℕ) (offsets : List Float) where
   -- 64 vertices of which none is in the range
   pub far_from : (r v end : ℕ) → HoldsTo (looks_sound n s cut words offsets) end → end - v ≡ 64 → count (λ (k : ℕ). in_range r (cube_at words (v + k))) 64 ≡ 0
       → FarFrom (vertex_key words n s cut) (span * r) v end
-  far_from r v end h e z i g l =
-      outside (cube_at words i) (place_in n s cut (cube_at words i) (word_at words i)) r (ltb-true _ 4 (and_both (placed n s cut words i) _ (h i l)).0)
-      (eqb-false _ r (ap (λ (x : ℕ). in_range r (cube_at words x)) (there i v g) ∙ count_clear (λ (k : ℕ). in_range r (cube_at words (v + k))) 64 z (i - v) (omega arith)))
+  far_from r v end h e z =
+      far_outside n s cut words r v end (λ i l. (and_both (placed n s cut words i) _ (h i l)).0)
+      (λ i g l. ap (λ (x : ℕ). in_range r (cube_at words x)) (there i v g) ∙ count_clear (λ (k : ℕ). in_range r (cube_at words (v + k))) 64 z (i - v) (omega arith))
     where
       there : (i v : ℕ) → v ≤ i → i ≡ v + (i - v)
       there i v g = omega arith
 
+module _ (n : Size) (s : List ℕ) (cut : Cut) (words : List ℕ) where
   -- each key is below the ranges that hold all cubes
-  pub keys_below : (r : ℕ) → cube_count n ≤ 65536 * r → (v : ℕ) → looks_sound n s cut words offsets v ≡ true → vertex_key words n s cut v < span * r
+  pub keys_below : (r : ℕ) → cube_count n ≤ 65536 * r → (v : ℕ) → placed n s cut words v ≡ true → vertex_key words n s cut v < span * r
   keys_below r g v e =
-      let h = ltb-true _ 4 (and_both (placed n s cut words v) _ e).0 in
+      let h = ltb-true _ 4 e in
       below (vertex_key words n s cut v) (cube_count n) r (key_below n s cut words v (placed_cube n s cut (cube_at words v) (word_at words v) h) h) g
     where
       below : (k c r : ℕ) → k < 4 * c → c ≤ 65536 * r → k < span * r

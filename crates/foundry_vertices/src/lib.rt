@@ -6,6 +6,7 @@ ghost use Rattle.std.specs.Prelude.{◌≡◌, ℕ, ◌+◌, ◌*◌, ◌≤◌,
 ghost use Rattle.laws.specs.Bits.{bit};
 ghost use Rattle.laws.specs.Counting.{count};
 ghost use Rattle.laws.specs.Leading.{leading};
+ghost use Rattle.block.specs.Numbering.{cube_count};
 ghost use Rattle.block.specs.Steps.{Sampled};
 ghost use Rattle.foundry_rule.specs.Judged.{vertex_total};
 ghost use Rattle.foundry_rule.specs.Spots.{place_among, word_place, place_in, cube_at, vertex_key};
@@ -113,6 +114,9 @@ impl<'a> Keyed for Vertices<'a> {
     ghost sound = { λ s. looks_sound s.size s.samples.now s.cut s.words.now s.offsets.now };
 
     ghost key = { λ s. vertex_key s.words.now s.size s.samples.now s.cut };
+
+    // Four for each cube.
+    ghost keys = { λ s. 4 * cube_count s.size };
 
     fn count(&self) -> usize {
         self.words.len() / 2

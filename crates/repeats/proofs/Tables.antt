@@ -38,14 +38,14 @@ module _ (key : ℕ → ℕ) (b : ℕ) where
   -- ---- an entry whose key is not in the range
 
   -- v is such an entry
-  abbrev Outside : ℕ → Type 0
+  abbrev pub Outside : ℕ → Type 0
   Outside v = (key v < b) ⊎ (b + span ≤ key v)
 
   not_in : (v : ℕ) → Outside v → in_span b (key v) ≡ false
   not_in v (inl l) = rw (lt-leb b (key v) l)
   not_in v (inr g) = rw (le-leb b (key v) (omega arith), le-ltb (key v) (b + span) g)
 
-  fresh_outside : (v : ℕ) → Outside v → fresh_in key b v ≡ true
+  pub fresh_outside : (v : ℕ) → Outside v → fresh_in key b v ≡ true
   fresh_outside v o = rw (not_in v o)
 
   other : (v k : ℕ) → k < span → Outside v → eqb (b + k) (key v) ≡ false
@@ -55,7 +55,7 @@ module _ (key : ℕ → ℕ) (b : ℕ) where
       apart x e (inl l) = omega arith
       apart x e (inr g) = omega arith
 
-  table_passed : (v : ℕ) (table : List ℕ) → Table key b v table → Outside v → Table key b (v + 1) table
+  pub table_passed : (v : ℕ) (table : List ℕ) → Table key b v table → Outside v → Table key b (v + 1) table
   table_passed v table t o = record {
     long = t.long;
     says = λ k h. t.says k h ∙ sym (some_next (λ (u : ℕ). eqb (b + k) (key u)) v ∙ ap (λ (x : Bool). x || seen key (b + k) v) (other v k h o));
@@ -63,11 +63,11 @@ module _ (key : ℕ → ℕ) (b : ℕ) where
 
   -- ---- an entry whose key is the k-th of the range
 
-  fresh_inside : (v k : ℕ) (table : List ℕ) → Table key b v table → k < span → key v ≡ b + k → fresh_in key b v ≡ not (bit_at table k)
+  pub fresh_inside : (v k : ℕ) (table : List ℕ) → Table key b v table → k < span → key v ≡ b + k → fresh_in key b v ≡ not (bit_at table k)
   fresh_inside v k table t h e =
       rw (e, le-leb b (b + k) (omega arith), lt-ltb (b + k) (b + span) (omega arith)) (ap not (sym (t.says k h)))
 
-  table_marked : (v k : ℕ) (table table' : List ℕ) → Table key b v table → k < span → key v ≡ b + k → Marked k table table' → Table key b (v + 1) table'
+  pub table_marked : (v k : ℕ) (table table' : List ℕ) → Table key b v table → k < span → key v ≡ b + k → Marked k table table' → Table key b (v + 1) table'
   table_marked v k table table' t h e m = record {
     long = m.as_long ∙ t.long;
     says = λ j l.

@@ -9,6 +9,10 @@ use Rattle.foundry_rule.specs.Judged.{is_some}
 abbrev pub span : ℕ
 span = 262144
 
+-- as few ranges as hold so many keys
+abbrev pub ranges_of : ℕ → ℕ
+ranges_of keys = (keys + 262143) / span
+
 -- an entry before v has the key k
 abbrev pub seen : (ℕ → ℕ) → ℕ → ℕ → Bool
 seen key k v = is_some (λ (u : ℕ). eqb k (key u)) v

@@ -5,7 +5,7 @@
 ghost use Rattle.std.specs.Prelude.{◌≡◌, true, Bool, ℕ, ◌&&◌, ◌+◌, ◌*◌, ◌<◌, ◌≤◌, leb, length, IsTrue};
 ghost use Rattle.laws.specs.Leading.{leading};
 ghost use Rattle.laws.proofs.Leading.{HoldsTo};
-ghost use Rattle.repeats.specs.Fresh.{span, fresh, fresh_in, bit_at, Marked, Passed, KeyIf, PlaceIn, FarFrom};
+ghost use Rattle.repeats.specs.Fresh.{span, ranges_of, fresh, fresh_in, bit_at, Marked, Passed, KeyIf, PlaceIn, FarFrom};
 
 // The entries of a list, by their numbers. One that is sound by itself has a key.
 pub trait Keyed {
@@ -19,14 +19,18 @@ pub trait Keyed {
 
     ghost key: { Self → ℕ → ℕ };
 
+    // How many keys there may be.
+    ghost keys: { Self → ℕ };
+
     fn count(&self) -> usize
         requires { ready self.now }
         ensures { result ≡ count self.now };
 
-    // So many ranges hold the keys of all sound entries.
+    // As few ranges as hold so many keys, and so the keys of all sound entries.
     fn ranges(&self) -> u32
         requires { ready self.now }
-        ensures { (v : ℕ) → v < count self.now → sound self.now v ≡ true → key self.now v < span * result };
+        ensures value { result ≡ ranges_of (keys self.now) }
+        ensures keys_below { (v : ℕ) → v < count self.now → sound self.now v ≡ true → key self.now v < span * result };
 
     // The key of entry v, none where it is not sound.
     fn key(&self, v: usize) -> Option<u64>
@@ -90,9 +94,10 @@ fn run<T: Keyed>(entries: &T, r: u32, from: usize, end: usize, table: &mut [u64]
 }
 
 // The first entry before the limit whose key is in the r-th range and that repeats an earlier one; the limit where there is none. It asks for 64 at a time whether
-// they are far from the range.
+// they are far from the range. (No range past those that hold the keys is gone through.)
 fn pass<T: Keyed>(entries: &T, r: u32, limit: usize) -> usize
     requires ready { T.ready entries.now }
+    requires r_bound { r < ranges_of (T.keys entries.now) }
     requires limit_bound { limit ≤ T.count entries.now }
     requires limit_sound { HoldsTo (T.sound entries.now) limit }
     ensures { result ≡ leading (fresh_in (T.key entries.now) (span * r)) limit }
@@ -117,6 +122,7 @@ fn first_again<T: Keyed>(entries: &T, ranges: u32, m: usize) -> usize
     requires m_bound { m ≤ T.count entries.now }
     requires m_sound { HoldsTo (T.sound entries.now) m }
     requires m_below { (v : ℕ) → v < m → T.key entries.now v < span * ranges }
+    requires ranges_value { ranges ≡ ranges_of (T.keys entries.now) }
     ensures { result ≡ leading (fresh (T.key entries.now)) m }
 {
     let mut limit = m;

@@ -15,7 +15,7 @@ loop-v-preserved g c =
     record {
       sound = holds_more _ l.v l.invariant.sound e.0;
       rising = rw (c.still-rises.ensures, e.1) (rising_more _ l.v l.last l.rises l.invariant.rising);
-      last_bound = omega (arith, e.1, c.ranges-ranges.ensures l.v (omega (arith, c.count-count.ensures)) e.0);
+      last_bound = omega (arith, e.1, c.ranges-ranges.ensures.keys_below l.v (omega (arith, c.count-count.ensures)) e.0);
       m_value = l.invariant.m_value;
     }
 
