@@ -1,4 +1,4 @@
--- Signed machine integers: the product of two i32 with a u32 on top of it, and what a local's bits read back as.
+-- Signed machine integers: the difference of two small numbers, the product of two i32 with a u32 on top of it, and what a local's bits read back as.
 -- Assumes nothing.
 use mathlib.Core.Path.{◌≡◌}
 use mathlib.Core.Bool.{Bool, true, false, cond}
@@ -6,13 +6,22 @@ use Prim.Native.Nat.{ℕ, zero, suc, ◌+◌, ◌-◌, ◌*◌, ◌^◌, ◌≤�
 use native.Mathlib.Nat.{mul-le-mul}
 use native.Mathlib.Omega.{arith}
 use lib.Dec.{ltb}
-use lib.IntN.{ℤ, pos, negsuc, neg_ℤ, ◌+ℤ◌, ◌*ℤ◌}
+use lib.IntN.{ℤ, pos, negsuc, neg_ℤ, ◌+ℤ◌, ◌-ℤ◌, ◌*ℤ◌}
 use lib.Signed.{mag}
 use mir.Syntax.{Width, w32, w64}
 use mir.Val.{Fits, SFits, hbits, to_z, of_z}
 use mir.Facts.{to_z_pos, to_z-of_z}
 
--- ---- the size of a product
+-- ---- the size of a difference and of a product
+
+mag_cond : (c : Bool) (x y : ℤ) {H : ℕ} → mag x < H → mag y < H → mag (cond c x y) < H
+mag_cond true x y p q = p
+mag_cond false x y p q = q
+
+-- the difference of two numbers below H
+pub mag_diff : (a b : ℕ) {H : ℕ} → a < H → b < H → mag (pos a -ℤ pos b) < H
+mag_diff a zero {H} p q = omega arith
+mag_diff a (suc b) {H} p q = mag_cond (ltb a (suc b)) (negsuc (suc b - suc a)) (pos (a - suc b)) (omega arith) (omega arith)
 
 mag_neg : (n H : ℕ) → n ≤ H → mag (neg_ℤ (pos n)) ≤ H
 mag_neg zero H p = omega arith

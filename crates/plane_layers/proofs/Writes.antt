@@ -186,10 +186,10 @@ module _ {layer : Layer} {t : Marks} {plane work₀ w₀ : List ℕ} {o₀ : Lis
     ea : at ≡ table_at layer.size j
     ea = ap₂ (λ (x y : ℕ). x * y + 2 * (x * j)) ex ey
 
-    in_work : at + p ≤ length work
+    pub in_work : at + p ≤ length work
     in_work = omega (arith, ea, table_in layer.size j hj, r.room, st.kept.work_long)
 
-    in_half : h + p ≤ 1024
+    pub in_half : h + p ≤ 1024
     in_half = omega (arith, r.limits.x_high)
 
     -- the code's numbers fit

@@ -44,6 +44,7 @@ pub fn quiet(row: Row, a: &[u64], b: &[u64]) -> bool
     ensures { result ≡ quiet_row a.now b.now row.nx row.j }
 {
     let cubes = row.nx - 1;
+    // (No `div_ceil`, by which this took longer.)
     (0..(cubes + 63) / 64).all(|w| {
         let e = planes::eight(a, b, 5 * row.j + w);
         planes::active(e) & planes::limit(cubes, w) == 0
